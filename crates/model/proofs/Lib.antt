@@ -1,0 +1,3 @@
+pub mod Basics
+pub mod Chains
+pub mod Examples

@@ -1,0 +1,113 @@
+-- The witness against a table and a recording: the rules for its rows, the checker's answer, and which witnesses are permitted.
+use Prim.Native.Nat.{ℕ, zero, suc, _+_, _-_, _≤_}
+use mathlib.Core.Path.{_≡_}
+use mathlib.Core.List.{List, [], _∷_}
+use mathlib.Core.Bool.{Bool, true, false, cond, not, _&&_}
+use mathlib.Core.Option.{Option, none, some, Option·map}
+use lib.ListN.{length}
+use lib.Dec.{leb, ltb, eqb}
+use Rattle.model.specs.First.{firstOf}
+use Rattle.model.specs.Monitor.{Monitor, Config, start, wait, fires, toUnit, airtime}
+use Rattle.model.specs.Trace.{Packet}
+use Rattle.model.specs.Table.{monitorAt}
+use Rattle.model.specs.Recording.{recordingAnswer, packetsAt}
+use Rattle.model.specs.Witness.{Row, kept, isRemoved, inPlace, rowsAt, badRow, witnessFrame, witnessLimit}
+use Rattle.model.specs.declared.Reading.{Reading}
+use Rattle.model.specs.declared.Reading.the-variants.{Sound, Unsound}
+use Rattle.model.specs.declared.Checking.{Checking}
+use Rattle.model.specs.declared.Checking.the-variants.{Permitted, Unchecked}
+
+-- what the rows so far have come to
+pub record Progress : Type 0 where
+  -- the last row
+  pub before : Option Row
+  -- the recorded rows that are not accounted for, their times rising
+  pub left : List Packet
+  -- when the monitor last fired, and where it was then
+  pub now : ℕ
+  pub config : Config
+  -- the first time at which the air is free
+  pub free : ℕ
+
+abbrev pub begin : List Packet → Progress
+begin recording = record { before = none; left = recording; now = 0; config = start; free = 0 }
+
+-- "no recorded row of an earlier time is still unaccounted for"
+abbrev pub noneBefore : List Packet → ℕ → Bool
+noneBefore [] t = true
+noneBefore (p ∷ ps) t = leb t (p .time)
+
+-- "a kept or removed row equals the next unaccounted one"
+abbrev pub isNext : List Packet → Row → Bool
+isNext [] r = false
+isNext (p ∷ ps) r = eqb (p .time) (r .time) && eqb (p .kind) (r .kind)
+
+-- "an added row does not have the time of an unaccounted one"
+abbrev pub noneAt : List Packet → ℕ → Bool
+noneAt [] t = true
+noneAt (p ∷ ps) t = not (eqb (p .time) t)
+
+abbrev pub others : List Packet → List Packet
+others [] = []
+others (p ∷ ps) = ps
+
+-- "a kept or added row finds the air free, and its transition has its kind and fires"
+unfoldable pub sends : Monitor → Progress → Row → List Packet → Option Progress
+sends m p r left =
+    cond (leb (p .free) (r .time))
+    (Option·map
+    (λ c. record { before = some r; left = left; now = r .time; config = c; free = r .time + airtime m (r .kind) + 1 })
+    (fires m (r .transition) (r .kind) (wait (r .time - p .now) (p .config))))
+    none
+
+-- "a removed row is to the unit". "A removed packet takes no air"
+unfoldable pub removes : Monitor → Progress → Row → Option Progress
+removes m p r =
+    cond (isNext (p .left) r && toUnit m (r .kind))
+    (some (record { before = some r; left = others (p .left); now = p .now; config = p .config; free = p .free }))
+    none
+
+unfoldable pub keeps : Monitor → Progress → Row → Option Progress
+keeps m p r = cond (isNext (p .left) r) (sends m p r (others (p .left))) none
+
+unfoldable pub adds : Monitor → Progress → Row → Option Progress
+adds m p r = cond (noneAt (p .left) (r .time)) (sends m p r (p .left)) none
+
+-- the next row: its form, and the rule for its mark. None where a rule is broken
+unfoldable pub account : Monitor → Progress → Row → Option Progress
+account m p r =
+    cond (inPlace (p .before) r && noneBefore (p .left) (r .time))
+    (cond (eqb (r .mark) kept) (keeps m p r) (cond (isRemoved r) (removes m p r) (adds m p r)))
+    none
+
+-- "first witness row that breaks a rule above; none does, but recorded rows are unaccounted for at the end": the row's number; the row count
+unfoldable pub broken : Monitor → Progress → ℕ → List Row → Option ℕ
+broken m p i [] = elim (p .left) [ [] ↦ none | q ∷ qs ↦ some i ]
+broken m p i (r ∷ rs) = elim (account m p r) [ none ↦ some i | some q ↦ broken m q (suc i) rs ]
+
+-- "A witness is permitted if, against the table and the recording, none of 40 to 43 applies"
+pub record Permits (m : Monitor) (recording : List Packet) (rows : List Row) : Type 0 where
+  pub fits : length rows ≤ witnessLimit
+  pub unbroken : broken m (begin recording) 0 rows ≡ none
+
+-- the checker's answer: table, recording, then 40 to 43
+
+unfoldable pub changes : List Row → ℕ
+changes [] = 0
+changes (r ∷ rs) = cond (eqb (r .mark) kept) 0 1 + changes rs
+
+unfoldable pub checkRefusal : List ℕ → List ℕ → List ℕ → Reading
+checkRefusal table recording witness =
+    firstOf
+    (recordingAnswer table recording
+    ∷ witnessFrame witness
+    ∷ badRow (broken (monitorAt table) (begin (packetsAt recording)) 0 (rowsAt witness))
+    ∷ [])
+
+-- "on acceptance answers 0 with the number of removed and added rows, and the number of rows"
+abbrev pub checked : Reading → List Row → Checking
+checked Sound rows = Permitted (changes rows) (length rows)
+checked (Unsound r) rows = Unchecked r
+
+unfoldable pub checkAnswer : List ℕ → List ℕ → List ℕ → Checking
+checkAnswer table recording witness = checked (checkRefusal table recording witness) (rowsAt witness)

@@ -1,0 +1,242 @@
+-- The table: which bytes are sound, their parts, the bytes of parts, what writing gives, and the monitor that a table describes.
+use Prim.Native.Nat.{ℕ, zero, suc, _+_, _-_, _*_, _/_, _%_, _^_}
+use mathlib.Core.List.{List, [], _∷_, _++_}
+use mathlib.Core.Bool.{Bool, true, false, cond, not, _&&_}
+use lib.ListN.{length, getD, take, drop, replicate}
+use lib.Dec.{leb, ltb, eqb}
+use mathlib.Core.Path.{_≡_}
+use Rattle.model.specs.Bytes.{byteAt, wordAt, wordBytes, tab, joined, padded}
+use Rattle.model.specs.First.{unless, firstOf, isSound}
+use Rattle.model.specs.Guard.{Guard, guardAt, endsAt, guardOf}
+use Rattle.model.specs.Monitor.{Monitor, Transition}
+use Rattle.model.specs.Room.{Lent, write}
+use Rattle.model.specs.Size.{size, sizeLimit}
+use Rattle.model.specs.declared.TableParts.{TableParts}
+use Rattle.model.specs.declared.TableReading.{TableReading}
+use Rattle.model.specs.declared.Reading.{Reading}
+use Rattle.model.specs.declared.Reading.the-variants.{Sound}
+use Rattle.model.specs.declared.Refusal.the-variants.{TableFrame, TableVersion, TableCount, TableLength, TableField, TableGuard, TableSize}
+
+-- the monitor of a table's parts
+
+unfoldable pub guardIn : TableParts → ℕ → Guard
+guardIn t j = guardOf (guardAt 32 (t .variables) (t .clocks) (t .guards) (32 * j) (32 * j + getD (t .lengths) j 0))
+
+unfoldable pub transitionIn : TableParts → ℕ → Transition
+transitionIn t j =
+    record {
+      source = getD (t .sources) j 0;
+      target = getD (t .targets) j 0;
+      trigger = getD (t .triggers) j 0;
+      sets = getD (t .sets) j 0;
+      clears = getD (t .clears) j 0;
+      resets = getD (t .resets) j 0;
+      guard = guardIn t j;
+    }
+
+unfoldable pub monitorOf : TableParts → Monitor
+monitorOf t =
+    record {
+      states = t .states;
+      variables = t .variables;
+      clocks = t .clocks;
+      inbound = tab (λ k. eqb (getD (t .directions) k 0) 1) (t .kinds);
+      airtimes = tab (λ k. getD (t .airtimes) k 0) (t .kinds);
+      transitions = tab (transitionIn t) (t .transitions);
+    }
+
+-- reading: the counts, one byte each, at offsets 3 to 7
+
+abbrev pub statesAt : List ℕ → ℕ
+statesAt b = byteAt b 3
+
+abbrev pub variablesAt : List ℕ → ℕ
+variablesAt b = byteAt b 4
+
+abbrev pub clocksAt : List ℕ → ℕ
+clocksAt b = byteAt b 5
+
+abbrev pub kindsAt : List ℕ → ℕ
+kindsAt b = byteAt b 6
+
+abbrev pub transitionsAt : List ℕ → ℕ
+transitionsAt b = byteAt b 7
+
+-- "number of states (1 to 16), variables (0 to 4), clocks (0 to 2), kinds (1 to 32), transitions (0 to 64)"; "Counts go front to back"
+unfoldable pub tableCounts : List ℕ → Reading
+tableCounts b =
+    firstOf
+    (unless (leb 1 (statesAt b)) (TableCount 3)
+    ∷ unless (leb (statesAt b) 16) (TableCount 3)
+    ∷ unless (leb (variablesAt b) 4) (TableCount 4)
+    ∷ unless (leb (clocksAt b) 2) (TableCount 5)
+    ∷ unless (leb 1 (kindsAt b)) (TableCount 6)
+    ∷ unless (leb (kindsAt b) 32) (TableCount 6)
+    ∷ unless (leb (transitionsAt b) 64) (TableCount 7)
+    ∷ [])
+
+-- "per kind: direction (0 from the unit, 1 to it) and airtime (0 to 15)"
+unfoldable pub kindRecord : List ℕ → ℕ → Reading
+kindRecord b at =
+    firstOf
+    (unless (leb (at + 2) (length b)) (TableLength at)
+    ∷ unless (leb (byteAt b at) 1) (TableField at)
+    ∷ unless (leb (byteAt b (at + 1)) 15) (TableField at)
+    ∷ [])
+
+-- the n kind records from an offset on
+unfoldable pub kindRecords : ℕ → List ℕ → ℕ → Reading
+kindRecords zero b at = Sound
+kindRecords (suc n) b at = firstOf (kindRecord b at ∷ kindRecords n b (at + 2) ∷ [])
+
+-- "no variable may be both set and cleared", for the first n variables
+unfoldable pub apart : (n set clear : ℕ) → Bool
+apart zero s c = true
+apart (suc n) s c = not (eqb (s % 2) 1 && eqb (c % 2) 1) && apart n (s / 2) (c / 2)
+
+-- "per transition: from, to, kind, set mask, clear mask, reset mask, guard length (1 to 32), guard", at the offsets from at on
+abbrev pub guardLengthAt : List ℕ → ℕ → ℕ
+guardLengthAt b at = byteAt b (at + 6)
+
+-- "a bit for an absent variable or clock is out of range"
+unfoldable pub transitionFields : List ℕ → ℕ → Reading
+transitionFields b at =
+    firstOf
+    (unless (ltb (byteAt b at) (statesAt b)) (TableField at)
+    ∷ unless (ltb (byteAt b (at + 1)) (statesAt b)) (TableField at)
+    ∷ unless (ltb (byteAt b (at + 2)) (kindsAt b)) (TableField at)
+    ∷ unless (ltb (byteAt b (at + 3)) (2 ^ variablesAt b)) (TableField at)
+    ∷ unless (ltb (byteAt b (at + 4)) (2 ^ variablesAt b)) (TableField at)
+    ∷ unless (ltb (byteAt b (at + 5)) (2 ^ clocksAt b)) (TableField at)
+    ∷ unless (apart (variablesAt b) (byteAt b (at + 3)) (byteAt b (at + 4))) (TableField at)
+    ∷ [])
+
+-- "each: seven or two bytes present (13), fields (14), guard length (15), guard present (13), guard form (15)"
+unfoldable pub transitionRecord : List ℕ → ℕ → Reading
+transitionRecord b at =
+    firstOf
+    (unless (leb (at + 7) (length b)) (TableLength at)
+    ∷ transitionFields b at
+    ∷ unless (leb 1 (guardLengthAt b at)) (TableGuard at)
+    ∷ unless (leb (guardLengthAt b at) 32) (TableGuard at)
+    ∷ unless (leb (at + 7 + guardLengthAt b at) (length b)) (TableLength at)
+    ∷ unless (endsAt (guardAt 32 (variablesAt b) (clocksAt b) b (at + 7) (at + 7 + guardLengthAt b at)) (at + 7 + guardLengthAt b at)) (TableGuard at)
+    ∷ [])
+
+-- the n transition records from an offset on, and no byte behind them
+unfoldable pub transitionRecords : ℕ → List ℕ → ℕ → Reading
+transitionRecords zero b at = unless (eqb at (length b)) (TableLength at)
+transitionRecords (suc n) b at = firstOf (transitionRecord b at ∷ transitionRecords n b (at + 7 + guardLengthAt b at) ∷ [])
+
+-- the offset of kind record i, and of transition record j
+abbrev pub kindAt : ℕ → ℕ
+kindAt i = 8 + 2 * i
+
+unfoldable pub transitionAt : List ℕ → ℕ → ℕ
+transitionAt b zero = kindAt (kindsAt b)
+transitionAt b (suc j) = transitionAt b j + 7 + guardLengthAt b (transitionAt b j)
+
+-- the parts of sound bytes
+
+abbrev pub kindColumn : List ℕ → ℕ → List ℕ
+kindColumn b field = padded 32 (tab (λ i. byteAt b (kindAt i + field)) (kindsAt b))
+
+abbrev pub transitionColumn : List ℕ → ℕ → List ℕ
+transitionColumn b field = padded 64 (tab (λ j. byteAt b (transitionAt b j + field)) (transitionsAt b))
+
+-- guard j in its 32 places
+unfoldable pub guardPlace : List ℕ → ℕ → List ℕ
+guardPlace b j = padded 32 (take (guardLengthAt b (transitionAt b j)) (drop (transitionAt b j + 7) b))
+
+unfoldable pub tableParts : List ℕ → TableParts
+tableParts b =
+    record {
+      states = statesAt b;
+      variables = variablesAt b;
+      clocks = clocksAt b;
+      kinds = kindsAt b;
+      transitions = transitionsAt b;
+      directions = kindColumn b 0;
+      airtimes = kindColumn b 1;
+      sources = transitionColumn b 0;
+      targets = transitionColumn b 1;
+      triggers = transitionColumn b 2;
+      sets = transitionColumn b 3;
+      clears = transitionColumn b 4;
+      resets = transitionColumn b 5;
+      lengths = transitionColumn b 6;
+      guards = padded 2048 (joined (guardPlace b) (transitionsAt b));
+    }
+
+-- "in a refused reading every number of the parts is 0"
+unfoldable pub noTable : TableParts
+noTable =
+    record {
+      states = 0;
+      variables = 0;
+      clocks = 0;
+      kinds = 0;
+      transitions = 0;
+      directions = replicate 32 0;
+      airtimes = replicate 32 0;
+      sources = replicate 64 0;
+      targets = replicate 64 0;
+      triggers = replicate 64 0;
+      sets = replicate 64 0;
+      clears = replicate 64 0;
+      resets = replicate 64 0;
+      lengths = replicate 64 0;
+      guards = replicate 2048 0;
+    }
+
+-- the numbers 10 to 16, in their order
+unfoldable pub tableAnswer : List ℕ → Reading
+tableAnswer b =
+    firstOf
+    (unless (leb 8 (length b)) TableFrame
+    ∷ unless (eqb (wordAt b 0 + 2) (length b)) TableFrame
+    ∷ unless (eqb (byteAt b 2) 1) TableVersion
+    ∷ tableCounts b
+    ∷ kindRecords (kindsAt b) b (kindAt 0)
+    ∷ transitionRecords (transitionsAt b) b (kindAt (kindsAt b))
+    ∷ unless (leb (size (monitorOf (tableParts b))) sizeLimit) TableSize
+    ∷ [])
+
+unfoldable pub readTable : List ℕ → TableReading
+readTable b = record { answer = tableAnswer b; parts = cond (isSound (tableAnswer b)) (tableParts b) noTable }
+
+-- "A table is sound if no number from 10 to 19 applies"
+abbrev pub SoundTable : List ℕ → Type 0
+SoundTable b = tableAnswer b ≡ Sound
+
+-- the monitor that a table describes
+abbrev pub monitorAt : List ℕ → Monitor
+monitorAt b = monitorOf (tableParts b)
+
+-- the bytes of parts
+
+abbrev pub kindBytes : TableParts → ℕ → List ℕ
+kindBytes t i = getD (t .directions) i 0 ∷ getD (t .airtimes) i 0 ∷ []
+
+abbrev pub transitionBytes : TableParts → ℕ → List ℕ
+transitionBytes t j =
+    (getD (t .sources) j 0
+    ∷ getD (t .targets) j 0
+    ∷ getD (t .triggers) j 0
+    ∷ getD (t .sets) j 0
+    ∷ getD (t .clears) j 0
+    ∷ getD (t .resets) j 0
+    ∷ getD (t .lengths) j 0
+    ∷ [])
+    ++ take (getD (t .lengths) j 0) (take 32 (drop (32 * j) (t .guards)))
+
+unfoldable pub tableBody : TableParts → List ℕ
+tableBody t =
+    (1 ∷ t .states ∷ t .variables ∷ t .clocks ∷ t .kinds ∷ t .transitions ∷ []) ++ joined (kindBytes t) (t .kinds) ++ joined (transitionBytes t) (t .transitions)
+
+unfoldable pub tableBytes : TableParts → List ℕ
+tableBytes t = wordBytes (length (tableBody t)) ++ tableBody t
+
+-- writing: "the numbers that reading the same bytes would give". A count outside its limits is 12 there, and a guard length outside its limits 15 in its place
+unfoldable pub writeTable : TableParts → List ℕ → Lent
+writeTable t room = write (tableAnswer (tableBytes t)) (tableBytes t) room

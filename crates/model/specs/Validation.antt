@@ -1,0 +1,127 @@
+-- Validation: the verdict, and what scratch and room hold afterwards, for any bytes and any lengths.
+use Prim.Native.Nat.{ℕ, zero, suc, _+_, _*_}
+use mathlib.Core.List.{List, [], _∷_, _++_}
+use mathlib.Core.Bool.{Bool, true, false, cond}
+use mathlib.Core.Option.{Option, none, some}
+use lib.ListN.{length, drop, replicate}
+use lib.Dec.{leb, ltb}
+use Rattle.model.specs.First.{unless, firstOf}
+use Rattle.model.specs.Room.{over}
+use Rattle.model.specs.Monitor.{Monitor}
+use Rattle.model.specs.Trace.{Packet}
+use Rattle.model.specs.Size.{size, rowBytes}
+use Rattle.model.specs.Table.{monitorAt}
+use Rattle.model.specs.Recording.{recordingAnswer, packetsAt, endOf}
+use Rattle.model.specs.Witness.{Row, kept, removed, added, noTransition, witnessBytes}
+use Rattle.model.specs.Situation.{Move, keep, rest, add, moveOf, moveLimit, recordedAt, triggerOf, stepNumber, firstNumber}
+use Rattle.model.specs.Layers as L
+use Rattle.model.specs.declared.Reading.{Reading}
+use Rattle.model.specs.declared.Reading.the-variants.{Sound, Unsound}
+use Rattle.model.specs.declared.Verdict.{Verdict}
+use Rattle.model.specs.declared.Verdict.the-variants.{Accepted, Rejected, Exhausted, Refused}
+use Rattle.model.specs.declared.Refusal.the-variants.{Scratch, WitnessRoom}
+
+-- the rows of moves
+
+abbrev pub keptRow : ℕ → Option ℕ → ℕ → List Row
+keptRow t none j = []
+keptRow t (some k) j = record { mark = kept; time = t; kind = k; transition = j } ∷ []
+
+abbrev pub removedRow : ℕ → Option ℕ → List Row
+removedRow t none = []
+removedRow t (some k) = record { mark = removed; time = t; kind = k; transition = noTransition } ∷ []
+
+abbrev pub addedRow : ℕ → Option ℕ → ℕ → List Row
+addedRow t none j = []
+addedRow t (some k) j = record { mark = added; time = t; kind = k; transition = j } ∷ []
+
+-- what one move at instant t, with a row recorded there or not, comes to
+unfoldable pub rowsBy : Monitor → Option ℕ → ℕ → Move → List Row
+rowsBy m recorded t (keep j) = keptRow t recorded j
+rowsBy m recorded t rest = removedRow t recorded
+rowsBy m recorded t (add j) = removedRow t recorded ++ addedRow t (triggerOf m j) j
+
+-- the rows of a list of moves, the first at instant t
+unfoldable pub rowsOf : Monitor → List Packet → ℕ → List ℕ → List Row
+rowsOf m recording t [] = []
+rowsOf m recording t (k ∷ ks) = rowsBy m (recordedAt recording t) t (moveOf k) ++ rowsOf m recording (suc t) ks
+
+-- the sets of document 01 for a monitor and a recording
+
+abbrev pub possibleAfter : Monitor → List Packet → ℕ → List Bool
+possibleAfter m recording t = L.layer (size m) moveLimit (stepNumber m recording) (firstNumber m) t
+
+abbrev pub lastOf : Monitor → List Packet → ℕ
+lastOf m recording = L.lastInstant (size m) moveLimit (stepNumber m recording) (firstNumber m) (endOf recording)
+
+abbrev pub totalOf : Monitor → List Packet → ℕ → ℕ
+totalOf m recording t = L.total (size m) moveLimit (stepNumber m recording) (firstNumber m) t
+
+abbrev pub costOf : Monitor → List Packet → ℕ
+costOf m recording = L.cost (size m) moveLimit (stepNumber m recording) (firstNumber m) (endOf recording)
+
+abbrev pub passingOf : Monitor → List Packet → ℕ → ℕ
+passingOf m recording budget = L.passing (size m) moveLimit (stepNumber m recording) (firstNumber m) (endOf recording) budget
+
+abbrev pub movesOf : Monitor → List Packet → List ℕ
+movesOf m recording = L.leastMoves (size m) moveLimit (stepNumber m recording) (firstNumber m) (endOf recording)
+
+-- the witness of the least moves, which is the preferred one
+unfoldable pub preferred : Monitor → List Packet → List Row
+preferred m recording = rowsOf m recording 1 (movesOf m recording)
+
+-- 0, 1 and 2
+unfoldable pub verdict : Monitor → List Packet → ℕ → Verdict
+verdict m recording budget =
+    elim (ltb budget (costOf m recording)) [
+      | true ↦ Exhausted budget (passingOf m recording budget)
+      | false ↦
+          elim (L.isEmpty (possibleAfter m recording (lastOf m recording))) [
+            | true ↦ Rejected (costOf m recording) (lastOf m recording)
+            | false ↦ Accepted (costOf m recording) (length (preferred m recording))
+          ]
+    ]
+
+-- "scratch below (T+1) x S", "witness room below 5 + 5(T+n)"
+
+abbrev pub scratchWanted : List ℕ → List ℕ → ℕ
+scratchWanted table recording = (endOf (packetsAt recording) + 1) * rowBytes (size (monitorAt table))
+
+abbrev pub roomWanted : List ℕ → ℕ
+roomWanted recording = 5 + 5 * (endOf (packetsAt recording) + length (packetsAt recording))
+
+-- table, recording, 30, 31
+unfoldable pub refusal : (table recording : List ℕ) → (scratchLength roomLength : ℕ) → Reading
+refusal table recording scratchLength roomLength =
+    firstOf
+    (recordingAnswer table recording
+    ∷ unless (leb (scratchWanted table recording) scratchLength) (Scratch (scratchWanted table recording))
+    ∷ unless (leb (roomWanted recording) roomLength) (WitnessRoom (roomWanted recording))
+    ∷ [])
+
+unfoldable pub validation : (table recording : List ℕ) → (budget scratchLength roomLength : ℕ) → Verdict
+validation table recording budget scratchLength roomLength =
+    elim (refusal table recording scratchLength roomLength)
+    [ Sound ↦ verdict (monitorAt table) (packetsAt recording) budget | Unsound r ↦ Refused r ]
+
+-- "After 0, 1 or 2 the wanted part of the scratch is zero and the rest untouched"; "After a refusal every lent byte is untouched"
+abbrev pub scratchBy : Verdict → ℕ → List ℕ → List ℕ
+scratchBy (Accepted c r) wanted scratch = replicate wanted 0 ++ drop wanted scratch
+scratchBy (Rejected c i) wanted scratch = replicate wanted 0 ++ drop wanted scratch
+scratchBy (Exhausted b i) wanted scratch = replicate wanted 0 ++ drop wanted scratch
+scratchBy (Refused r) wanted scratch = scratch
+
+-- "After 0 the witness stands at the start of its room, the rest untouched; after 1 and 2 that room is untouched"
+abbrev pub roomBy : Verdict → List ℕ → List ℕ → List ℕ
+roomBy (Accepted c r) witness room = over witness room
+roomBy (Rejected c i) witness room = room
+roomBy (Exhausted b i) witness room = room
+roomBy (Refused r) witness room = room
+
+unfoldable pub scratchAfter : (table recording : List ℕ) → (budget : ℕ) → (scratch room : List ℕ) → List ℕ
+scratchAfter table recording budget scratch room =
+    scratchBy (validation table recording budget (length scratch) (length room)) (scratchWanted table recording) scratch
+
+unfoldable pub roomAfter : (table recording : List ℕ) → (budget : ℕ) → (scratch room : List ℕ) → List ℕ
+roomAfter table recording budget scratch room =
+    roomBy (validation table recording budget (length scratch) (length room)) (witnessBytes (preferred (monitorAt table) (packetsAt recording))) room
