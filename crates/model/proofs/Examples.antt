@@ -1,9 +1,11 @@
--- The desk's small monitor and its recordings P1 to P12 (document 01), from the bytes of the page through the whole definition of validation.
-use Prim.Native.Nat.{ℕ, zero, suc, _+_}
+-- The desk's small monitor and its recordings P1 to P12 (document 01), from the bytes of the page through the whole definition of validation:
+-- the answer's three values, and every lent byte. Scratch and room are lent dirty.
+use Prim.Native.Nat.{ℕ}
 use mathlib.Core.Path.{_≡_, refl}
 use mathlib.Core.List.{List, [], _∷_, _++_, map}
-use mathlib.Core.Bool.{true, false}
-use lib.ListN.{length}
+use mathlib.Core.Bool.{Bool}
+use mathlib.Core.Option.{bind}
+use lib.ListN.{length, drop, replicate}
 use Rattle.model.specs.Bytes.{tab, joined, padded}
 use Rattle.model.specs.Guard.{holds, largest, leafAt, guardAt}
 use Rattle.model.specs.Monitor.{changed, reset, fires}
@@ -13,28 +15,130 @@ use Rattle.model.specs.Recording.{clearOfBefore, recordedRow, recordedRo
 use Rattle.model.specs.Situation.{capped, sent, moved, stepBy, recordedAt, moveOf, number, situationOf, stepNumber}
 use Rattle.model.specs.Layers.{count, firstFrom, spread, image, layer, total, lastInstant, cost, passing, leads, live, walk, leastMoves}
 use Rattle.model.specs.Numbers.{Values, values, verdictValues}
-use Rattle.model.specs.Witness.{rowsBytes, witnessBytes}
-use Rattle.model.specs.Validation.{rowsBy, rowsOf, preferred, verdict, refusal, validation}
+use Rattle.model.specs.Witness.{Row, rowsBytes, witnessBytes}
+use Rattle.model.specs.Validation.{rowsBy, rowsOf, preferred, verdict, refusal, validation, scratchAfter, roomAfter, possibleAfter}
 use Rattle.model.specs.Desk.{digits, rowLines, verdictLines, judgedLines, tableLength, deskLines}
-use mathlib.Core.Option.{bind}
 
-table : List ℕ
-table = 0x00 ∷ 0x42 ∷ 0x01 ∷ 0x03 ∷ 0x00 ∷ 0x01 ∷ 0x03 ∷ 0x05 ∷ 0x00 ∷ 0x01 ∷ 0x00 ∷ 0x01 ∷ 0x01 ∷ 0x00 ∷ 0x00 ∷ 0x01 ∷ 0x00 ∷ 0x00 ∷ 0x00 ∷ 0x01 ∷ 0x01 ∷ 0x00 ∷ 0x01 ∷ 0x00 ∷ 0x02 ∷ 0x00 ∷ 0x00 ∷ 0x00 ∷ 0x03 ∷ 0x01 ∷ 0x00 ∷ 0x03 ∷ 0x01 ∷ 0x02 ∷ 0x01 ∷ 0x00 ∷ 0x00 ∷ 0x01 ∷ 0x08 ∷ 0x05 ∷ 0x04 ∷ 0x01 ∷ 0x00 ∷ 0x03 ∷ 0x01 ∷ 0x00 ∷ 0x06 ∷ 0x02 ∷ 0x00 ∷ 0x02 ∷ 0x00 ∷ 0x00 ∷ 0x00 ∷ 0x03 ∷ 0x01 ∷ 0x00 ∷ 0x03 ∷ 0x02 ∷ 0x01 ∷ 0x00 ∷ 0x00 ∷ 0x00 ∷ 0x01 ∷ 0x04 ∷ 0x04 ∷ 0x01 ∷ 0x00 ∷ 0x03 ∷ []
+-- what a run leaves: its values, the scratch and the room
+pub record Run : Type 0 where
+  pub answer : Values
+  pub scratch : List ℕ
+  pub room : List ℕ
 
-p5 : List ℕ
+dirtyScratch : List ℕ
+dirtyScratch = replicate 100 7
+
+dirtyRoom : List ℕ
+dirtyRoom = replicate 90 9
+
+unfoldable pub run : (table recording : List ℕ) → ℕ → Run
+unfolding dirtyScratch dirtyRoom tab joined padded holds largest leafAt guardAt changed reset fires largestIn greatest cap size guardIn transitionIn monitorOf tableCounts kindRecord kindRecords apart transitionFields transitionRecord transitionRecords transitionAt guardPlace tableParts tableAnswer clearOfBefore recordedRow recordedRows recordingAnswer recordingParts packetsOf endOf capped sent moved stepBy recordedAt moveOf number situationOf stepNumber count firstFrom spread image layer total lastInstant cost passing leads live walk leastMoves rowsBy rowsOf preferred verdict refusal validation bind rowsBytes witnessBytes scratchAfter roomAfter
+run table recording budget =
+    record
+    { answer = verdictValues (validation table recording budget (length dirtyScratch) (length dirtyRoom))
+    ; scratch = scratchAfter table recording budget dirtyScratch dirtyRoom
+    ; room = roomAfter table recording budget dirtyScratch dirtyRoom
+    }
+
+-- a run that answers 0, 1 or 2: so many bytes of the scratch are zero, and these stand at the start of the room
+judged : Values → ℕ → List ℕ → Run
+unfolding dirtyScratch dirtyRoom
+judged answer zeros witness =
+    record { answer = answer; scratch = replicate zeros 0 ++ drop zeros dirtyScratch; room = witness ++ drop (length witness) dirtyRoom }
+
+refused : Values → Run
+unfolding dirtyScratch dirtyRoom
+refused answer = record { answer = answer; scratch = dirtyScratch; room = dirtyRoom }
+
+pub table : List ℕ
+table =
+    0x00 ∷ 0x42 ∷ 0x01 ∷ 0x03 ∷ 0x00 ∷ 0x01 ∷ 0x03 ∷ 0x05 ∷ 0x00 ∷ 0x01 ∷ 0x00 ∷ 0x01 ∷ 0x01 ∷ 0x00 ∷ 0x00 ∷ 0x01 ∷ 0x00
+    ∷ 0x00 ∷ 0x00 ∷ 0x01 ∷ 0x01 ∷ 0x00 ∷ 0x01 ∷ 0x00 ∷ 0x02 ∷ 0x00 ∷ 0x00 ∷ 0x00 ∷ 0x03 ∷ 0x01 ∷ 0x00 ∷ 0x03 ∷ 0x01 ∷ 0x02
+    ∷ 0x01 ∷ 0x00 ∷ 0x00 ∷ 0x01 ∷ 0x08 ∷ 0x05 ∷ 0x04 ∷ 0x01 ∷ 0x00 ∷ 0x03 ∷ 0x01 ∷ 0x00 ∷ 0x06 ∷ 0x02 ∷ 0x00 ∷ 0x02 ∷ 0x00
+    ∷ 0x00 ∷ 0x00 ∷ 0x03 ∷ 0x01 ∷ 0x00 ∷ 0x03 ∷ 0x02 ∷ 0x01 ∷ 0x00 ∷ 0x00 ∷ 0x00 ∷ 0x01 ∷ 0x04 ∷ 0x04 ∷ 0x01 ∷ 0x00 ∷ 0x03
+    ∷ []
+
+-- a recording of one, two or three rows, each a time below 256 and a kind: 0 DATA, 1 RETRY, 2 ACK
+
+one : (t k : ℕ) → List ℕ
+one t k = 0 ∷ 6 ∷ 1 ∷ 0 ∷ 1 ∷ 0 ∷ t ∷ k ∷ []
+
+two : (t k u l : ℕ) → List ℕ
+two t k u l = 0 ∷ 9 ∷ 1 ∷ 0 ∷ 2 ∷ 0 ∷ t ∷ k ∷ 0 ∷ u ∷ l ∷ []
+
+pub p5 : List ℕ
 p5 = 0 ∷ 12 ∷ 1 ∷ 0 ∷ 3 ∷ 0 ∷ 1 ∷ 0 ∷ 0 ∷ 3 ∷ 2 ∷ 0 ∷ 6 ∷ 1 ∷ []
 
-p8 : List ℕ
-p8 = 0 ∷ 9 ∷ 1 ∷ 0 ∷ 2 ∷ 0 ∷ 1 ∷ 0 ∷ 0 ∷ 12 ∷ 0 ∷ []
+pub runs : List Run
+unfolding run table one two p5
+runs =
+    run table (0 ∷ 3 ∷ 1 ∷ 0 ∷ 0 ∷ []) 0
+    ∷ run table (one 1 0) 10000
+    ∷ run table (one 1 1) 10000
+    ∷ run table (one 1 2) 10000
+    ∷ run table p5 10000
+    ∷ run table p5 13
+    ∷ run table p5 12
+    ∷ run table p5 7
+    ∷ run table (two 1 0 12 0) 10000
+    ∷ run table (two 1 0 3 0) 10000
+    ∷ run table (two 1 0 4 0) 10000
+    ∷ run table (two 1 0 2 0) 10000
+    ∷ run table (two 1 0 4 2) 10000
+    ∷ run table (two 1 0 5 2) 10000
+    ∷ []
 
-answer : List ℕ → ℕ → Values
-unfolding tab joined padded holds largest leafAt guardAt changed reset fires largestIn greatest cap size guardIn transitionIn monitorOf tableCounts kindRecord kindRecords apart transitionFields transitionRecord transitionRecords transitionAt guardPlace tableParts tableAnswer clearOfBefore recordedRow recordedRows recordingAnswer recordingParts packetsOf endOf capped sent moved stepBy recordedAt moveOf number situationOf stepNumber count firstFrom spread image layer total lastInstant cost passing leads live walk leastMoves rowsBy rowsOf preferred verdict refusal validation bind table
-answer r budget = verdictValues (validation table r budget 65536 23045)
+p5Witness : List ℕ
+p5Witness = 0 ∷ 18 ∷ 1 ∷ 0 ∷ 3 ∷ 0 ∷ 0 ∷ 1 ∷ 0 ∷ 0 ∷ 1 ∷ 0 ∷ 3 ∷ 2 ∷ 255 ∷ 0 ∷ 0 ∷ 6 ∷ 1 ∷ 2 ∷ []
 
-t5 : answer p5 10000 ≡ values 0 13 3
-unfolding answer p5
-t5 = refl
+-- P1 to P12 in order. P6 has two budgets and P12 two recordings
+pub expected : List Run
+unfolding judged refused p5Witness
+expected =
+    judged (values 0 0 0) 6 (0x00 ∷ 0x03 ∷ 0x01 ∷ 0x00 ∷ 0x00 ∷ [])
+    ∷ judged (values 0 1 1) 12 (0x00 ∷ 0x08 ∷ 0x01 ∷ 0x00 ∷ 0x01 ∷ 0x00 ∷ 0x00 ∷ 0x01 ∷ 0x00 ∷ 0x00 ∷ [])
+    ∷ judged (values 1 1 1) 12 []
+    ∷ judged (values 0 1 1) 12 (0 ∷ 8 ∷ 1 ∷ 0 ∷ 1 ∷ 1 ∷ 0 ∷ 1 ∷ 2 ∷ 255 ∷ [])
+    ∷ judged (values 0 13 3) 42 p5Witness
+    ∷ judged (values 0 13 3) 42 p5Witness
+    ∷ judged (values 2 12 6) 42 []
+    ∷ judged (values 2 7 5) 42 []
+    ∷ judged (values 0 100 3) 78 (0 ∷ 18 ∷ 1 ∷ 0 ∷ 3 ∷ 0 ∷ 0 ∷ 1 ∷ 0 ∷ 0 ∷ 2 ∷ 0 ∷ 7 ∷ 1 ∷ 2 ∷ 0 ∷ 0 ∷ 12 ∷ 0 ∷ 4 ∷ [])
+    ∷ judged (values 1 3 3) 24 []
+    ∷ judged (values 0 5 3) 30 (0 ∷ 18 ∷ 1 ∷ 0 ∷ 3 ∷ 0 ∷ 0 ∷ 1 ∷ 0 ∷ 0 ∷ 2 ∷ 0 ∷ 3 ∷ 2 ∷ 1 ∷ 0 ∷ 0 ∷ 4 ∷ 0 ∷ 0 ∷ [])
+    ∷ refused (values 24 1 0)
+    ∷ judged (values 0 5 2) 30 (0 ∷ 13 ∷ 1 ∷ 0 ∷ 2 ∷ 0 ∷ 0 ∷ 1 ∷ 0 ∷ 0 ∷ 0 ∷ 0 ∷ 4 ∷ 2 ∷ 1 ∷ [])
+    ∷ judged (values 0 8 2) 36 (0 ∷ 13 ∷ 1 ∷ 0 ∷ 2 ∷ 0 ∷ 0 ∷ 1 ∷ 0 ∷ 0 ∷ 1 ∷ 0 ∷ 5 ∷ 2 ∷ 255 ∷ [])
+    ∷ []
 
-t8 : answer p8 10000 ≡ values 0 100 3
-unfolding answer p8
-t8 = refl
+-- P5's input to the program: table, recording, four-byte budget
+pub p5Input : List ℕ
+unfolding table p5
+p5Input = table ++ p5 ++ (0 ∷ 0 ∷ 39 ∷ 16 ∷ [])
+
+pub works : (table recording : List ℕ) → ℕ → List ℕ
+unfolding run
+works table recording n = tab (λ t. count (possibleAfter (monitorAt table) (packetsAt recording) t)) n
+
+pub printed : List ℕ → List ℕ
+unfolding run digits rowLines verdictLines judgedLines tableLength deskLines
+printed s = deskLines s
+
+-- accepted 13 3, kept 1 0 0, removed 3 2 255, kept 6 1 2: a line each
+pub p5Output : List ℕ
+p5Output =
+    97 ∷ 99 ∷ 99 ∷ 101 ∷ 112 ∷ 116 ∷ 101 ∷ 100 ∷ 32 ∷ 49 ∷ 51 ∷ 32 ∷ 51 ∷ 10
+    ∷ 107 ∷ 101 ∷ 112 ∷ 116 ∷ 32 ∷ 49 ∷ 32 ∷ 48 ∷ 32 ∷ 48 ∷ 10
+    ∷ 114 ∷ 101 ∷ 109 ∷ 111 ∷ 118 ∷ 101 ∷ 100 ∷ 32 ∷ 51 ∷ 32 ∷ 50 ∷ 32 ∷ 50 ∷ 53 ∷ 53 ∷ 10
+    ∷ 107 ∷ 101 ∷ 112 ∷ 116 ∷ 32 ∷ 54 ∷ 32 ∷ 49 ∷ 32 ∷ 50 ∷ 10
+    ∷ []
+
+-- what document 01 says of P1 to P12
+pub record Page : Type 0 where
+  pub runs-right : runs ≡ expected
+  pub p5-works : works table p5 6 ≡ 1 ∷ 1 ∷ 1 ∷ 2 ∷ 3 ∷ 5 ∷ []
+  pub p5-output : printed p5Input ≡ p5Output
+
+pub page : Page
+unfolding runs expected works printed table p5 p5Input p5Output
+page = record { runs-right = refl; p5-works = refl; p5-output = refl }
