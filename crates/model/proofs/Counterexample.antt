@@ -50,8 +50,8 @@ pub record NotTheMost : Type 0 where
 pub not-the-most : NotTheMost
 unfolding table recording keepsFirst keepsMost keptRows run row sends removes keeps adds account broken inForm follows
 not-the-most =
-    record
-    { first = refl
-    ; other = record { fits = omega arith; unbroken = refl }
-    ; fewer = omega arith
+    record {
+      first = refl;
+      other = record { fits = omega arith; unbroken = refl };
+      fewer = omega arith;
     }

@@ -34,10 +34,10 @@ dirtyRoom = replicate 90 9
 unfoldable pub run : (table recording : List ℕ) → ℕ → Run
 unfolding dirtyScratch dirtyRoom tab joined padded holds largest leafAt guardAt changed reset fires largestIn greatest cap size guardIn transitionIn monitorOf tableCounts kindRecord kindRecords apart transitionFields transitionRecord transitionRecords transitionAt guardPlace tableParts tableAnswer clearOfBefore recordedRow recordedRows recordingAnswer recordingParts packetsOf endOf capped sent moved stepBy recordedAt moveOf number situationOf stepNumber count firstFrom spread image layer total lastInstant cost passing leads live walk leastMoves rowsBy rowsOf preferred verdict refusal validation bind rowsBytes witnessBytes scratchAfter roomAfter
 run table recording budget =
-    record
-    { answer = verdictValues (validation table recording budget (length dirtyScratch) (length dirtyRoom))
-    ; scratch = scratchAfter table recording budget dirtyScratch dirtyRoom
-    ; room = roomAfter table recording budget dirtyScratch dirtyRoom
+    record {
+      answer = verdictValues (validation table recording budget (length dirtyScratch) (length dirtyRoom));
+      scratch = scratchAfter table recording budget dirtyScratch dirtyRoom;
+      room = roomAfter table recording budget dirtyScratch dirtyRoom;
     }
 
 -- a run that answers 0, 1 or 2: so many bytes of the scratch are zero, and these stand at the start of the room
