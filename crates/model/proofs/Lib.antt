@@ -1,4 +1,12 @@
 pub mod Basics
 pub mod Chains
+pub mod SetLaws
+pub mod LayerLaws
+pub mod LeastLaws
+pub mod Numbering
+pub mod Capping
+pub mod Explained
+pub mod Ordered
+pub mod TraceMoves
 pub mod Examples
 pub mod Counterexample

@@ -6,6 +6,7 @@ use mathlib.Core.Option.{Option, none, some, bind}
 use lib.ListN.{getD, getElem?}
 use lib.Dec.{eqb}
 use Rattle.model.specs.Guard.{Guard, holds}
+pub use Rattle.model.specs.declared.Config.{Config}
 
 -- fires on its trigger, a packet kind, from its source, if its guard holds; masks name the variables that it sets and clears and the clocks that it resets
 pub record Transition : Type 0 where
@@ -31,12 +32,6 @@ toUnit m k = getD (m .inbound) k false
 
 abbrev pub airtime : Monitor → ℕ → ℕ
 airtime m k = getD (m .airtimes) k 0
-
--- where the monitor is: state, variables as a mask, what each clock reads
-pub record Config : Type 0 where
-  pub state : ℕ
-  pub variables : ℕ
-  pub clocks : List ℕ
 
 -- "It starts in state 0, variables false, clocks 0 at tick 0." The format has two places for clocks; an absent one is never read
 abbrev pub start : Config

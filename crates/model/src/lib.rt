@@ -35,6 +35,13 @@ pub struct WitnessParts {
     pub transitions: [u8; 4608],
 }
 
+// Where a monitor is: state, variables as a mask, what each clock reads. A clock that the table does not have is never read.
+pub struct Config {
+    pub state: u8,
+    pub variables: u8,
+    pub clocks: [u16; 2],
+}
+
 // A situation (document 01): state, variables as a mask, clocks with values above M written as M + 1, and the ticks for which the air is still taken.
 // A clock that the table does not have stays 0.
 pub struct Situation {

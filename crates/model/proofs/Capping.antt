@@ -1,0 +1,197 @@
+-- Writing each clock above M as M + 1 changes no guard and no step: the moves that lead somewhere on numbers are those that do with real clocks.
+use Prim.Native.Nat.{ℕ, zero, suc, _+_, _-_, _/_, _%_, _<_, _≤_, min}
+use native.Mathlib.Decide.{decLe}
+use native.Mathlib.Nat.{not-suc-le-zero}
+use native.Mathlib.Omega.{arith}
+use mathlib.Core.Path.{_≡_, refl, sym, ap, ap₂, subst, _∙_}
+use mathlib.Core.List.{List, [], _∷_, map}
+use mathlib.Core.Bool.{Bool, true, false, cond, not, _&&_}
+use mathlib.Core.Logic.{_↔_}
+use mathlib.Core.Option.{Option, none, some, Option·map, bind, map-eq-some-iff}
+use lib.ListN.{getD, getElem?}
+use lib.Dec.{eqb, leb}
+use borrow.Author.Tests.{le-leb, lt-leb, lt-ltb, eq-eqb}
+use Rattle.model.specs.Guard.{Guard, always, atMost, atLeast, variable, negation, conjunction, holds, largest}
+use Rattle.model.specs.Monitor.{Monitor, Transition, fires, after, enabled, reset, toUnit}
+use Rattle.model.specs.Size.{largestIn, largestBound, cap, size}
+use Rattle.model.specs.Situation.{Move, keep, rest, add, configOf, capped, uncapped, firstBy, firstNumber, sent, triggerOf, moved, tick, stepBy, recordedAt, moveOf, moveLimit, number, stepNumber}
+use Rattle.model.specs.Trace.{Packet}
+use Rattle.model.specs.declared.Situation.{Situation}
+use Rattle.model.proofs.Chains.{Sane, Closed, Leads, Moves}
+use Rattle.model.proofs.Numbering.{TwoClocks, InRange, outcome, sending, number-below, back, every-step, step-in-range, first-in-range}
+
+-- a situation with its clocks as they are written
+abbrev pub written : Monitor → Situation → Situation
+written m s = record { state = s .state; variables = s .variables; clocks = capped m (s .clocks); air = s .air }
+
+-- guards
+
+leb-same : (a b c d : ℕ) → (a ≤ b → c ≤ d) → (c ≤ d → a ≤ b) → leb a b ≡ leb c d
+leb-same a b c d f g = on (decLe a b) (decLe c d)
+  where
+    on : Dec (a ≤ b) → Dec (c ≤ d) → leb a b ≡ leb c d
+    on (yes p) (yes q) = le-leb a b p ∙ sym (le-leb c d q)
+    on (yes p) (no q) = absurd (q (f p))
+    on (no p) (yes q) = absurd (p (g q))
+    on (no p) (no q) = lt-leb a b (omega arith) ∙ sym (lt-leb c d (omega arith))
+
+module _ (m : Monitor) (two : m .clocks ≤ 2) where
+  -- a clock that the table has is written as at most M + 1
+  reads : (c : List ℕ) (i : ℕ) → i < m .clocks → getD (capped m c) i 0 ≡ min (getD c i 0) (largestBound m i + 1)
+  unfolding capped cap
+  reads c zero h = rw (lt-ltb 0 (m .clocks) h)
+  reads c (suc zero) h = rw (lt-ltb 1 (m .clocks) h)
+  reads c (suc (suc i)) h = absurd (not-suc-le-zero {n = i} (omega arith))
+
+  pub same-guard : (g : Guard) (v : ℕ) (c : List ℕ) → Closed m g → ((i : ℕ) → largest i g ≤ largestBound m i) → holds g v (capped m c) ≡ holds g v c
+  unfolding holds largest
+  same-guard always v c k b = refl
+  same-guard (atMost i t) v c k b =
+      let h : t ≤ largestBound m i = rw (eq-eqb i i refl) at (b i) in
+      let e : getD (capped m c) i 0 ≡ min (getD c i 0) (largestBound m i + 1) = reads c i k in
+      leb-same (getD (capped m c) i 0) t (getD c i 0) t (omega arith) (omega arith)
+  same-guard (atLeast i t) v c k b =
+      let h : t ≤ largestBound m i = rw (eq-eqb i i refl) at (b i) in
+      let e : getD (capped m c) i 0 ≡ min (getD c i 0) (largestBound m i + 1) = reads c i k in
+      leb-same t (getD (capped m c) i 0) t (getD c i 0) (omega arith) (omega arith)
+  same-guard (variable x) v c k b = refl
+  same-guard (negation g) v c k b = ap not (same-guard g v c k b)
+  same-guard (conjunction g h) v c k b =
+      ap₂ _&&_ (same-guard g v c (k .0) (λ i. omega (arith, b i))) (same-guard h v c (k .1) (λ i. omega (arith, b i)))
+
+-- M is at least each T of a listed transition
+pub largest-listed : (ts : List Transition) (j : ℕ) (t : Transition) → getElem? ts j ≡ some t → (i : ℕ) → largest i (t .guard) ≤ largestIn i ts
+unfolding largestIn
+largest-listed [] j t e i = let z : _≡_ {A = ℕ} 0 1 = cc in omega arith
+largest-listed (u ∷ ts) zero t e i = let q : u ≡ t = cc in rw (← q) (omega arith)
+largest-listed (u ∷ ts) (suc j) t e i = omega (arith, largest-listed ts j t e i)
+
+-- steps
+
+-- a fact about every list of two clocks
+of-two : (F : List ℕ → Type 0) → ((x y : ℕ) → F (x ∷ y ∷ [])) → (c : List ℕ) → TwoClocks c → F c
+of-two F f c two = subst F (sym two) (f _ _)
+
+-- a clock, reset or not, and then one tick
+min-ticked : (zeroed : Bool) (x l : ℕ) → min (cond zeroed 0 (min x l) + 1) l ≡ min (cond zeroed 0 x + 1) l
+min-ticked true x l = refl
+min-ticked false x l = omega arith
+
+module _ (m : Monitor) where
+  ticked : (c : List ℕ) → TwoClocks c → capped m (map (λ x. x + 1) (capped m c)) ≡ capped m (map (λ x. x + 1) c)
+  unfolding capped
+  ticked =
+      of-two (λ c. capped m (map (λ x. x + 1) (capped m c)) ≡ capped m (map (λ x. x + 1) c))
+        (λ x y. ap₂ (λ (u v : ℕ). u ∷ v ∷ []) (min-ticked false x (cap m 0)) (min-ticked false y (cap m 1)))
+
+  reset-ticked : (mask : ℕ) (c : List ℕ) → TwoClocks c → capped m (map (λ x. x + 1) (reset mask (capped m c))) ≡ capped m (map (λ x. x + 1) (reset mask c))
+  unfolding capped reset
+  reset-ticked mask =
+      of-two (λ c. capped m (map (λ x. x + 1) (reset mask (capped m c))) ≡ capped m (map (λ x. x + 1) (reset mask c)))
+        (λ x y. ap₂ (λ (u v : ℕ). u ∷ v ∷ []) (min-ticked (eqb (mask % 2) 1) x (cap m 0)) (min-ticked (eqb (mask / 2 % 2) 1) y (cap m 1)))
+
+  -- two outcomes of a move that are written alike after the tick
+  abbrev Alike : Option Situation → Option Situation → Type 0
+  Alike o r = Option·map (tick (capped m)) o ≡ Option·map (written m) (Option·map (tick uncapped) r)
+
+  alike-cond : (t : Bool) (o r : Option Situation) → Alike o r → Alike (cond t o none) (cond t r none)
+  alike-cond true o r h = h
+  alike-cond false o r h = refl
+
+  alike-bind : {A : Type 0} (a : Option A) (f g : A → Option Situation) → ((x : A) → Alike (f x) (g x)) → Alike (bind a f) (bind a g)
+  unfolding bind
+  alike-bind none f g h = refl
+  alike-bind (some x) f g h = h x
+
+module _ {m : Monitor} (sane : Sane m) (s : Situation) (two : TwoClocks (s .clocks)) where
+  alike-fired : (j k : ℕ) (t : Transition) → getElem? (m .transitions) j ≡ some t → Alike m (Option·map (sending m k) (outcome m k (configOf (written m s)) t)) (Option·map (sending m k) (outcome m k (configOf s) t))
+  alike-fired j k t e =
+      rw (same-guard m (sane .clocks) (t .guard) (s .variables) (s .clocks) (sane .transition j t e .closed) (largest-listed (m .transitions) j t e)) (on (enabled t k (configOf s)))
+    where
+      on : (fits : Bool) → Alike m (Option·map (sending m k) (cond fits (some (after m t (configOf (written m s)))) none)) (Option·map (sending m k) (cond fits (some (after m t (configOf s))) none))
+      on true =
+          let u : Situation = tick uncapped (sending m k (after m t (configOf s))) in
+          ap {B = Option Situation} (λ (c : List ℕ). some (record { state = u .state; variables = u .variables; clocks = c; air = u .air })) (reset-ticked m (t .resets) (s .clocks) two)
+      on false = refl
+
+  alike-sent : (j k : ℕ) → Alike m (sent m j k (written m s)) (sent m j k s)
+  unfolding sent fires bind
+  alike-sent j k =
+      alike-cond m (eqb (s .air) 0) (Option·map (sending m k) (fires m j k (configOf (written m s)))) (Option·map (sending m k) (fires m j k (configOf s)))
+        (on (getElem? (m .transitions) j) (alike-fired j k))
+    where
+      on : (o : Option Transition) → ((t : Transition) → o ≡ some t → Alike m (Option·map (sending m k) (outcome m k (configOf (written m s)) t)) (Option·map (sending m k) (outcome m k (configOf s) t))) → Alike m (Option·map (sending m k) (bind o (outcome m k (configOf (written m s))))) (Option·map (sending m k) (bind o (outcome m k (configOf s))))
+      on none h = refl
+      on (some t) h = h t refl
+
+  alike-rest : Alike m (some (written m s)) (some s)
+  alike-rest = ap {B = Option Situation} (λ (c : List ℕ). some (record { state = s .state; variables = s .variables; clocks = c; air = s .air - 1 })) (ticked m (s .clocks) two)
+
+  alike-moved : (recorded : Option ℕ) (a : Move) → Alike m (moved m recorded (written m s) a) (moved m recorded s a)
+  unfolding moved
+  alike-moved none (keep j) = refl
+  alike-moved none rest = alike-rest
+  alike-moved none (add j) = alike-bind m (triggerOf m j) (λ k. sent m j k (written m s)) (λ k. sent m j k s) (λ k. alike-sent j k)
+  alike-moved (some r) (keep j) = alike-sent j r
+  alike-moved (some r) rest = alike-cond m (toUnit m r) (some (written m s)) (some s) alike-rest
+  alike-moved (some r) (add j) =
+      let other : ℕ → Bool = λ k. toUnit m r && not (eqb k r) in
+      alike-bind m (triggerOf m j) (λ k. cond (other k) (sent m j k (written m s)) none) (λ k. cond (other k) (sent m j k s) none)
+        (λ k. alike-cond m (other k) (sent m j k (written m s)) (sent m j k s) (alike-sent j k))
+
+  pub capped-step : (recorded : Option ℕ) (a : Move) → stepBy m (capped m) recorded (written m s) a ≡ Option·map (written m) (stepBy m uncapped recorded s a)
+  unfolding stepBy
+  capped-step = alike-moved
+
+  pub step-two-clocks : (recorded : Option ℕ) (a : Move) {x : Situation} → stepBy m uncapped recorded s a ≡ some x → TwoClocks (x .clocks)
+  unfolding reset
+  step-two-clocks recorded a e =
+      every-step m uncapped s (λ x. TwoClocks (x .clocks))
+        (of-two (λ c. TwoClocks (map (λ x. x + 1) c)) (λ x y. refl) (s .clocks) two)
+        (λ j k t q. of-two (λ c. TwoClocks (map (λ x. x + 1) (reset (t .resets) c))) (λ x y. refl) (s .clocks) two)
+        recorded a e
+
+-- lists of moves: the general form starts at any instant, from the number of a situation with real clocks
+
+map-map : {A B C : Type 0} (f : A → B) (g : B → C) (o : Option A) → Option·map g (Option·map f o) ≡ Option·map (λ a. g (f a)) o
+map-map f g none = refl
+map-map f g (some a) = refl
+
+-- the number at which a situation with real clocks is written
+abbrev pub numberOf : Monitor → Situation → ℕ
+numberOf m s = number m (written m s)
+
+module _ {m : Monitor} (sane : Sane m) (recording : List Packet) where
+  -- the step on numbers is the step with real clocks
+  pub same-step : (t k : ℕ) (s : Situation) → TwoClocks (s .clocks) → InRange m (written m s) → stepNumber m recording t (numberOf m s) k ≡ Option·map (numberOf m) (stepBy m uncapped (recordedAt recording t) s (moveOf k))
+  unfolding stepNumber
+  same-step t k s two r =
+      ap (λ (u : Situation). Option·map (number m) (stepBy m (capped m) (recordedAt recording t) u (moveOf k))) (back r)
+      ∙ ap (Option·map (number m)) (capped-step sane s two (recordedAt recording t) (moveOf k))
+      ∙ map-map (written m) (number m) (stepBy m uncapped (recordedAt recording t) s (moveOf k))
+
+  -- and what it leads to is in range when written
+  pub step-written : (t k : ℕ) (s x : Situation) → TwoClocks (s .clocks) → InRange m (written m s) → stepBy m uncapped (recordedAt recording t) s (moveOf k) ≡ some x → InRange m (written m x)
+  step-written t k s x two r e =
+      step-in-range sane (recordedAt recording t) (moveOf k) r (capped-step sane s two (recordedAt recording t) (moveOf k) ∙ ap (Option·map (written m)) e)
+
+  pub on-numbers : (ks : List ℕ) (t : ℕ) (s z : Situation) → TwoClocks (s .clocks) → InRange m (written m s) → Moves m recording t s ks z → Leads (size m) moveLimit (stepNumber m recording) t (numberOf m s) ks (numberOf m z)
+  on-numbers [] t s z two r e = ap (numberOf m) e
+  on-numbers (k ∷ ks) t s z two r (x, few, e, more) =
+      let q : InRange m (written m x) = step-written (suc t) k s x two r e in
+      (numberOf m x, few, same-step (suc t) k s two r ∙ ap (Option·map (numberOf m)) e, number-below q,
+        on-numbers ks (suc t) x z (step-two-clocks sane s two _ _ e) q more)
+
+  pub with-clocks : (ks : List ℕ) (t : ℕ) (s : Situation) (z : ℕ) → TwoClocks (s .clocks) → InRange m (written m s) → Leads (size m) moveLimit (stepNumber m recording) t (numberOf m s) ks z → (y : Situation) × Moves m recording t s ks y × (numberOf m y ≡ z)
+  with-clocks [] t s z two r e = (s, refl, e)
+  with-clocks (k ∷ ks) t s z two r (n, few, e, below, more) =
+      let (x, found, same) = map-eq-some-iff (numberOf m) (stepBy m uncapped (recordedAt recording (suc t)) s (moveOf k)) .0 (sym (same-step (suc t) k s two r) ∙ e) in
+      let (y, moves, last) =
+          with-clocks ks (suc t) x z (step-two-clocks sane s two _ _ found) (step-written (suc t) k s x two r found)
+            (subst (λ (i : ℕ). Leads (size m) moveLimit (stepNumber m recording) (suc t) i ks z) (sym same) more) in
+      (y, (x, few, found, moves), last)
+
+  pub same-moves : (ks : List ℕ) → ((z : ℕ) × Leads (size m) moveLimit (stepNumber m recording) 0 (firstNumber m) ks z) ↔ ((z : Situation) × Moves m recording 0 (firstBy uncapped) ks z)
+  same-moves ks =
+      (λ h. let (y, moves, last) = with-clocks ks 0 (firstBy uncapped) (h .0) refl (first-in-range sane) (h .1) in (y, moves),
+      λ h. (numberOf m (h .0), on-numbers ks 0 (firstBy uncapped) (h .0) refl (first-in-range sane) (h .1)))

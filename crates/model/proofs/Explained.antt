@@ -1,0 +1,399 @@
+-- Demand 2 in the paper's words: a formed witness breaks no rule exactly when it explains the recording, and what explains it makes it possible.
+use Prim.Native.Nat.{ℕ, zero, suc, _+_, _-_, _<_, _≤_}
+use native.Mathlib.Omega.{arith}
+use mathlib.Core.Path.{_≡_, refl, sym, ap, subst, _∙_}
+use mathlib.Core.List.{List, [], _∷_, List·Memᴰ, List·Memᴰ·head, List·Memᴰ·tail, List·Memᴰ·cases-cons, List·Memᴰ·not-nil}
+use mathlib.Core.Bool.{Bool, true, false, cond, not, _&&_, _||_, false≢true}
+use mathlib.Core.Option.{Option, none, some, Option·map}
+use mathlib.Core.Logic.{_↔_, _⊎_, inl, inr, ⊎-elim}
+use lib.Dec.{leb, ltb, eqb}
+use borrow.Author.Tests.{ltb-true, leb-true, eqb-true, le-leb, eq-eqb, ne-eqb}
+use Rattle.model.specs.Monitor.{Monitor, Config, start, wait, fires, toUnit, airtime}
+use Rattle.model.specs.Trace.{Packet, Spaced, PacketTrace, Carries, Possible}
+use Rattle.model.specs.Witness.{Row, kept, removed, added, noTransition, isRemoved, inForm, follows, inPlace, misformed, Formed}
+use Rattle.model.specs.Recording.{lastTime}
+use Rattle.model.specs.Rules.{Progress, begin, noneBefore, isNext, noneAt, others, sends, removes, keeps, adds, account, broken}
+use Rattle.model.specs.Claims.{packetOf, heard, sentRows, packets, CarriedBy, Explains}
+use Rattle.model.proofs.Basics.{and-left, and-right, both-true}
+
+abbrev rowOf : (mark time kind transition : ℕ) → Row
+rowOf mark t k j = record { mark = mark; time = t; kind = k; transition = j }
+
+-- tests and options
+
+or-cases : (a b : Bool) → a || b ≡ true → (a ≡ true) ⊎ (b ≡ true)
+or-cases true b e = inl refl
+or-cases false b e = inr e
+
+and-first : (a b c d : Bool) → a && b && c && d ≡ true → (a ≡ true) × (b ≡ true)
+and-first a b c d e = let h : a && b ≡ true = and-left (a && b) c (and-left (a && b && c) d e) in (and-left a b h, and-right a b h)
+
+module _ {A : Type 0} where
+  cond-some : (t : Bool) (o : Option A) {a : A} → cond t o none ≡ some a → (t ≡ true) × (o ≡ some a)
+  cond-some true o e = (refl, e)
+  cond-some false o {a} e = let z : _≡_ {A = ℕ} 0 1 = cc in absurd (omega arith)
+
+  cond-true : (t : Bool) (o : Option A) → t ≡ true → cond t o none ≡ o
+  cond-true true o e = refl
+  cond-true false o e = absurd (false≢true e)
+
+  map-some : {B : Type 0} (f : A → B) (o : Option A) {b : B} → Option·map f o ≡ some b → (a : A) × (o ≡ some a) × (f a ≡ b)
+  map-some f none {b} e = let z : _≡_ {A = ℕ} 0 1 = cc in absurd (omega arith)
+  map-some f (some a) {b} e = (a, refl, cc)
+
+-- the form of rows
+
+form-limits : (r : Row) → inForm r ≡ true → (r .mark ≤ 2) × (1 ≤ r .time)
+unfolding inForm
+form-limits r e =
+    let h = and-first (leb (r .mark) 2) (leb 1 (r .time)) (leb (r .time) lastTime) (not (isRemoved r) || eqb (r .transition) noTransition) e in
+    (leb-true (r .mark) 2 (h .0), leb-true 1 (r .time) (h .1))
+
+-- a row behind b is later, or b is removed and it has the same time
+follows-cases : (b r : Row) → follows b r ≡ true → (b .time < r .time) ⊎ ((b .time ≡ r .time) × (isRemoved b ≡ true))
+unfolding follows
+follows-cases b r e =
+    ⊎-elim (λ h. inl (ltb-true (b .time) (r .time) h)) (λ h. inr (same (and-first (eqb (b .time) (r .time)) (isRemoved b) (eqb (r .mark) added) (not (eqb (b .kind) (r .kind))) h)))
+    (or-cases (ltb (b .time) (r .time)) (eqb (b .time) (r .time) && isRemoved b && eqb (r .mark) added && not (eqb (b .kind) (r .kind))) e)
+  where
+    same : (eqb (b .time) (r .time) ≡ true) × (isRemoved b ≡ true) → (b .time ≡ r .time) × (isRemoved b ≡ true)
+    same h = (eqb-true (b .time) (r .time) (h .0), h .1)
+
+inPlace-form : (b : Option Row) (r : Row) → inPlace b r ≡ true → inForm r ≡ true
+inPlace-form none r e = e
+inPlace-form (some b) r e = and-left _ _ e
+
+misformed-cons : (b : Option Row) (i : ℕ) (r : Row) (rs : List Row) → misformed b i (r ∷ rs) ≡ none → (inPlace b r ≡ true) × (misformed (some r) (suc i) rs ≡ none)
+unfolding misformed
+misformed-cons b i r rs e = go (inPlace b r) refl
+  where
+    go : (t : Bool) → inPlace b r ≡ t → (inPlace b r ≡ true) × (misformed (some r) (suc i) rs ≡ none)
+    go true h = (h, cc)
+    go false h = let z : _≡_ {A = ℕ} 0 1 = cc in absurd (omega arith)
+
+-- the first of the rows, if there is one, is not before u
+abbrev From : ℕ → List Row → Type 0
+From u [] = Unit {0}
+From u (r ∷ rs) = u ≤ r .time
+
+from-next : (u : ℕ) (b : Row) (i : ℕ) (rs : List Row) → u ≤ b .time → misformed (some b) i rs ≡ none → From u rs
+from-next u b i [] h e = tt
+from-next u b i (r ∷ rs) h e = ⊎-elim (λ l. omega arith) (λ l. omega arith) (follows-cases b r (and-right (inForm r) (follows b r) (misformed-cons (some b) i r rs e .0)))
+
+-- behind a row that is not removed, each row is later
+from-past : (b : Row) (i : ℕ) (rs : List Row) → isRemoved b ≡ false → misformed (some b) i rs ≡ none → From (suc (b .time)) rs
+from-past b i [] n e = tt
+from-past b i (r ∷ rs) n e =
+    ⊎-elim (λ l. l) (λ l. let z : false ≡ true = sym n ∙ l .1 in absurd (false≢true z)) (follows-cases b r (and-right (inForm r) (follows b r) (misformed-cons (some b) i r rs e .0)))
+
+-- times do not fall: neither do those of the recorded rows
+heard-from : (u : ℕ) (b : Option Row) (i : ℕ) (rows : List Row) → misformed b i rows ≡ none → From u rows → noneBefore (heard rows) u ≡ true
+unfolding heard
+heard-from u b i [] e h = refl
+heard-from u b i (r ∷ rs) e h = go (eqb (r .mark) added) (heard-from u (some r) (suc i) rs e' (from-next u r (suc i) rs h e'))
+  where
+    e' : misformed (some r) (suc i) rs ≡ none
+    e' = misformed-cons b i r rs e .1
+
+    go : (t : Bool) → noneBefore (heard rs) u ≡ true → noneBefore (cond t (heard rs) (packetOf r ∷ heard rs)) u ≡ true
+    go true again = again
+    go false again = le-leb u (r .time) h
+
+none-at : (left : List Packet) (t : ℕ) → noneBefore left (suc t) ≡ true → noneAt left t ≡ true
+none-at [] t e = refl
+none-at (p ∷ ps) t e = let h : suc t ≤ p .time = leb-true (suc t) (p .time) e in ap not (ne-eqb (p .time) t (λ q. omega arith))
+
+-- a row that equals the next unaccounted one
+next-cons : (left : List Packet) (r : Row) → isNext left r ≡ true → left ≡ packetOf r ∷ others left
+next-cons [] r e = absurd (false≢true e)
+next-cons (p ∷ ps) r e =
+    let t : p .time ≡ r .time = eqb-true (p .time) (r .time) (and-left _ _ e) in
+    let k : p .kind ≡ r .kind = eqb-true (p .kind) (r .kind) (and-right (eqb (p .time) (r .time)) (eqb (p .kind) (r .kind)) e) in
+    λ i. record { time = t i; kind = k i } ∷ ps
+
+-- the packets are spaced, and the first is not before the time free
+abbrev Clear : Monitor → ℕ → List Packet → Type 0
+Clear m free [] = Unit {0}
+Clear m free (q ∷ qs) = (1 ≤ q .time) × (free ≤ q .time) × Spaced m q qs
+
+clear-trace : (m : Monitor) (qs : List Packet) → Clear m 0 qs ↔ PacketTrace m qs
+clear-trace m [] = (λ c. tt, λ c. tt)
+clear-trace m (q ∷ qs) = (λ c. (c .0, c .2), λ c. (c .0, omega arith, c .1))
+
+clear-spaced : (m : Monitor) (p : Packet) (qs : List Packet) → Clear m (p .time + airtime m (p .kind) + 1) qs ↔ Spaced m p qs
+clear-spaced m p [] = (λ c. tt, λ c. tt)
+clear-spaced m p (q ∷ qs) = (λ c. (omega arith, c .2), λ c. (omega arith, omega arith, c .1))
+
+-- the rows explain what is left behind p
+record Continues (m : Monitor) (p : Progress) (rows : List Row) : Type 0 where
+  accounts : heard rows ≡ p .left
+  inbound : (r : Row) → List·Memᴰ r rows → r .mark ≡ removed → toUnit m (r .kind) ≡ true
+  clear : Clear m (p .free) (packets (sentRows rows))
+  carried : CarriedBy m (p .now) (p .config) (sentRows rows)
+
+-- a sent row and what is behind it
+
+abbrev sentTo : Monitor → Row → List Packet → Config → Progress
+sentTo m r left c = record { before = some r; left = left; now = r .time; config = c; free = r .time + airtime m (r .kind) + 1 }
+
+abbrev removedTo : Progress → Row → Progress
+removedTo p r = record { before = some r; left = others (p .left); now = p .now; config = p .config; free = p .free }
+
+module _ (m : Monitor) (p : Progress) (r : Row) (left : List Packet) where
+  sends-some : {q : Progress} → sends m p r left ≡ some q → (c : Config) × (p .free ≤ r .time) × (fires m (r .transition) (r .kind) (wait (r .time - p .now) (p .config)) ≡ some c) × (sentTo m r left c ≡ q)
+  unfolding sends
+  sends-some e =
+      let h = cond-some _ _ e in
+      let g = map-some (sentTo m r left) (fires m (r .transition) (r .kind) (wait (r .time - p .now) (p .config))) (h .1) in
+      (g .0, leb-true (p .free) (r .time) (h .0), g .1, g .2)
+
+  some-sends : (c : Config) → p .free ≤ r .time → fires m (r .transition) (r .kind) (wait (r .time - p .now) (p .config)) ≡ some c → sends m p r left ≡ some (sentTo m r left c)
+  unfolding sends
+  some-sends c h e = rw (le-leb (p .free) (r .time) h, e)
+
+module _ (m : Monitor) (p : Progress) (r : Row) (left : List Packet) (rs : List Row) where
+  sent-continues : {q : Progress} → inForm r ≡ true → sends m p r left ≡ some q → Continues m q rs →
+      (heard rs ≡ left) × Clear m (p .free) (packetOf r ∷ packets (sentRows rs)) × CarriedBy m (p .now) (p .config) (r ∷ sentRows rs)
+  sent-continues f e c =
+      let g = sends-some m p r left e in
+      let d : Continues m (sentTo m r left (g .0)) rs = subst (λ x. Continues m x rs) (sym (g .3)) c in
+      (d .accounts, (form-limits r f .1, g .1, clear-spaced m (packetOf r) (packets (sentRows rs)) .0 (d .clear)), (g .0, g .2, d .carried))
+
+  continues-sent : heard rs ≡ left → ((s : Row) → List·Memᴰ s rs → s .mark ≡ removed → toUnit m (s .kind) ≡ true) →
+      Clear m (p .free) (packetOf r ∷ packets (sentRows rs)) → (d : CarriedBy m (p .now) (p .config) (r ∷ sentRows rs)) → Continues m (sentTo m r left (d .0)) rs
+  continues-sent a b c d = record { accounts = a; inbound = b; clear = clear-spaced m (packetOf r) (packets (sentRows rs)) .1 (c .2); carried = d .2 }
+
+-- removed rows are to the unit: the first, and those behind it
+inbound-cons : (m : Monitor) (r : Row) (rs : List Row) → (r .mark ≡ removed → toUnit m (r .kind) ≡ true) →
+    ((s : Row) → List·Memᴰ s rs → s .mark ≡ removed → toUnit m (s .kind) ≡ true) → (s : Row) → List·Memᴰ s (r ∷ rs) → s .mark ≡ removed → toUnit m (s .kind) ≡ true
+inbound-cons m r rs now behind s i e = ⊎-elim (λ q. here q) (λ l. behind s l e) (List·Memᴰ·cases-cons i)
+  where
+    here : s ≡ r → toUnit m (s .kind) ≡ true
+    here q = ap (λ x. toUnit m (x .kind)) q ∙ now (ap (λ x. x .mark) (sym q) ∙ e)
+
+-- one row, forwards
+
+abbrev byMark : Monitor → Progress → Row → Option Progress
+byMark m p r = cond (eqb (r .mark) kept) (keeps m p r) (cond (isRemoved r) (removes m p r) (adds m p r))
+
+account-some : (m : Monitor) (p : Progress) (r : Row) {q : Progress} → account m p r ≡ some q →
+    (inPlace (p .before) r ≡ true) × (byMark m p r ≡ some q)
+unfolding account
+account-some m p r e =
+    let h = cond-some (inPlace (p .before) r && noneBefore (p .left) (r .time)) _ e in
+    (and-left (inPlace (p .before) r) _ (h .0), h .1)
+
+module _ (m : Monitor) (rs : List Row) where
+  continues-cons : (mark t k j : ℕ) (p q : Progress) → account m p (rowOf mark t k j) ≡ some q → Continues m q rs → Continues m p (rowOf mark t k j ∷ rs)
+  unfolding keeps removes adds heard sentRows packets
+  continues-cons zero t k j p q e c =
+      let r : Row = rowOf 0 t k j in
+      let a = account-some m p r e in
+      let n = cond-some (isNext (p .left) r) (sends m p r (others (p .left))) (a .1) in
+      let f = sent-continues m p r (others (p .left)) rs (inPlace-form (p .before) r (a .0)) (n .1) c in
+      record {
+        accounts = ap (λ (l : List Packet). packetOf r ∷ l) (f .0) ∙ sym (next-cons (p .left) r (n .0));
+        inbound = inbound-cons m r rs (λ z. absurd (omega arith)) (c .inbound);
+        clear = f .1;
+        carried = f .2;
+      }
+  continues-cons (suc zero) t k j p q e c =
+      let r : Row = rowOf 1 t k j in
+      let a = account-some m p r e in
+      let n = cond-some (isNext (p .left) r && toUnit m k) (some (removedTo p r)) (a .1) in
+      let same : removedTo p r ≡ q = cc in
+      let d : Continues m (removedTo p r) rs = subst (λ x. Continues m x rs) (sym same) c in
+      record {
+        accounts = ap (λ (l : List Packet). packetOf r ∷ l) (d .accounts) ∙ sym (next-cons (p .left) r (and-left _ _ (n .0)));
+        inbound = inbound-cons m r rs (λ z. and-right (isNext (p .left) r) (toUnit m k) (n .0)) (d .inbound);
+        clear = d .clear;
+        carried = d .carried;
+      }
+  continues-cons (suc (suc zero)) t k j p q e c =
+      let r : Row = rowOf 2 t k j in
+      let a = account-some m p r e in
+      let n = cond-some (noneAt (p .left) t) (sends m p r (p .left)) (a .1) in
+      let f = sent-continues m p r (p .left) rs (inPlace-form (p .before) r (a .0)) (n .1) c in
+      record {
+        accounts = f .0;
+        inbound = inbound-cons m r rs (λ z. absurd (omega arith)) (c .inbound);
+        clear = f .1;
+        carried = f .2;
+      }
+  continues-cons (suc (suc (suc n))) t k j p q e c =
+      let r : Row = rowOf (suc (suc (suc n))) t k j in
+      let h : suc (suc (suc n)) ≤ 2 = form-limits r (inPlace-form (p .before) r (account-some m p r e .0)) .0 in
+      absurd (omega arith)
+
+-- one row, backwards
+
+record Accounted (m : Monitor) (p : Progress) (r : Row) (rs : List Row) : Type 0 where
+  next : Progress
+  accounted : account m p r ≡ some next
+  last : next .before ≡ some r
+  continues : Continues m next rs
+
+module _ (m : Monitor) (p : Progress) (r : Row) (rs : List Row) (i : ℕ) where
+  -- a row in form behind those that explain the recording so far: its mark's rule decides
+  account-ready : misformed (p .before) i (r ∷ rs) ≡ none → heard (r ∷ rs) ≡ p .left →
+      account m p r ≡ byMark m p r
+  unfolding account
+  account-ready e a =
+      cond-true (inPlace (p .before) r && noneBefore (p .left) (r .time)) (byMark m p r)
+      (both-true _ _ (misformed-cons (p .before) i r rs e .0)
+      (subst (λ (l : List Packet). noneBefore l (r .time) ≡ true) a (heard-from (r .time) (p .before) i (r ∷ rs) e (omega arith))))
+
+cons-next : (left : List Packet) (r : Row) (l : List Packet) → packetOf r ∷ l ≡ left → (isNext left r ≡ true) × (l ≡ others left)
+cons-next left r l e =
+    subst (λ (x : List Packet). (isNext x r ≡ true) × (l ≡ others x)) e
+    (both-true (eqb (r .time) (r .time)) (eqb (r .kind) (r .kind)) (eq-eqb (r .time) (r .time) refl) (eq-eqb (r .kind) (r .kind) refl), refl)
+
+module _ (m : Monitor) (rs : List Row) where
+  account-cons : (mark t k j : ℕ) (p : Progress) (i : ℕ) → misformed (p .before) i (rowOf mark t k j ∷ rs) ≡ none → Continues m p (rowOf mark t k j ∷ rs) → Accounted m p (rowOf mark t k j) rs
+  unfolding keeps removes adds heard sentRows packets
+  account-cons zero t k j p i e c =
+      let r : Row = rowOf 0 t k j in
+      let n = cons-next (p .left) r (heard rs) (c .accounts) in
+      let d = c .carried in
+      record {
+        next = sentTo m r (others (p .left)) (d .0);
+        accounted = account-ready m p r rs i e (c .accounts) ∙ (cond-true (isNext (p .left) r) _ (n .0) ∙ some-sends m p r (others (p .left)) (d .0) (c .clear .1) (d .1));
+        last = refl;
+        continues = continues-sent m p r (others (p .left)) rs (n .1) (λ s l. c .inbound s (List·Memᴰ·tail l)) (c .clear) d;
+      }
+  account-cons (suc zero) t k j p i e c =
+      let r : Row = rowOf 1 t k j in
+      let n = cons-next (p .left) r (heard rs) (c .accounts) in
+      record {
+        next = removedTo p r;
+        accounted = account-ready m p r rs i e (c .accounts) ∙ cond-true (isNext (p .left) r && toUnit m k) _ (both-true _ _ (n .0) (c .inbound r (List·Memᴰ·head refl) refl));
+        last = refl;
+        continues = record { accounts = n .1; inbound = λ s l. c .inbound s (List·Memᴰ·tail l); clear = c .clear; carried = c .carried };
+      }
+  account-cons (suc (suc zero)) t k j p i e c =
+      let r : Row = rowOf 2 t k j in
+      let d = c .carried in
+      let f = misformed-cons (p .before) i r rs e .1 in
+      let n : noneAt (p .left) t ≡ true = subst (λ (l : List Packet). noneAt l t ≡ true) (c .accounts) (none-at (heard rs) t (heard-from (suc t) (some r) (suc i) rs f (from-past r (suc i) rs refl f))) in
+      record {
+        next = sentTo m r (p .left) (d .0);
+        accounted = account-ready m p r rs i e (c .accounts) ∙ (cond-true (noneAt (p .left) t) _ n ∙ some-sends m p r (p .left) (d .0) (c .clear .1) (d .1));
+        last = refl;
+        continues = continues-sent m p r (p .left) rs (c .accounts) (λ s l. c .inbound s (List·Memᴰ·tail l)) (c .clear) d;
+      }
+  account-cons (suc (suc (suc n))) t k j p i e c =
+      let r : Row = rowOf (suc (suc (suc n))) t k j in
+      let h : suc (suc (suc n)) ≤ 2 = form-limits r (inPlace-form (p .before) r (misformed-cons (p .before) i r rs e .0)) .0 in
+      absurd (omega arith)
+
+-- all rows
+
+broken-cons : (m : Monitor) (p : Progress) (i : ℕ) (r : Row) (rs : List Row) → broken m p i (r ∷ rs) ≡ none → (q : Progress) × (account m p r ≡ some q) × (broken m q (suc i) rs ≡ none)
+unfolding broken
+broken-cons m p i r rs e = go (account m p r) refl
+  where
+    go : (o : Option Progress) → account m p r ≡ o → (q : Progress) × (account m p r ≡ some q) × (broken m q (suc i) rs ≡ none)
+    go none h = let z : _≡_ {A = ℕ} 0 1 = cc in absurd (omega arith)
+    go (some q) h = (q, h, cc)
+
+-- rows that break no rule explain what is left
+broken-continues : (m : Monitor) (p : Progress) (i : ℕ) (rows : List Row) → broken m p i rows ≡ none → Continues m p rows
+unfolding broken heard sentRows packets
+broken-continues m p i [] e = record { accounts = empty (p .left) refl; inbound = λ r l. absurd (List·Memᴰ·not-nil l); clear = tt; carried = tt }
+  where
+    empty : (left : List Packet) → p .left ≡ left → [] ≡ p .left
+    empty [] h = sym h
+    empty (q ∷ qs) h = let z : _≡_ {A = ℕ} 0 1 = cc in absurd (omega arith)
+broken-continues m p i (r ∷ rs) e =
+    let h = broken-cons m p i r rs e in
+    continues-cons m rs (r .mark) (r .time) (r .kind) (r .transition) p (h .0) (h .1) (broken-continues m (h .0) (suc i) rs (h .2))
+
+-- formed rows that explain what is left break no rule
+continues-broken : (m : Monitor) (p : Progress) (i j : ℕ) (rows : List Row) → misformed (p .before) i rows ≡ none → Continues m p rows → broken m p j rows ≡ none
+unfolding broken heard
+continues-broken m p i j [] e c = cc
+continues-broken m p i j (r ∷ rs) e c =
+    let a : Accounted m p r rs = account-cons m rs (r .mark) (r .time) (r .kind) (r .transition) p i e c in
+    let f : misformed (a .next .before) (suc i) rs ≡ none = subst (λ (b : Option Row). misformed b (suc i) rs ≡ none) (sym (a .last)) (misformed-cons (p .before) i r rs e .1) in
+    rw (a .accounted, broken) (continues-broken m (a .next) (suc i) (suc j) rs f (a .continues))
+
+account-last : (m : Monitor) (p : Progress) (r : Row) {q : Progress} → account m p r ≡ some q → q .before ≡ some r
+unfolding keeps removes adds
+account-last m p r {q} e = go (eqb (r .mark) kept) (isRemoved r) (account-some m p r e .1)
+  where
+    sent-last : (left : List Packet) → sends m p r left ≡ some q → q .before ≡ some r
+    sent-last left h = ap (λ (x : Progress). x .before) (sym (sends-some m p r left h .3))
+
+    go : (a b : Bool) → cond a (keeps m p r) (cond b (removes m p r) (adds m p r)) ≡ some q → q .before ≡ some r
+    go true b h = sent-last (others (p .left)) (cond-some (isNext (p .left) r) (sends m p r (others (p .left))) h .1)
+    go false true h = let same = cond-some (isNext (p .left) r && toUnit m (r .kind)) (some (removedTo p r)) h in cc
+    go false false h = sent-last (p .left) (cond-some (noneAt (p .left) (r .time)) (sends m p r (p .left)) h .1)
+
+-- each row's form is tested
+broken-formed : (m : Monitor) (p : Progress) (i j : ℕ) (rows : List Row) → broken m p i rows ≡ none → misformed (p .before) j rows ≡ none
+unfolding misformed
+broken-formed m p i j [] e = refl
+broken-formed m p i j (r ∷ rs) e =
+    let h = broken-cons m p i r rs e in
+    let f : misformed (some r) (suc j) rs ≡ none = subst (λ (b : Option Row). misformed b (suc j) rs ≡ none) (account-last m p r (h .1)) (broken-formed m (h .0) (suc i) (suc j) rs (h .2)) in
+    rw (account-some m p r (h .1) .0, misformed) f
+
+pub unbroken-formed : (m : Monitor) (recording : List Packet) (rows : List Row) → broken m (begin recording) 0 rows ≡ none → Formed rows
+unbroken-formed m recording rows e = broken-formed m (begin recording) 0 0 rows e
+
+pub explained : (m : Monitor) (recording : List Packet) (rows : List Row) → Formed rows → (broken m (begin recording) 0 rows ≡ none) ↔ Explains m recording rows
+explained m recording rows f = (onto, from)
+  where
+    onto : broken m (begin recording) 0 rows ≡ none → Explains m recording rows
+    onto e =
+        let c = broken-continues m (begin recording) 0 rows e in
+        record { accounts = c .accounts; inbound = c .inbound; spaced = clear-trace m (packets (sentRows rows)) .0 (c .clear); carried = c .carried }
+
+    from : Explains m recording rows → broken m (begin recording) 0 rows ≡ none
+    from x =
+        continues-broken m (begin recording) 0 0 rows f
+        (record { accounts = x .accounts; inbound = x .inbound; clear = clear-trace m (packets (sentRows rows)) .1 (x .spaced); carried = x .carried })
+
+-- what explains the recording makes it possible
+
+carried-carries : (m : Monitor) (now : ℕ) (c : Config) (rows : List Row) → CarriedBy m now c rows → Carries m now c (packets rows)
+unfolding packets
+carried-carries m now c [] h = tt
+carried-carries m now c (r ∷ rs) h = (r .transition, h .0, h .1, carried-carries m (r .time) (h .0) rs (h .2))
+
+-- a recorded packet is sent, or its row is removed
+abbrev SentOrRemoved : Packet → List Row → Type 0
+SentOrRemoved p rows = List·Memᴰ p (packets (sentRows rows)) ⊎ ((r : Row) × List·Memᴰ r rows × (r .mark ≡ removed) × (r .kind ≡ p .kind))
+
+heard-cases : (rows : List Row) (p : Packet) → List·Memᴰ p (heard rows) → SentOrRemoved p rows
+unfolding heard sentRows packets
+heard-cases [] p l = absurd (List·Memᴰ·not-nil l)
+heard-cases (r ∷ rs) p l = ⊎-elim (here (isRemoved r) refl) (λ h. behind (isRemoved r) (heard-cases rs p h)) (where-heard (eqb (r .mark) added) l)
+  where
+    where-heard : (t : Bool) → List·Memᴰ p (cond t (heard rs) (packetOf r ∷ heard rs)) → (p ≡ packetOf r) ⊎ List·Memᴰ p (heard rs)
+    where-heard true h = inr h
+    where-heard false h = List·Memᴰ·cases-cons h
+
+    after : Bool → Type 0
+    after t = List·Memᴰ p (packets (cond t (sentRows rs) (r ∷ sentRows rs))) ⊎ ((s : Row) × List·Memᴰ s (r ∷ rs) × (s .mark ≡ removed) × (s .kind ≡ p .kind))
+
+    here : (t : Bool) → isRemoved r ≡ t → p ≡ packetOf r → after t
+    here true e h = inr (r, List·Memᴰ·head refl, eqb-true (r .mark) removed e, ap (λ (q : Packet). q .kind) (sym h))
+    here false e h = inl (List·Memᴰ·head h)
+
+    behind : (t : Bool) → SentOrRemoved p rs → after t
+    behind true (inl h) = inl h
+    behind false (inl h) = inl (List·Memᴰ·tail h)
+    behind t (inr h) = inr (h .0, List·Memᴰ·tail (h .1), h .2, h .3)
+
+pub explains-possible : (m : Monitor) (recording : List Packet) (rows : List Row) → Explains m recording rows → Possible m recording
+explains-possible m recording rows x =
+    record {
+      trace = packets (sentRows rows);
+      spaced = x .spaced;
+      mutation =
+          λ p l away.
+          ⊎-elim (λ h. absurd (away h)) (λ h. ap (toUnit m) (sym (h .3)) ∙ x .inbound (h .0) (h .1) (h .2))
+          (heard-cases rows p (subst (λ (k : List Packet). List·Memᴰ p k) (sym (x .accounts)) l));
+      satisfied = carried-carries m 0 start (sentRows rows) (x .carried);
+    }
