@@ -82,13 +82,13 @@ module _ (m : Monitor) where
   unfolding capped
   ticked =
       of-two (λ c. capped m (map (λ x. x + 1) (capped m c)) ≡ capped m (map (λ x. x + 1) c))
-        (λ x y. ap₂ (λ (u v : ℕ). u ∷ v ∷ []) (min-ticked false x (cap m 0)) (min-ticked false y (cap m 1)))
+      (λ x y. ap₂ (λ (u v : ℕ). u ∷ v ∷ []) (min-ticked false x (cap m 0)) (min-ticked false y (cap m 1)))
 
   reset-ticked : (mask : ℕ) (c : List ℕ) → TwoClocks c → capped m (map (λ x. x + 1) (reset mask (capped m c))) ≡ capped m (map (λ x. x + 1) (reset mask c))
   unfolding capped reset
   reset-ticked mask =
       of-two (λ c. capped m (map (λ x. x + 1) (reset mask (capped m c))) ≡ capped m (map (λ x. x + 1) (reset mask c)))
-        (λ x y. ap₂ (λ (u v : ℕ). u ∷ v ∷ []) (min-ticked (eqb (mask % 2) 1) x (cap m 0)) (min-ticked (eqb (mask / 2 % 2) 1) y (cap m 1)))
+      (λ x y. ap₂ (λ (u v : ℕ). u ∷ v ∷ []) (min-ticked (eqb (mask % 2) 1) x (cap m 0)) (min-ticked (eqb (mask / 2 % 2) 1) y (cap m 1)))
 
   -- two outcomes of a move that are written alike after the tick
   abbrev Alike : Option Situation → Option Situation → Type 0
@@ -118,7 +118,7 @@ module _ {m : Monitor} (sane : Sane m) (s : Situation) (two : TwoClocks (s .cloc
   unfolding sent fires bind
   alike-sent j k =
       alike-cond m (eqb (s .air) 0) (Option·map (sending m k) (fires m j k (configOf (written m s)))) (Option·map (sending m k) (fires m j k (configOf s)))
-        (on (getElem? (m .transitions) j) (alike-fired j k))
+      (on (getElem? (m .transitions) j) (alike-fired j k))
     where
       on : (o : Option Transition) → ((t : Transition) → o ≡ some t → Alike m (Option·map (sending m k) (outcome m k (configOf (written m s)) t)) (Option·map (sending m k) (outcome m k (configOf s) t))) → Alike m (Option·map (sending m k) (bind o (outcome m k (configOf (written m s))))) (Option·map (sending m k) (bind o (outcome m k (configOf s))))
       on none h = refl
@@ -137,7 +137,7 @@ module _ {m : Monitor} (sane : Sane m) (s : Situation) (two : TwoClocks (s .cloc
   alike-moved (some r) (add j) =
       let other : ℕ → Bool = λ k. toUnit m r && not (eqb k r) in
       alike-bind m (triggerOf m j) (λ k. cond (other k) (sent m j k (written m s)) none) (λ k. cond (other k) (sent m j k s) none)
-        (λ k. alike-cond m (other k) (sent m j k (written m s)) (sent m j k s) (alike-sent j k))
+      (λ k. alike-cond m (other k) (sent m j k (written m s)) (sent m j k s) (alike-sent j k))
 
   pub capped-step : (recorded : Option ℕ) (a : Move) → stepBy m (capped m) recorded (written m s) a ≡ Option·map (written m) (stepBy m uncapped recorded s a)
   unfolding stepBy
@@ -147,9 +147,9 @@ module _ {m : Monitor} (sane : Sane m) (s : Situation) (two : TwoClocks (s .cloc
   unfolding reset
   step-two-clocks recorded a e =
       every-step m uncapped s (λ x. TwoClocks (x .clocks))
-        (of-two (λ c. TwoClocks (map (λ x. x + 1) c)) (λ x y. refl) (s .clocks) two)
-        (λ j k t q. of-two (λ c. TwoClocks (map (λ x. x + 1) (reset (t .resets) c))) (λ x y. refl) (s .clocks) two)
-        recorded a e
+      (of-two (λ c. TwoClocks (map (λ x. x + 1) c)) (λ x y. refl) (s .clocks) two)
+      (λ j k t q. of-two (λ c. TwoClocks (map (λ x. x + 1) (reset (t .resets) c))) (λ x y. refl) (s .clocks) two)
+      recorded a e
 
 -- lists of moves: the general form starts at any instant, from the number of a situation with real clocks
 
@@ -178,20 +178,25 @@ module _ {m : Monitor} (sane : Sane m) (recording : List Packet) where
   pub on-numbers : (ks : List ℕ) (t : ℕ) (s z : Situation) → TwoClocks (s .clocks) → InRange m (written m s) → Moves m recording t s ks z → Leads (size m) moveLimit (stepNumber m recording) t (numberOf m s) ks (numberOf m z)
   on-numbers [] t s z two r e = ap (numberOf m) e
   on-numbers (k ∷ ks) t s z two r (x, few, e, more) =
-      let q : InRange m (written m x) = step-written (suc t) k s x two r e in
-      (numberOf m x, few, same-step (suc t) k s two r ∙ ap (Option·map (numberOf m)) e, number-below q,
-        on-numbers ks (suc t) x z (step-two-clocks sane s two _ _ e) q more)
+      let q : InRange m (written m x) = step-written (suc t) k s x two r e in (
+        numberOf m x,
+        few,
+        same-step (suc t) k s two r ∙ ap (Option·map (numberOf m)) e,
+        number-below q,
+        on-numbers ks (suc t) x z (step-two-clocks sane s two _ _ e) q more,
+      )
 
   pub with-clocks : (ks : List ℕ) (t : ℕ) (s : Situation) (z : ℕ) → TwoClocks (s .clocks) → InRange m (written m s) → Leads (size m) moveLimit (stepNumber m recording) t (numberOf m s) ks z → (y : Situation) × Moves m recording t s ks y × (numberOf m y ≡ z)
   with-clocks [] t s z two r e = (s, refl, e)
   with-clocks (k ∷ ks) t s z two r (n, few, e, below, more) =
       let (x, found, same) = map-eq-some-iff (numberOf m) (stepBy m uncapped (recordedAt recording (suc t)) s (moveOf k)) .0 (sym (same-step (suc t) k s two r) ∙ e) in
       let (y, moves, last) =
-          with-clocks ks (suc t) x z (step-two-clocks sane s two _ _ found) (step-written (suc t) k s x two r found)
-            (subst (λ (i : ℕ). Leads (size m) moveLimit (stepNumber m recording) (suc t) i ks z) (sym same) more) in
+      with-clocks ks (suc t) x z (step-two-clocks sane s two _ _ found) (step-written (suc t) k s x two r found)
+      (subst (λ (i : ℕ). Leads (size m) moveLimit (stepNumber m recording) (suc t) i ks z) (sym same) more) in
       (y, (x, few, found, moves), last)
 
   pub same-moves : (ks : List ℕ) → ((z : ℕ) × Leads (size m) moveLimit (stepNumber m recording) 0 (firstNumber m) ks z) ↔ ((z : Situation) × Moves m recording 0 (firstBy uncapped) ks z)
-  same-moves ks =
-      (λ h. let (y, moves, last) = with-clocks ks 0 (firstBy uncapped) (h .0) refl (first-in-range sane) (h .1) in (y, moves),
-      λ h. (numberOf m (h .0), on-numbers ks 0 (firstBy uncapped) (h .0) refl (first-in-range sane) (h .1)))
+  same-moves ks = (
+    λ h. let (y, moves, last) = with-clocks ks 0 (firstBy uncapped) (h .0) refl (first-in-range sane) (h .1) in (y, moves),
+    λ h. (numberOf m (h .0), on-numbers ks 0 (firstBy uncapped) (h .0) refl (first-in-range sane) (h .1)),
+  )

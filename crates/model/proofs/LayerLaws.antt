@@ -37,6 +37,7 @@ module _ (N K : ℕ) (step : ℕ → ℕ → ℕ → Option ℕ) where
     where
       Now : Type 0
       Now = (getD (spread N K step k t n s) z false ≡ true) ⊎ ((step t n k ≡ some z) × (z < length (spread N K step k t n s)))
+
       go : (getD (spread N K step k t n s) z false ≡ true) ↔ Spread k t n s z → (getD (spread N K step (suc k) t n s) z false ≡ true) ↔ Now
           → (getD (spread N K step (suc k) t n s) z false ≡ true) ↔ Spread (suc k) t n s z
       go before now = (λ e. last (now .0 e), back)
@@ -44,9 +45,11 @@ module _ (N K : ℕ) (step : ℕ → ℕ → ℕ → Option ℕ) where
           more : Spread k t n s z → Spread (suc k) t n s z
           more (inl e) = inl e
           more (inr w) = inr (w .0, omega (arith, w .1), w .2, w .3)
+
           last : Now → Spread (suc k) t n s z
           last (inl e) = more (before .0 e)
           last (inr w) = inr (k, omega arith, w .0, omega (arith, length-spread k t n s, w .1))
+
           back : Spread (suc k) t n s z → getD (spread N K step (suc k) t n s) z false ≡ true
           back (inl e) = now .1 (inl (before .1 (inl e)))
           back (inr w) = at (decLt (w .0) k)
@@ -86,6 +89,7 @@ module _ (N K : ℕ) (step : ℕ → ℕ → ℕ → Option ℕ) where
     where
       wider : Given m t s z → Given (suc m) t s z
       wider w = (w .0, w .1, omega (arith, w .2), w .3, w .4, w .5, w .6)
+
       go : (b : Bool) → getD s m false ≡ b → (getD (image N K step m t s) z false ≡ true) ↔ Given m t s z
           → (getD (image N K step (suc m) t s) z false ≡ true) ↔ Given (suc m) t s z
       go true e before = rw (image-in m t s e) (λ i. there (spread-member K t m (image N K step m t s) z .0 i), back)
@@ -93,6 +97,7 @@ module _ (N K : ℕ) (step : ℕ → ℕ → ℕ → Option ℕ) where
           there : Spread K t m (image N K step m t s) z → Given (suc m) t s z
           there (inl i) = wider (before .0 i)
           there (inr w) = (m, w .0, omega arith, e, w .1, w .2, omega (arith, w .3, length-image m t s))
+
           back : Given (suc m) t s z → getD (spread N K step K t m (image N K step m t s)) z false ≡ true
           back w = at (decLt (w .0) m)
             where
@@ -185,6 +190,7 @@ module _ (N K : ℕ) (step : ℕ → ℕ → ℕ → Option ℕ) where
       where
         u : ℕ
         u = lastInstant N K step first T
+
         go : (isEmpty (layer N K step first u) ≡ true) ⊎ (u ≡ 0 + T) → (count (layer N K step first u) ≡ 0) ⊎ (u ≡ T)
         go (inl e) = inl (eqb-true (count (layer N K step first u)) 0 e)
         go (inr e) = inr (omega arith)
@@ -207,8 +213,10 @@ module _ (N K : ℕ) (step : ℕ → ℕ → ℕ → Option ℕ) where
       where
         u : ℕ
         u = passing N K step first T budget
+
         c : FirstOf (λ t. ltb budget (total N K step first t)) (lastInstant N K step first T) 0 u
         c = passing-first T budget
+
         go : (ltb budget (total N K step first u) ≡ true) ⊎ (u ≡ 0 + lastInstant N K step first T) → budget < total N K step first u
         go (inl e) = ltb-true budget (total N K step first u) e
         go (inr e) = let p : u ≡ lastInstant N K step first T = omega arith in rw p h
@@ -226,6 +234,7 @@ module _ (N K : ℕ) (step : ℕ → ℕ → ℕ → Option ℕ) where
       where
         u : ℕ
         u = lastInstant N K step first T
+
         there : (count (layer N K step first u) ≡ 0) ⊎ (u ≡ T) → 0 < count (layer N K step first u)
             → (ks : List ℕ) × (z : ℕ) × (length ks ≡ T) × Leads N K step 0 first ks z
         there (inl e) p = absurd (omega arith)
@@ -233,6 +242,7 @@ module _ (N K : ℕ) (step : ℕ → ℕ → ℕ → Option ℕ) where
             let (z, l, m) = count-some (layer N K step first u) p in
             let (ks, o, c) = layer-leads first u z m in
             (ks, z, omega arith, c)
+
         back : (count (layer N K step first u) ≡ 0) ⊎ (u ≡ T) → (ks : List ℕ) × (z : ℕ) × (length ks ≡ T) × Leads N K step 0 first ks z
             → 0 < count (layer N K step first u)
         back (inl e) w =

@@ -31,9 +31,11 @@ module _ (N K : ℕ) (step : ℕ → ℕ → ℕ → Option ℕ) where
         where
           more : Enters s t n k → Enters s t n (suc k)
           more w = (w .0, w .1, omega (arith, w .2), w .3, w .4)
+
           there : (leads N K step s t n k ≡ true) ⊎ (leadsInto s (step t n k) ≡ true) → Enters s t n (suc k)
           there (inl e) = more (before .0 e)
           there (inr e) = let w = now .0 e in (k, w .0, omega arith, w .1, w .2)
+
           back : (w : Enters s t n (suc k)) → Dec (w .0 < k) → leads N K step s t n k || leadsInto s (step t n k) ≡ true
           back w (yes l) = or-left (leads N K step s t n k) (leadsInto s (step t n k)) (before .1 (w .0, w .1, l, w .3, w .4))
           back w (no l) =
@@ -95,6 +97,7 @@ module _ (N K : ℕ) (step : ℕ → ℕ → ℕ → Option ℕ) where
               let i : x < N = omega (arith, member-within (alive left (suc t)) x m, length-alive left (suc t)) in
               let (ks, z, o, c) = after x i .0 m in
               (j ∷ ks, z, omega arith, (x, l, p, i, c))
+
           back : (ks : List ℕ) (z : ℕ) → length ks ≡ suc left → Leads N K step t n ks z → getD (alive (suc left) t) n false ≡ true
           back [] z o c = absurd (omega arith)
           back (k ∷ ks) z o c =
@@ -112,9 +115,11 @@ module _ (N K : ℕ) (step : ℕ → ℕ → ℕ → Option ℕ) where
     where
       f : FirstOf (λ j. leadsInto s (step (suc t) n j)) K 0 (leastInto s t n)
       f = firstFrom-first (λ j. leadsInto s (step (suc t) n j)) K 0
+
       no-later : Dec (k < leastInto s t n) → leastInto s t n ≤ k
       no-later (yes h) = absurd (false≢true (sym (f .before k (omega arith) h) ∙ e))
       no-later (no h) = omega arith
+
       into : (leadsInto s (step (suc t) n (leastInto s t n)) ≡ true) ⊎ (leastInto s t n ≡ 0 + K)
           → (x : ℕ) × (leastInto s t n ≤ k) × (step (suc t) n (leastInto s t n) ≡ some x) × (getD s x false ≡ true)
       into (inl h) = let w = leadsInto-member s (step (suc t) n (leastInto s t n)) .0 h in (w .0, no-later (decLt k (leastInto s t n)), w .1, w .2)
@@ -165,11 +170,14 @@ module _ (N K : ℕ) (step : ℕ → ℕ → ℕ → Option ℕ) where
     where
       s : List Bool
       s = alive left (suc t)
+
       m : ℕ
       m = leastInto s t n
+
       same : (ls : List ℕ) → k ≡ m → (ks ≡ ls) ⊎ Less ls ks → (k ∷ ks ≡ m ∷ ls) ⊎ Less (m ∷ ls) (k ∷ ks)
       same ls r (inl b) = inl (cc)
       same ls r (inr b) = inr (inr (sym r, b))
+
       start : (y : ℕ) → m ≤ k → step (suc t) n m ≡ some y → getD s y false ≡ true
           → ((ls : List ℕ) (w : ℕ) → length ls ≡ left → Leads N K step (suc t) y ls w → Foremost (suc t) y (leastFrom left (suc t) y) ls)
           → Foremost t n (m ∷ leastFrom left (suc t) (arrived N K step (step (suc t) n m))) (k ∷ ks)

@@ -8,5 +8,10 @@ pub mod Capping
 pub mod Explained
 pub mod Ordered
 pub mod TraceMoves
+pub mod VerdictLaws
+pub mod WalkLaws
+pub mod MoveRows
+pub mod RowMoves
+pub mod Judgement
 pub mod Examples
 pub mod Counterexample

@@ -66,30 +66,31 @@ module _ {m : Monitor} {s : Situation} (r : InRange m s) where
       let q2 : n1 / m .states / 2 ^ (m .variables) ≡ n3 = ap (λ (x : ℕ). x / 2 ^ (m .variables)) q1 ∙ digit-div _ _ _ (r .variables) in
       let q3 : n1 / m .states / 2 ^ (m .variables) / (cap m 0 + 1) ≡ n4 = ap (λ (x : ℕ). x / (cap m 0 + 1)) q2 ∙ digit-div _ _ _ f in
       λ i.
-        record {
-          state = digit-mod (s .state) (m .states) n2 (r .state) i;
-          variables = (ap (λ (x : ℕ). x % 2 ^ (m .variables)) q1 ∙ digit-mod _ _ _ (r .variables)) i;
-          clocks =
-              (ap₂ (λ (x y : ℕ). x ∷ y ∷ [])
-                (ap (λ (x : ℕ). x % (cap m 0 + 1)) q2 ∙ digit-mod _ _ _ f)
-                (ap (λ (x : ℕ). x % (cap m 1 + 1)) q3 ∙ digit-mod _ _ _ g)
-              ∙ sym (r .clocks)) i;
-          air = (ap (λ (x : ℕ). x / (cap m 1 + 1)) q3 ∙ digit-div _ _ _ g) i;
-        }
+      record {
+        state = digit-mod (s .state) (m .states) n2 (r .state) i;
+        variables = (ap (λ (x : ℕ). x % 2 ^ (m .variables)) q1 ∙ digit-mod _ _ _ (r .variables)) i;
+        clocks =
+            (ap₂ (λ (x y : ℕ). x ∷ y ∷ [])
+            (ap (λ (x : ℕ). x % (cap m 0 + 1)) q2 ∙ digit-mod _ _ _ f)
+            (ap (λ (x : ℕ). x % (cap m 1 + 1)) q3 ∙ digit-mod _ _ _ g)
+            ∙ sym (r .clocks)) i;
+        air = (ap (λ (x : ℕ). x / (cap m 1 + 1)) q3 ∙ digit-div _ _ _ g) i;
+      }
 
 module _ {m : Monitor} (sane : Sane m) where
   pub forth : (n : ℕ) → n < size m → (number m (situationOf m n) ≡ n) × InRange m (situationOf m n)
   unfolding number situationOf size
-  forth n h =
-      (simp mod-add-div,
-      record {
-        state = mod-lt n (sane .states);
-        variables = mod-lt _ (pos-pow (m .variables));
-        clocks = refl;
-        first = omega (arith, mod-lt (n / m .states / 2 ^ (m .variables)) {m = cap m 0 + 1} (omega arith));
-        second = omega (arith, mod-lt (n / m .states / 2 ^ (m .variables) / (cap m 0 + 1)) {m = cap m 1 + 1} (omega arith));
-        air = omega (arith, rest-below _ (cap m 1 + 1) _ (omega arith) (rest-below _ (cap m 0 + 1) _ (omega arith) (rest-below _ _ _ (pos-pow (m .variables)) (rest-below _ _ _ (sane .states) h))));
-      })
+  forth n h = (
+    simp mod-add-div,
+    record {
+      state = mod-lt n (sane .states);
+      variables = mod-lt _ (pos-pow (m .variables));
+      clocks = refl;
+      first = omega (arith, mod-lt (n / m .states / 2 ^ (m .variables)) {m = cap m 0 + 1} (omega arith));
+      second = omega (arith, mod-lt (n / m .states / 2 ^ (m .variables) / (cap m 0 + 1)) {m = cap m 1 + 1} (omega arith));
+      air = omega (arith, rest-below _ (cap m 1 + 1) _ (omega arith) (rest-below _ (cap m 0 + 1) _ (omega arith) (rest-below _ _ _ (pos-pow (m .variables)) (rest-below _ _ _ (sane .states) h))));
+    },
+  )
 
 -- what a transition does with a packet of kind k
 abbrev pub outcome : Monitor → ℕ → Config → Transition → Option Config
@@ -123,36 +124,36 @@ module _ {B : Type 0} (P : B → Type 0) where
 
 -- before the tick, a step changes nothing, or fires one transition and takes the air: so what holds of both holds of its outcome
 module _
-  (m : Monitor) (write : List ℕ → List ℕ) (s : Situation) (P : Situation → Type 0)
-  (same : P (tick write s))
-  (fired : (j k : ℕ) (t : Transition) → getElem? (m .transitions) j ≡ some t → P (tick write (sending m k (after m t (configOf s)))))
+    (m : Monitor) (write : List ℕ → List ℕ) (s : Situation) (P : Situation → Type 0)
+    (same : P (tick write s))
+    (fired : (j k : ℕ) (t : Transition) → getElem? (m .transitions) j ≡ some t → P (tick write (sending m k (after m t (configOf s)))))
   where
-  abbrev Ticked : Situation → Type 0
-  Ticked y = P (tick write y)
+    abbrev Ticked : Situation → Type 0
+    Ticked y = P (tick write y)
 
-  every-sent : (j k : ℕ) → Every Ticked (sent m j k s)
-  unfolding sent fires
-  every-sent j k =
-      let Sent : Config → Type 0 = λ c. Ticked (sending m k c) in
-      every-cond Ticked (eqb (s .air) 0) (Option·map (sending m k) (fires m j k (configOf s)))
+    every-sent : (j k : ℕ) → Every Ticked (sent m j k s)
+    unfolding sent fires
+    every-sent j k =
+        let Sent : Config → Type 0 = λ c. Ticked (sending m k c) in
+        every-cond Ticked (eqb (s .air) 0) (Option·map (sending m k) (fires m j k (configOf s)))
         (every-map Ticked (sending m k) (fires m j k (configOf s))
-          (every-bind Sent (getElem? (m .transitions) j) (outcome m k (configOf s))
-            (λ t e. every-cond Sent (enabled t k (configOf s)) (some (after m t (configOf s))) (fired j k t e))))
+        (every-bind Sent (getElem? (m .transitions) j) (outcome m k (configOf s))
+        (λ t e. every-cond Sent (enabled t k (configOf s)) (some (after m t (configOf s))) (fired j k t e))))
 
-  every-moved : (recorded : Option ℕ) (a : Move) → Every Ticked (moved m recorded s a)
-  unfolding moved
-  every-moved none (keep j) = tt
-  every-moved none rest = same
-  every-moved none (add j) = every-bind Ticked (triggerOf m j) (λ k. sent m j k s) (λ k e. every-sent j k)
-  every-moved (some r) (keep j) = every-sent j r
-  every-moved (some r) rest = every-cond Ticked (toUnit m r) (some s) same
-  every-moved (some r) (add j) =
-      every-bind Ticked (triggerOf m j) (λ k. cond (toUnit m r && not (eqb k r)) (sent m j k s) none)
+    every-moved : (recorded : Option ℕ) (a : Move) → Every Ticked (moved m recorded s a)
+    unfolding moved
+    every-moved none (keep j) = tt
+    every-moved none rest = same
+    every-moved none (add j) = every-bind Ticked (triggerOf m j) (λ k. sent m j k s) (λ k e. every-sent j k)
+    every-moved (some r) (keep j) = every-sent j r
+    every-moved (some r) rest = every-cond Ticked (toUnit m r) (some s) same
+    every-moved (some r) (add j) =
+        every-bind Ticked (triggerOf m j) (λ k. cond (toUnit m r && not (eqb k r)) (sent m j k s) none)
         (λ k e. every-cond Ticked (toUnit m r && not (eqb k r)) (sent m j k s) (every-sent j k))
 
-  pub every-step : (recorded : Option ℕ) (a : Move) {x : Situation} → stepBy m write recorded s a ≡ some x → P x
-  unfolding stepBy
-  every-step recorded a e = every-some P _ (every-map P (tick write) (moved m recorded s a) (every-moved recorded a)) e
+    pub every-step : (recorded : Option ℕ) (a : Move) {x : Situation} → stepBy m write recorded s a ≡ some x → P x
+    unfolding stepBy
+    every-step recorded a e = every-some P _ (every-map P (tick write) (moved m recorded s a) (every-moved recorded a)) e
 
 -- the fields of a situation after a step
 
@@ -183,9 +184,9 @@ module _ {m : Monitor} (sane : Sane m) where
   pub step-in-range : (recorded : Option ℕ) (a : Move) {s x : Situation} → InRange m s → stepBy m (capped m) recorded s a ≡ some x → InRange m x
   step-in-range recorded a {s} r e =
       every-step m (capped m) s (InRange m)
-        (in-range m _ _ _ _ (r .state) (r .variables) (omega arith))
-        (λ j k t q. in-range m _ _ _ _ (sane .transition j t q .target) (changed-below _ _ _ _) (omega (arith, listed (m .airtimes) k)))
-        recorded a e
+      (in-range m _ _ _ _ (r .state) (r .variables) (omega arith))
+      (λ j k t q. in-range m _ _ _ _ (sane .transition j t q .target) (changed-below _ _ _ _) (omega (arith, listed (m .airtimes) k)))
+      recorded a e
 
   pub first-in-range : InRange m (firstBy (capped m))
   first-in-range = in-range m _ _ _ _ (sane .states) (pos-pow _) (omega arith)

@@ -66,8 +66,10 @@ mark-member s (some n) z = at (ℕ-discrete z n)
       where
         there : getD (set s n true) z false ≡ true → (getD s z false ≡ true) ⊎ ((some n ≡ some z) × (z < length s))
         there e = inr (cc, omega (arith, member-within (set s n true) z e, length-set s n true))
+
         same : z < length s → getD (set s n true) z false ≡ true
         same l = rw p (getD-set-same s n true false (omega arith))
+
         back : (getD s z false ≡ true) ⊎ ((some n ≡ some z) × (z < length s)) → getD (set s n true) z false ≡ true
         back (inl e) = same (member-within s z e)
         back (inr e) = same (e .1)
@@ -75,8 +77,10 @@ mark-member s (some n) z = at (ℕ-discrete z n)
       where
         other : getD (set s n true) z false ≡ getD s z false
         other = getD-set-other s n z true false p
+
         there : getD (set s n true) z false ≡ true → (getD s z false ≡ true) ⊎ ((some n ≡ some z) × (z < length s))
         there e = inl (sym other ∙ e)
+
         back : (getD s z false ≡ true) ⊎ ((some n ≡ some z) × (z < length s)) → getD (set s n true) z false ≡ true
         back (inl e) = other ∙ e
         back (inr e) = let q : z ≡ n = cc (e .0) in absurd (p q)
@@ -124,12 +128,14 @@ module _ (test : ℕ → Bool) where
         where
           r : ℕ
           r = firstFrom test n (suc t)
+
           earlier : (i : ℕ) → t ≤ i → i < r → test i ≡ false
           earlier i l h = at (ℕ-discrete i t)
             where
               at : Dec (i ≡ t) → test i ≡ false
               at (yes p) = rw p e
               at (no p) = c .before i (omega arith) h
+
           later : (test r ≡ true) ⊎ (r ≡ suc t + n) → (test r ≡ true) ⊎ (r ≡ t + suc n)
           later (inl p) = inl p
           later (inr p) = inr (omega arith)

@@ -266,9 +266,9 @@ module _ (m : Monitor) where
               let lost : Packet = record { time = suc t; kind = a } in
               x .mutation lost (recorded-member recording (suc t) a e) (omega arith)
               (λ l.
-                ⊎-elim (λ h. other (ap (λ (b : Packet). b .kind) h))
-                (λ i. omega (arith, ahead-time (freeAfter p) r after lost i))
-                (List·Memᴰ·cases-cons l))
+              ⊎-elim (λ h. other (ap (λ (b : Packet). b .kind) h))
+              (λ i. omega (arith, ahead-time (freeAfter p) r after lost i))
+              (List·Memᴰ·cases-cons l))
 
           sending : (n : ℕ) × (n < moveLimit) × (moved m (recordedAt recording (suc t)) s (moveOf n) ≡ sent m j (p .kind) s)
           sending = sends s j (p .kind) few trigger (recordedAt recording (suc t)) others

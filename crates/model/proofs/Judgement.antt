@@ -1,0 +1,190 @@
+-- Demand 3: the verdict of the definitions is right in the paper's words.
+use Prim.Native.Nat.{ℕ, zero, suc, _+_, _*_, _<_, _≤_}
+use native.Mathlib.Nat.{le-trans, not-le-of-lt}
+use native.Mathlib.Omega.{arith}
+use mathlib.Core.Path.{_≡_, refl, sym, ap, subst, _∙_}
+use mathlib.Core.Logic.{_↔_, _⊎_, inl, inr}
+use mathlib.Core.List.{List, [], _∷_}
+use mathlib.Core.Bool.{Bool, true, false}
+use mathlib.Core.Option.{none}
+use lib.ListN.{length}
+use lib.Dec.{eqb, ltb}
+use borrow.Author.Tests.{ltb-true, ltb-false, eqb-true, eqb-false}
+use Rattle.model.specs.Monitor.{Monitor}
+use Rattle.model.specs.Trace.{Packet, Possible}
+use Rattle.model.specs.Size.{size}
+use Rattle.model.specs.Recording.{endOf}
+use Rattle.model.specs.Witness.{Row}
+use Rattle.model.specs.Rules.{broken, begin, Permits}
+use Rattle.model.specs.Order.{Before, EndsBy, Preferred}
+use Rattle.model.specs.Situation.{firstBy, uncapped, moveLimit, stepNumber, firstNumber}
+use Rattle.model.specs.Layers.{count, cost, lastInstant, layer, isEmpty}
+use Rattle.model.specs.Validation.{rowsOf, movesOf, preferred, verdict, costOf, lastOf, passingOf, totalOf, possibleAfter}
+use Rattle.model.specs.Claims.{IsAccepted, IsRejected, IsExhausted, FirstEmpty, FirstPast, ValuesOf, Judged}
+use Rattle.model.specs.declared.Situation.{Situation}
+use Rattle.model.specs.declared.Verdict.{Verdict}
+use Rattle.model.specs.declared.Verdict.the-variants.{Accepted, Rejected, Exhausted, Refused}
+use Rattle.model.proofs.Chains.{Leads, Moves, Less, Sane, SaneRecording}
+use Rattle.model.proofs.LayerLaws.{reached, cost-le, last-le, last-before, last-end, passing-passes}
+use Rattle.model.proofs.LeastLaws.{least, length-least}
+use Rattle.model.proofs.Numbering.{first-number-below}
+use Rattle.model.proofs.Capping.{same-moves}
+use Rattle.model.proofs.Explained.{unbroken-formed, explained, explains-possible}
+use Rattle.model.proofs.Ordered.{rows-before}
+use Rattle.model.proofs.TraceMoves.{possible-moves}
+use Rattle.model.proofs.MoveRows.{moves-permitted, rows-short}
+use Rattle.model.proofs.RowMoves.{permitted-moves}
+
+-- the verdict by two tests: is the cost above the budget, and is no situation left
+abbrev verdict-by : Monitor → List Packet → ℕ → (over empty : Bool) → Verdict
+verdict-by m recording budget true empty = Exhausted budget (passingOf m recording budget)
+verdict-by m recording budget false true = Rejected (costOf m recording) (lastOf m recording)
+verdict-by m recording budget false false = Accepted (costOf m recording) (length (preferred m recording))
+
+verdict-is : (m : Monitor) (recording : List Packet) (budget : ℕ) (over empty : Bool)
+    → ltb budget (costOf m recording) ≡ over → isEmpty (possibleAfter m recording (lastOf m recording)) ≡ empty
+    → verdict m recording budget ≡ verdict-by m recording budget over empty
+unfolding verdict
+verdict-is m recording budget true empty p q = rw (p, verdict)
+verdict-is m recording budget false true p q = rw (p, q, verdict)
+verdict-is m recording budget false false p q = rw (p, q, verdict)
+
+module _ (m : Monitor) (recording : List Packet) (sane : Sane m) (sound : SaneRecording m recording) where
+  -- a list of moves, one for each instant, that can be carried with real clocks
+  abbrev Carried : Type 0
+  Carried = (ks : List ℕ) × (z : Situation) × (length ks ≡ endOf recording) × Moves m recording 0 (firstBy uncapped) ks z
+
+  -- how many situations are left at the last instant that counts
+  abbrev left : ℕ
+  left = count (possibleAfter m recording (lastOf m recording))
+
+  carried-possible : Carried → Possible m recording
+  carried-possible (ks, z, e, h) =
+      let rows : List Row = rowsOf m recording 1 ks in
+      let u : broken m (begin recording) 0 rows ≡ none = moves-permitted m recording sane sound ks z e h .0 in
+      explains-possible m recording rows (explained m recording rows (unbroken-formed m recording rows u) .0 u)
+
+  carried-left : Carried → 0 < left
+  carried-left (ks, z, e, h) =
+      let led = same-moves sane recording ks .1 (z, h) in
+      reached (size m) moveLimit (stepNumber m recording) (firstNumber m) (first-number-below sane) (endOf recording) .1 (ks, led .0, e, led .1)
+
+  left-carried : 0 < left → Carried
+  left-carried h =
+      let (ks, z, e, l) = reached (size m) moveLimit (stepNumber m recording) (firstNumber m) (first-number-below sane) (endOf recording) .0 h in
+      let r = same-moves sane recording ks .0 (z, l) in
+      (ks, r .0, e, r .1)
+
+  left-possible : (0 < left) ↔ Possible m recording
+  left-possible = (λ h. carried-possible (left-carried h), λ p. carried-left (possible-moves m recording sane sound p))
+
+  least-carried : Carried → (z : Situation) × Moves m recording 0 (firstBy uncapped) (movesOf m recording) z
+  least-carried (ks, z, e, h) =
+      let led = same-moves sane recording ks .1 (z, h) in
+      same-moves sane recording (movesOf m recording) .0
+      (least (size m) moveLimit (stepNumber m recording) (firstNumber m) (endOf recording) ks (led .0) e (led .1) .0)
+
+  short : length (preferred m recording) ≤ endOf recording + length recording
+  unfolding preferred
+  short =
+      let n = length-least (size m) moveLimit (stepNumber m recording) (firstNumber m) (endOf recording) in
+      let h = rows-short m recording sound (movesOf m recording) in
+      omega arith
+
+  -- every other permitted witness comes from moves that the least ones come before
+  before-others : Carried → (v : List Row) → Permits m recording v → EndsBy (endOf recording) v → (v ≡ preferred m recording → ⊥) → Before (preferred m recording) v
+  unfolding preferred
+  before-others c v p e other = by (permitted-moves m recording sane sound v (p .unbroken) e)
+    where
+      by : (ks : List ℕ) × (z : Situation) × (length ks ≡ endOf recording) × Moves m recording 0 (firstBy uncapped) ks z × (rowsOf m recording 1 ks ≡ v)
+          → Before (rowsOf m recording 1 (movesOf m recording)) v
+      by (ks, z, l, h, r) =
+          let led = same-moves sane recording ks .1 (z, h) in
+          decide (least (size m) moveLimit (stepNumber m recording) (firstNumber m) (endOf recording) ks (led .0) l (led .1) .1)
+        where
+          decide : (ks ≡ movesOf m recording) ⊎ Less (movesOf m recording) ks → Before (rowsOf m recording 1 (movesOf m recording)) v
+          decide (inl same) = absurd (other (sym r ∙ ap (rowsOf m recording 1) same))
+          decide (inr less) =
+              subst (λ (w : List Row). Before (rowsOf m recording 1 (movesOf m recording)) w) r
+              (rows-before m recording (movesOf m recording) ks (firstBy uncapped) (least-carried c .0) (firstBy uncapped) z (least-carried c .1) h less)
+
+  preferred-first : Carried → Preferred m recording (preferred m recording)
+  unfolding preferred
+  preferred-first c =
+      let n = length-least (size m) moveLimit (stepNumber m recording) (firstNumber m) (endOf recording) in
+      let w = least-carried c in
+      let p = moves-permitted m recording sane sound (movesOf m recording) (w .0) n (w .1) in
+      let few = sound .few in
+      let last = sound .last in
+      record {
+        permitted = record { fits = le-trans short (omega arith); unbroken = p .0 };
+        ends = p .1;
+        first = before-others c;
+      }
+
+  bounded : costOf m recording ≤ endOf recording * size m
+  bounded = cost-le (size m) moveLimit (stepNumber m recording) (firstNumber m) (endOf recording)
+
+  none-left : isEmpty (possibleAfter m recording (lastOf m recording)) ≡ true → Possible m recording → ⊥
+  none-left e p =
+      let h = left-possible .1 p in
+      let z = eqb-true left 0 e in
+      omega arith
+
+  some-left : isEmpty (possibleAfter m recording (lastOf m recording)) ≡ false → 0 < left
+  some-left e =
+      let z = eqb-false left 0 e in
+      omega arith
+
+  first-empty : isEmpty (possibleAfter m recording (lastOf m recording)) ≡ true → FirstEmpty m recording (lastOf m recording)
+  first-empty e =
+      record {
+        within = last-le (size m) moveLimit (stepNumber m recording) (firstNumber m) (endOf recording);
+        empty = eqb-true left 0 e;
+        before = last-before (size m) moveLimit (stepNumber m recording) (firstNumber m) (endOf recording);
+      }
+
+  first-past : (budget : ℕ) → budget < costOf m recording → FirstPast m recording budget (passingOf m recording budget)
+  first-past budget h =
+      let (w, p, b) = passing-passes (size m) moveLimit (stepNumber m recording) (firstNumber m) (endOf recording) budget h in
+      record { within = w; past = p; before = b }
+
+  by-tests : (budget : ℕ) (over empty : Bool) → ltb budget (costOf m recording) ≡ over
+      → isEmpty (possibleAfter m recording (lastOf m recording)) ≡ empty → Judged m recording budget (verdict-by m recording budget over empty)
+  by-tests budget true empty p q =
+      let h : budget < costOf m recording = ltb-true budget (costOf m recording) p in
+      record {
+        exhausted = (λ _. h, λ _. tt);
+        accepted = λ within. absurd (not-le-of-lt h within);
+        rejected = λ within. absurd (not-le-of-lt h within);
+        valued = (refl, first-past budget h);
+        witnessed = λ x. absurd x;
+        short = short;
+        bounded = bounded;
+      }
+  by-tests budget false true p q =
+      let h : costOf m recording ≤ budget = ltb-false budget (costOf m recording) p in
+      record {
+        exhausted = (λ x. absurd x, λ above. absurd (not-le-of-lt above h));
+        accepted = λ _. (λ x. absurd x, λ possible. none-left q possible);
+        rejected = λ _. (λ _. none-left q, λ _. tt);
+        valued = (refl, first-empty q);
+        witnessed = λ x. absurd x;
+        short = short;
+        bounded = bounded;
+      }
+  by-tests budget false false p q =
+      let h : costOf m recording ≤ budget = ltb-false budget (costOf m recording) p in
+      record {
+        exhausted = (λ x. absurd x, λ above. absurd (not-le-of-lt above h));
+        accepted = λ _. (λ _. left-possible .0 (some-left q), λ _. tt);
+        rejected = λ _. (λ x. absurd x, λ never. never (left-possible .0 (some-left q)));
+        valued = (refl, refl);
+        witnessed = λ _. preferred-first (left-carried (some-left q));
+        short = short;
+        bounded = bounded;
+      }
+
+  pub judged : (budget : ℕ) → Judged m recording budget (verdict m recording budget)
+  judged budget =
+      subst (λ (v : Verdict). Judged m recording budget v) (sym (verdict-is m recording budget _ _ refl refl)) (by-tests budget _ _ refl refl)

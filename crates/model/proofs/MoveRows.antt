@@ -1,0 +1,472 @@
+-- The rows of moves. What a move and a tick make of a real situation, the rows of that move make of the checker's progress;
+-- so moves that can be carried to T give permitted rows. These are at most one for each instant and one for each recorded row.
+use Prim.Native.Nat.{ℕ, suc, _+_, _-_, _<_, _≤_}
+use native.Mathlib.Omega.{arith}
+use native.Mathlib.Decide.{ℕ-discrete}
+use mathlib.Core.Path.{_≡_, refl, sym, ap, subst, _∙_}
+use mathlib.Core.List.{List, [], _∷_, _++_, map, List·Memᴰ, List·Memᴰ·not-nil, List·Memᴰ·eq-of-singleton, List·Memᴰ·append-cases}
+use mathlib.Core.Bool.{Bool, true, false, cond, not, _&&_}
+use mathlib.Core.Option.{Option, none, some, Option·map, bind, Option·none-ne-some, Option·some-injective}
+use mathlib.Core.Logic.{⊎-elim}
+use lib.ListN.{length, length-append}
+use lib.Dec.{leb, eqb}
+use borrow.Author.Tests.{eqb-true, eqb-false, leb-true, leb-false, le-leb, lt-ltb, le-ltb, eq-eqb, ne-eqb}
+use Rattle.model.specs.Monitor.{Monitor, Config, wait, fires, toUnit, airtime}
+use Rattle.model.specs.Trace.{Packet, PacketTrace, Spaced}
+use Rattle.model.specs.Recording.{endOf, lastTime}
+use Rattle.model.specs.Witness.{Row, kept, removed, added, noTransition, inForm, follows, inPlace}
+use Rattle.model.specs.Rules.{Progress, begin, noneBefore, isNext, noneAt, others, sends, keeps, removes, adds, account, broken}
+use Rattle.model.specs.Order.{EndsBy}
+use Rattle.model.specs.Situation.{Move, keep, rest, add, moveOf, moved, sent, stepBy, tick, uncapped, firstBy, withAir, triggerOf, recordedAt}
+use Rattle.model.specs.Validation.{rowsBy, rowsOf, keptRow, removedRow, addedRow}
+use Rattle.model.specs.declared.Situation.{Situation}
+use Rattle.model.proofs.Basics.{both-true}
+use Rattle.model.proofs.Chains.{Moves, Sane, SaneRecording}
+
+-- the recorded rows still to come
+
+-- times rise, the first above t
+abbrev pub Rising : ℕ → List Packet → Type 0
+Rising t [] = Unit {0}
+Rising t (p ∷ ps) = (t < p .time) × Rising (p .time) ps
+
+abbrev Within : ℕ → List Packet → Type 0
+Within last [] = Unit {0}
+Within last (p ∷ ps) = (p .time ≤ last) × Within last ps
+
+-- left is what is recorded after instant t, and none of it after T
+pub record Ahead (recording : List Packet) (t : ℕ) (left : List Packet) : Type 0 where
+  pub rising : Rising t left
+  pub within : Within (endOf recording) left
+  pub same : (u : ℕ) → t < u → recordedAt recording u ≡ recordedAt left u
+
+spaced-rising : (m : Monitor) (p : Packet) (ps : List Packet) → Spaced m p ps → Rising (p .time) ps
+spaced-rising m p [] h = tt
+spaced-rising m p (q ∷ ps) h = (omega arith, spaced-rising m q ps (h .1))
+
+within-end : (t : ℕ) (l : List Packet) → Rising t l → Within (endOf l) l
+unfolding endOf
+within-end t [] h = tt
+within-end t (p ∷ []) h = (omega arith, tt)
+within-end t (p ∷ q ∷ l) h = let w : Within (endOf (q ∷ l)) (q ∷ l) = within-end (p .time) (q ∷ l) (h .1) in (omega arith, w)
+
+ahead-first : (m : Monitor) (recording : List Packet) → PacketTrace m recording → Ahead recording 0 recording
+ahead-first m recording h = record { rising = from recording h; within = within-end 0 recording (from recording h); same = λ u l. refl }
+  where
+    from : (l : List Packet) → PacketTrace m l → Rising 0 l
+    from [] g = tt
+    from (p ∷ ps) g = (omega arith, spaced-rising m p ps (g .1))
+
+recorded-first : (p : Packet) (ps : List Packet) (t : ℕ) → p .time ≡ t → recordedAt (p ∷ ps) t ≡ some (p .kind)
+unfolding recordedAt
+recorded-first p ps t e = rw (eq-eqb (p .time) t e, recordedAt)
+
+recorded-later : (p : Packet) (ps : List Packet) (t : ℕ) → (p .time ≡ t → ⊥) → recordedAt (p ∷ ps) t ≡ recordedAt ps t
+unfolding recordedAt
+recorded-later p ps t e = rw (ne-eqb (p .time) t e, recordedAt)
+
+recorded-before : (t : ℕ) (l : List Packet) (u : ℕ) → Rising t l → u ≤ t → recordedAt l u ≡ none
+unfolding recordedAt
+recorded-before t [] u h g = refl
+recorded-before t (p ∷ l) u h g = recorded-later p l u (omega arith) ∙ recorded-before (p .time) l u (h .1) (omega arith)
+
+-- at instant t + 1 nothing is recorded, or the first of those to come
+pub data Coming (recording : List Packet) (t : ℕ) (left : List Packet) : Type 0 where
+  quiet : recordedAt recording (suc t) ≡ none → Ahead recording (suc t) left → Coming recording t left
+  heard : (k : ℕ) (others : List Packet) → recordedAt recording (suc t) ≡ some k → left ≡ record { time = suc t; kind = k } ∷ others
+      → Ahead recording (suc t) others → Coming recording t left
+
+pub coming : (recording : List Packet) (t : ℕ) (left : List Packet) → Ahead recording t left → Coming recording t left
+unfolding recordedAt
+coming recording t [] a = quiet (a .same (suc t) (omega arith)) (record { rising = tt; within = tt; same = λ u l. a .same u (omega arith) })
+coming recording t (p ∷ ps) a = go (ℕ-discrete (p .time) (suc t))
+  where
+    go : Dec (p .time ≡ suc t) → Coming recording t (p ∷ ps)
+    go (yes e) =
+        heard (p .kind) ps (a .same (suc t) (omega arith) ∙ recorded-first p ps (suc t) e)
+        (λ i. record { time = e i; kind = p .kind } ∷ ps)
+        (record {
+          rising = rw e at (a .rising .1);
+          within = a .within .1;
+          same = λ u l. a .same u (omega arith) ∙ recorded-later p ps u (omega arith);
+        })
+    go (no n) =
+        let l : suc t < p .time = omega (arith, a .rising .0) in
+        quiet (a .same (suc t) (omega arith) ∙ recorded-before (suc t) (p ∷ ps) (suc t) (l, a .rising .1) (omega arith))
+        (record { rising = (l, a .rising .1); within = a .within; same = λ u g. a .same u (omega arith) })
+
+-- few rows
+
+kept-few : (t : ℕ) (o : Option ℕ) (j : ℕ) → length (keptRow t o j) ≤ 1
+kept-few t none j = omega arith
+kept-few t (some k) j = omega arith
+
+added-few : (t : ℕ) (o : Option ℕ) (j : ℕ) → length (addedRow t o j) ≤ 1
+added-few t none j = omega arith
+added-few t (some k) j = omega arith
+
+rows-by-few : (m : Monitor) (recorded : Option ℕ) (t : ℕ) (a : Move) → length (rowsBy m recorded t a) ≤ 1 + length (removedRow t recorded)
+unfolding rowsBy
+rows-by-few m recorded t (keep j) = omega (arith, kept-few t recorded j)
+rows-by-few m recorded t rest = omega arith
+rows-by-few m recorded t (add j) = simp length-append (omega (arith, added-few t (triggerOf m j) j))
+
+rows-few : (m : Monitor) (recording : List Packet) (t : ℕ) (left : List Packet) (ks : List ℕ) → Ahead recording t left
+    → length (rowsOf m recording (suc t) ks) ≤ length ks + length left
+unfolding rowsOf
+rows-few m recording t left [] a = omega arith
+rows-few m recording t left (k ∷ ks) a =
+    simp length-append (go (λ l b. rows-few m recording (suc t) l ks b) (coming recording t left a))
+  where
+    go : ((l : List Packet) → Ahead recording (suc t) l → length (rowsOf m recording (suc (suc t)) ks) ≤ length ks + length l)
+        → Coming recording t left
+        → length (rowsBy m (recordedAt recording (suc t)) (suc t) (moveOf k)) + length (rowsOf m recording (suc (suc t)) ks) ≤ suc (length ks) + length left
+    go again (quiet e b) = rw e (omega (arith, again left b, rows-by-few m none (suc t) (moveOf k)))
+    go again (heard h l e f b) = rw e (omega (arith, again l b, rows-by-few m (some h) (suc t) (moveOf k), ap length f))
+
+pub rows-short : (m : Monitor) (recording : List Packet) → SaneRecording m recording → (ks : List ℕ) → length (rowsOf m recording 1 ks) ≤ length ks + length recording
+rows-short m recording h ks = rows-few m recording 0 recording ks (ahead-first m recording (h .trace))
+
+-- a progress and the situation just before instant t + 1
+
+abbrev pub situationAt : ℕ → Progress → Situation
+situationAt t p = withAir (wait (suc t - p .now) (p .config)) (p .free - suc t)
+
+-- the row before is not after t
+abbrev Past : ℕ → Option Row → Type 0
+Past t none = Unit {0}
+Past t (some r) = r .time ≤ t
+
+-- the rows up to instant t have come to p
+pub record Tied (recording : List Packet) (t : ℕ) (p : Progress) : Type 0 where
+  pub early : p .now ≤ t
+  pub past : Past t (p .before)
+  pub ahead : Ahead recording t (p .left)
+
+pub tied-first : (m : Monitor) (recording : List Packet) → SaneRecording m recording → Tied recording 0 (begin recording)
+tied-first m recording h = record { early = omega arith; past = tt; ahead = ahead-first m recording (h .trace) }
+
+-- waiting goes on: a tick later the clocks read one more
+tick-later : (t : ℕ) (p : Progress) → p .now ≤ t → tick uncapped (situationAt t p) ≡ situationAt (suc t) p
+tick-later t p h =
+    λ i. record {
+      state = p .config .state;
+      variables = p .config .variables;
+      clocks = clocks (p .config .clocks) i;
+      air = air i;
+    }
+  where
+    clocks : (l : List ℕ) → map (λ x. x + 1) (map (λ x. x + (suc t - p .now)) l) ≡ map (λ x. x + (suc (suc t) - p .now)) l
+    clocks [] = refl
+    clocks (c ∷ l) = λ i. (let e : c + (suc t - p .now) + 1 ≡ c + (suc (suc t) - p .now) = omega arith in e i) ∷ clocks l i
+
+    air : p .free - suc t - 1 ≡ p .free - suc (suc t)
+    air = omega arith
+
+module _ {A B C : Type 0} (f : A → C) (g : B → C) where
+  map-cond : (b : Bool) (x : Option A) (y : Option B) → Option·map f x ≡ Option·map g y → Option·map f (cond b x none) ≡ Option·map g (cond b y none)
+  map-cond true x y e = e
+  map-cond false x y e = refl
+
+pub cond-some : {A : Type 0} (b : Bool) (x : Option A) (a : A) → cond b x none ≡ some a → (b ≡ true) × (x ≡ some a)
+cond-some true x a e = (refl, e)
+cond-some false x a e = absurd (Option·none-ne-some a e)
+
+-- the air is free at instant t + 1
+air-free : (free t : ℕ) → eqb (free - suc t) 0 ≡ leb free (suc t)
+air-free free t = go (leb free (suc t)) refl
+  where
+    go : (b : Bool) → leb free (suc t) ≡ b → eqb (free - suc t) 0 ≡ b
+    go true e = eq-eqb (free - suc t) 0 (omega (arith, leb-true free (suc t) e))
+    go false e = ne-eqb (free - suc t) 0 (omega (arith, leb-false free (suc t) e))
+
+-- one instant
+
+abbrev pub marked : ℕ → ℕ → ℕ → ℕ → Row
+marked mark t k j = record { mark = mark; time = t; kind = k; transition = j }
+
+-- what rows come to, none where one breaks a rule
+unfoldable pub accounts : Monitor → Progress → List Row → Option Progress
+accounts m p [] = some p
+accounts m p (r ∷ rs) = bind (account m p r) (λ q. accounts m q rs)
+
+-- the progress after the next recorded row is removed at instant t
+abbrev without : Progress → ℕ → ℕ → Progress
+without p t k = record { before = some (marked removed t k noTransition); left = others (p .left); now = p .now; config = p .config; free = p .free }
+
+-- the progress after a row is sent
+abbrev sending : Monitor → Row → List Packet → Config → Progress
+sending m r left c = record { before = some r; left = left; now = r .time; config = c; free = r .time + airtime m (r .kind) + 1 }
+
+pub sends-fires : (m : Monitor) (p : Progress) (r : Row) (left : List Packet) (q : Progress) → sends m p r left ≡ some q
+    → (c : Config) × (fires m (r .transition) (r .kind) (wait (r .time - p .now) (p .config)) ≡ some c) × (sending m r left c ≡ q)
+unfolding sends
+sends-fires m p r left q e = go (fires m (r .transition) (r .kind) (wait (r .time - p .now) (p .config))) refl (cond-some (leb (p .free) (r .time)) _ q e .1)
+  where
+    go : (o : Option Config) → fires m (r .transition) (r .kind) (wait (r .time - p .now) (p .config)) ≡ o → Option·map (sending m r left) o ≡ some q
+        → (c : Config) × (fires m (r .transition) (r .kind) (wait (r .time - p .now) (p .config)) ≡ some c) × (sending m r left c ≡ q)
+    go none f h = absurd (Option·none-ne-some q h)
+    go (some c) f h = (c, f, Option·some-injective (sending m r left c) q h)
+
+module _ (m : Monitor) (t : ℕ) where
+  -- sending at instant t + 1
+  sent-sends : (p : Progress) (mark k j : ℕ) (left : List Packet)
+      → Option·map (tick uncapped) (sent m j k (situationAt t p)) ≡ Option·map (situationAt (suc t)) (sends m p (marked mark (suc t) k j) left)
+  unfolding sent sends
+  sent-sends p mark k j left = rw (air-free (p .free) t) (map-cond (tick uncapped) (situationAt (suc t)) (leb (p .free) (suc t)) _ _ (go (fires m j k _)))
+    where
+      clock : 1 ≡ suc (suc t) - suc t
+      clock = omega arith
+
+      air : airtime m k + 1 - 1 ≡ suc t + airtime m k + 1 - suc (suc t)
+      air = omega arith
+
+      go : (o : Option Config)
+          → Option·map (tick uncapped) (Option·map (λ c. withAir c (airtime m k + 1)) o)
+          ≡ Option·map (situationAt (suc t)) (Option·map (sending m (marked mark (suc t) k j) left) o)
+      go none = refl
+      go (some c) = λ i. some (record { state = c .state; variables = c .variables; clocks = map (λ x. x + clock i) (c .clocks); air = air i })
+
+  sends-tied : (recording : List Packet) (p : Progress) (mark k j : ℕ) (left : List Packet) (q : Progress) → Ahead recording (suc t) left
+      → sends m p (marked mark (suc t) k j) left ≡ some q → Tied recording (suc t) q
+  sends-tied recording p mark k j left q a e =
+      subst (Tied recording (suc t)) (sends-fires m p (marked mark (suc t) k j) left q e .2) (record { early = omega arith; past = omega arith; ahead = a })
+
+-- a kept row is recorded, and an added one has its transition's trigger as its kind
+abbrev pub Fits : Monitor → Option ℕ → Move → Type 0
+Fits m none (keep j) = ⊥
+Fits m (some k) (keep j) = Unit {0}
+Fits m recorded rest = Unit {0}
+Fits m recorded (add j) = (a : ℕ) × (triggerOf m j ≡ some a)
+
+-- a move at instant t + 1 and a tick lead to the situation of what the rows of that move come to
+pub record Instant (m : Monitor) (recording : List Packet) (t : ℕ) (p : Progress) (recorded : Option ℕ) (a : Move) : Type 0 where
+  pub step : stepBy m uncapped recorded (situationAt t p) a ≡ Option·map (situationAt (suc t)) (accounts m p (rowsBy m recorded (suc t) a))
+  pub next : (q : Progress) → accounts m p (rowsBy m recorded (suc t) a) ≡ some q → Tied recording (suc t) q
+
+clear-of : (t u : ℕ) (l : List Packet) → Rising u l → t ≤ u → noneBefore l (suc t) ≡ true
+clear-of t u [] h g = refl
+clear-of t u (p ∷ l) h g = le-leb (suc t) (p .time) (omega arith)
+
+none-at : (t : ℕ) (l : List Packet) → Rising t l → noneAt l t ≡ true
+none-at t [] h = refl
+none-at t (p ∷ l) h = rw (ne-eqb (p .time) t (omega arith))
+
+past-later : (t : ℕ) (o : Option Row) → Past t o → Past (suc t) o
+past-later t none h = tt
+past-later t (some r) h = omega arith
+
+pub one-row : (m : Monitor) (p : Progress) (r : Row) → accounts m p (r ∷ []) ≡ account m p r
+unfolding accounts bind
+one-row m p r = go (account m p r)
+  where
+    go : (o : Option Progress) → bind o some ≡ o
+    go none = refl
+    go (some q) = refl
+
+module _ (m : Monitor) (recording : List Packet) (t : ℕ) (p : Progress) (limit : suc t ≤ lastTime) (tied : Tied recording t p) where
+  formed : leb 1 (suc t) && leb (suc t) lastTime && true ≡ true
+  formed = rw (le-leb 1 (suc t) (omega arith), le-leb (suc t) lastTime limit)
+
+  in-place : (mark k j : ℕ) → inForm (marked mark (suc t) k j) ≡ true → inPlace (p .before) (marked mark (suc t) k j) ≡ true
+  unfolding follows
+  in-place mark k j f = go (p .before) (tied .past)
+    where
+      go : (o : Option Row) → Past t o → inPlace o (marked mark (suc t) k j) ≡ true
+      go none h = f
+      go (some r) h = both-true (inForm (marked mark (suc t) k j)) (follows r (marked mark (suc t) k j)) f (rw (lt-ltb (r .time) (suc t) (omega arith)))
+
+  -- a row in form at instant t + 1: the rule for its mark is left
+  account-by : (mark k j : ℕ) → inForm (marked mark (suc t) k j) ≡ true
+      → account m p (marked mark (suc t) k j)
+      ≡ cond (eqb mark kept) (keeps m p (marked mark (suc t) k j))
+      (cond (eqb mark removed) (removes m p (marked mark (suc t) k j)) (adds m p (marked mark (suc t) k j)))
+  unfolding account
+  account-by mark k j f = rw (in-place mark k j f, clear-of t t (p .left) (tied .ahead .rising) (omega arith))
+
+  instant-by : (recorded : Option ℕ) (a : Move) (o : Option Progress) → accounts m p (rowsBy m recorded (suc t) a) ≡ o
+      → stepBy m uncapped recorded (situationAt t p) a ≡ Option·map (situationAt (suc t)) o → ((q : Progress) → o ≡ some q → Tied recording (suc t) q)
+      → Instant m recording t p recorded a
+  instant-by recorded a o e s n = record { step = s ∙ ap (Option·map (situationAt (suc t))) (sym e); next = λ q h. n q (sym e ∙ h) }
+
+  module _ (ahead : Ahead recording (suc t) (p .left)) where
+    account-added : (k j : ℕ) → account m p (marked added (suc t) k j) ≡ sends m p (marked added (suc t) k j) (p .left)
+    unfolding inForm adds
+    account-added k j = account-by added k j formed ∙ rw (none-at (suc t) (p .left) (ahead .rising))
+
+    quiet-instant : (a : Move) → Fits m none a → Instant m recording t p none a
+    unfolding accounts rowsBy stepBy moved bind
+    quiet-instant (keep j) f = absurd f
+    quiet-instant rest f =
+        instant-by none rest (some p) refl (ap {B = Option Situation} some (tick-later t p (tied .early)))
+        (λ q h. subst (Tied recording (suc t)) (Option·some-injective p q h)
+        (record { early = omega (arith, tied .early); past = past-later t (p .before) (tied .past); ahead = ahead }))
+    quiet-instant (add j) f =
+        instant-by none (add j) (sends m p (marked added (suc t) (f .0) j) (p .left))
+        (rw (f .1) (one-row m p (marked added (suc t) (f .0) j) ∙ account-added (f .0) j))
+        (rw (f .1) (sent-sends m t p added (f .0) j (p .left)))
+        (λ q h. sends-tied m t recording p added (f .0) j (p .left) q ahead h)
+
+  module _ (k : ℕ) (l : List Packet) (first : p .left ≡ record { time = suc t; kind = k } ∷ l) (a : Ahead recording (suc t) l) where
+    is-next : (mark j : ℕ) → isNext (p .left) (marked mark (suc t) k j) ≡ true
+    is-next mark j =
+        ap (λ x. isNext x (marked mark (suc t) k j)) first ∙ both-true (eqb (suc t) (suc t)) (eqb k k) (eq-eqb (suc t) (suc t) refl) (eq-eqb k k refl)
+
+    ahead-others : Ahead recording (suc t) (others (p .left))
+    ahead-others = subst (Ahead recording (suc t)) (sym (ap others first)) a
+
+    account-kept : (j : ℕ) → account m p (marked kept (suc t) k j) ≡ sends m p (marked kept (suc t) k j) (others (p .left))
+    unfolding inForm keeps
+    account-kept j = account-by kept k j formed ∙ rw (is-next kept j)
+
+    account-removed : account m p (marked removed (suc t) k noTransition) ≡ cond (toUnit m k) (some (without p (suc t) k)) none
+    unfolding inForm removes
+    account-removed = account-by removed k noTransition formed ∙ rw (is-next removed noTransition)
+
+    -- an added row behind the removed one
+    abbrev swap : ℕ → ℕ → Option Progress
+    swap b j = sends m (without p (suc t) k) (marked added (suc t) b j) (others (p .left))
+
+    -- it is of another kind
+    account-swapped : (b j : ℕ) → account m (without p (suc t) k) (marked added (suc t) b j) ≡ cond (not (eqb b k)) (swap b j) none
+    unfolding account adds inForm follows
+    account-swapped b j = rw (formed, le-ltb (suc t) (suc t) (omega arith), eq-eqb (suc t) (suc t) refl) (go (eqb b k) refl)
+      where
+        go : (x : Bool) → eqb b k ≡ x
+            → cond (not (eqb k b) && noneBefore (others (p .left)) (suc t)) (cond (noneAt (others (p .left)) (suc t)) (swap b j) none) none ≡ cond (not x) (swap b j) none
+        go true e = rw (eq-eqb k b (sym (eqb-true b k e)))
+        go false e =
+            rw (ne-eqb k b (λ h. eqb-false b k e (sym h)), clear-of t (suc t) (others (p .left)) (ahead-others .rising) (omega arith), none-at (suc t) (others (p .left)) (ahead-others .rising))
+
+    accounts-swapped : (b j : ℕ)
+        → accounts m p (marked removed (suc t) k noTransition ∷ marked added (suc t) b j ∷ []) ≡ cond (toUnit m k && not (eqb b k)) (swap b j) none
+    unfolding accounts bind
+    accounts-swapped b j = rw account-removed (go (toUnit m k))
+      where
+        go : (u : Bool)
+            → bind (cond u (some (without p (suc t) k)) none) (λ q. accounts m q (marked added (suc t) b j ∷ [])) ≡ cond (u && not (eqb b k)) (swap b j) none
+        go true = one-row m (without p (suc t) k) (marked added (suc t) b j) ∙ account-swapped b j
+        go false = refl
+
+    heard-instant : (b : Move) → Fits m (some k) b → Instant m recording t p (some k) b
+    unfolding rowsBy stepBy moved bind
+    heard-instant (keep j) f =
+        instant-by (some k) (keep j) (sends m p (marked kept (suc t) k j) (others (p .left))) (one-row m p (marked kept (suc t) k j) ∙ account-kept j)
+        (sent-sends m t p kept k j (others (p .left)))
+        (λ q h. sends-tied m t recording p kept k j (others (p .left)) q ahead-others h)
+    heard-instant rest f =
+        instant-by (some k) rest (cond (toUnit m k) (some (without p (suc t) k)) none) (one-row m p (marked removed (suc t) k noTransition) ∙ account-removed)
+        (map-cond (tick uncapped) (situationAt (suc t)) (toUnit m k) (some (situationAt t p)) (some (without p (suc t) k))
+        (ap {B = Option Situation} some (tick-later t p (tied .early))))
+        (λ q h. subst (Tied recording (suc t)) (Option·some-injective (without p (suc t) k) q (cond-some (toUnit m k) _ q h .1))
+        (record { early = omega (arith, tied .early); past = omega arith; ahead = ahead-others }))
+    heard-instant (add j) f =
+        instant-by (some k) (add j) (cond (toUnit m k && not (eqb (f .0) k)) (swap (f .0) j) none) (rw (f .1) (accounts-swapped (f .0) j))
+        (rw (f .1) (map-cond (tick uncapped) (situationAt (suc t)) (toUnit m k && not (eqb (f .0) k)) (sent m j (f .0) (situationAt t p)) (swap (f .0) j)
+        (sent-sends m t (without p (suc t) k) added (f .0) j (others (p .left)))))
+        (λ q h. sends-tied m t recording (without p (suc t) k) added (f .0) j (others (p .left)) q ahead-others (cond-some (toUnit m k && not (eqb (f .0) k)) _ q h .1))
+
+  pub instant : (a : Move) → Fits m (recordedAt recording (suc t)) a → Instant m recording t p (recordedAt recording (suc t)) a
+  instant a = go (coming recording t (p .left) (tied .ahead))
+    where
+      go : Coming recording t (p .left) → Fits m (recordedAt recording (suc t)) a → Instant m recording t p (recordedAt recording (suc t)) a
+      go (quiet e b) = rw e (quiet-instant b a)
+      go (heard k l e f b) = rw e (heard-instant k l f b a)
+
+-- from moves to rows
+
+-- an added row's transition has a trigger
+bound : (o : Option ℕ) (f : ℕ → Option Situation) (x : Situation) → Option·map (tick uncapped) (bind o f) ≡ some x → (a : ℕ) × (o ≡ some a)
+unfolding bind
+bound none f x e = absurd (Option·none-ne-some x e)
+bound (some a) f x e = (a, refl)
+
+fits-step : (m : Monitor) (recorded : Option ℕ) (s : Situation) (a : Move) (x : Situation) → stepBy m uncapped recorded s a ≡ some x → Fits m recorded a
+unfolding stepBy moved
+fits-step m none s (keep j) x e = Option·none-ne-some x e
+fits-step m (some k) s (keep j) x e = tt
+fits-step m recorded s rest x e = tt
+fits-step m none s (add j) x e = bound (triggerOf m j) _ x e
+fits-step m (some k) s (add j) x e = bound (triggerOf m j) _ x e
+
+removed-time : (recorded : Option ℕ) (t : ℕ) (r : Row) → List·Memᴰ r (removedRow t recorded) → r .time ≡ t
+removed-time none t r h = absurd (List·Memᴰ·not-nil h)
+removed-time (some k) t r h = ap (λ x. x .time) (List·Memᴰ·eq-of-singleton h)
+
+row-time : (m : Monitor) (recorded : Option ℕ) (t : ℕ) (a : Move) (r : Row) → List·Memᴰ r (rowsBy m recorded t a) → r .time ≡ t
+unfolding rowsBy
+row-time m none t (keep j) r h = absurd (List·Memᴰ·not-nil h)
+row-time m (some k) t (keep j) r h = ap (λ x. x .time) (List·Memᴰ·eq-of-singleton h)
+row-time m recorded t rest r h = removed-time recorded t r h
+row-time m recorded t (add j) r h = ⊎-elim (removed-time recorded t r) (added-time (triggerOf m j)) (List·Memᴰ·append-cases (removedRow t recorded) h)
+  where
+    added-time : (o : Option ℕ) → List·Memᴰ r (addedRow t o j) → r .time ≡ t
+    added-time none g = absurd (List·Memᴰ·not-nil g)
+    added-time (some k) g = ap (λ x. x .time) (List·Memᴰ·eq-of-singleton g)
+
+pub broken-next : (m : Monitor) (p : Progress) (r : Row) (q : Progress) → account m p r ≡ some q → (i : ℕ) (rs : List Row) → broken m p i (r ∷ rs) ≡ broken m q (suc i) rs
+unfolding broken
+broken-next m p r q e i rs = rw (e, broken)
+
+broken-end : (m : Monitor) (p : Progress) (i : ℕ) → p .left ≡ [] → broken m p i [] ≡ none
+unfolding broken
+broken-end m p i e = go (p .left) e
+  where
+    go : (l : List Packet) → l ≡ [] → _≡_ {A = Option ℕ} (elim l [ [] ↦ none | q ∷ qs ↦ some i ]) none
+    go l h = rw h
+
+broken-accounts : (m : Monitor) (more rows : List Row) (p q : Progress) → accounts m p rows ≡ some q → ((i : ℕ) → broken m q i more ≡ none)
+    → (i : ℕ) → broken m p i (rows ++ more) ≡ none
+unfolding accounts bind
+broken-accounts m more [] p q e h i = subst (λ x. broken m x i more ≡ none) (sym (Option·some-injective p q e)) (h i)
+broken-accounts m more (r ∷ rows) p q e h i = go (λ u g. broken-accounts m more rows u q g h (suc i)) (account m p r) refl e
+  where
+    go : ((u : Progress) → accounts m u rows ≡ some q → broken m u (suc i) (rows ++ more) ≡ none)
+        → (o : Option Progress) → account m p r ≡ o → bind o (λ u. accounts m u rows) ≡ some q → broken m p i (r ∷ rows ++ more) ≡ none
+    go again none f g = absurd (Option·none-ne-some q g)
+    go again (some u) f g = broken-next m p r u f i (rows ++ more) ∙ again u g
+
+-- after the last recorded time nothing is left
+all-past : (t last : ℕ) (l : List Packet) → Rising t l → Within last l → last ≤ t → l ≡ []
+all-past t last [] h w g = refl
+all-past t last (p ∷ l) h w g = absurd (omega arith)
+
+module _ (m : Monitor) (recording : List Packet) (sane : SaneRecording m recording) where
+  -- a move that can be carried: its rows are accounted for, and come to the situation after it
+  carried : (t : ℕ) (p : Progress) → Tied recording t p → suc t ≤ endOf recording → (a : Move) (x : Situation)
+      → stepBy m uncapped (recordedAt recording (suc t)) (situationAt t p) a ≡ some x
+      → (q : Progress) × (accounts m p (rowsBy m (recordedAt recording (suc t)) (suc t) a) ≡ some q) × (x ≡ situationAt (suc t) q) × Tied recording (suc t) q
+  carried t p tied l a x e = go (accounts m p (rowsBy m (recordedAt recording (suc t)) (suc t) a)) refl
+    where
+      now : Instant m recording t p (recordedAt recording (suc t)) a
+      now = instant m recording t p (omega (arith, sane .last)) tied a (fits-step m (recordedAt recording (suc t)) (situationAt t p) a x e)
+
+      go : (o : Option Progress) → accounts m p (rowsBy m (recordedAt recording (suc t)) (suc t) a) ≡ o
+          → (q : Progress) × (accounts m p (rowsBy m (recordedAt recording (suc t)) (suc t) a) ≡ some q) × (x ≡ situationAt (suc t) q) × Tied recording (suc t) q
+      go none f = absurd (Option·none-ne-some x (sym (now .step ∙ ap (Option·map (situationAt (suc t))) f) ∙ e))
+      go (some q) f =
+          (q, f, Option·some-injective x (situationAt (suc t) q) (sym e ∙ now .step ∙ ap (Option·map (situationAt (suc t))) f), now .next q f)
+
+  moves-rows : (ks : List ℕ) (t : ℕ) (p : Progress) (z : Situation) → length ks + t ≡ endOf recording → Tied recording t p
+      → Moves m recording t (situationAt t p) ks z
+      → ((i : ℕ) → broken m p i (rowsOf m recording (suc t) ks) ≡ none) × EndsBy (endOf recording) (rowsOf m recording (suc t) ks)
+  unfolding rowsOf
+  moves-rows [] t p z e tied moves =
+      (λ i. broken-end m p i (all-past t (endOf recording) (p .left) (tied .ahead .rising) (tied .ahead .within) (omega arith)), λ r h. absurd (List·Memᴰ·not-nil h))
+  moves-rows (k ∷ ks) t p z e tied moves =
+      let c = carried t p tied (omega arith) (moveOf k) (moves .0) (moves .2) in
+      let h = moves-rows ks (suc t) (c .0) z (omega arith) (c .3) (subst (λ x. Moves m recording (suc t) x ks z) (c .2) (moves .3)) in
+      (broken-accounts m (rowsOf m recording (suc (suc t)) ks) (rowsBy m (recordedAt recording (suc t)) (suc t) (moveOf k)) p (c .0) (c .1) (h .0), ends (h .1))
+    where
+      ends : EndsBy (endOf recording) (rowsOf m recording (suc (suc t)) ks)
+          → EndsBy (endOf recording) (rowsBy m (recordedAt recording (suc t)) (suc t) (moveOf k) ++ rowsOf m recording (suc (suc t)) ks)
+      ends h r g =
+          ⊎-elim (λ f. let l : r .time ≡ suc t = row-time m (recordedAt recording (suc t)) (suc t) (moveOf k) r f in omega arith) (h r)
+          (List·Memᴰ·append-cases (rowsBy m (recordedAt recording (suc t)) (suc t) (moveOf k)) g)
+
+pub moves-permitted : (m : Monitor) (recording : List Packet) → Sane m → SaneRecording m recording → (ks : List ℕ) (z : Situation)
+    → length ks ≡ endOf recording → Moves m recording 0 (firstBy uncapped) ks z
+    → (broken m (begin recording) 0 (rowsOf m recording 1 ks) ≡ none) × EndsBy (endOf recording) (rowsOf m recording 1 ks)
+moves-permitted m recording _ sane ks z e moves =
+    let h = moves-rows m recording sane ks 0 (begin recording) z (omega arith) (tied-first m recording sane) moves in
+    (h .0 0, h .1)

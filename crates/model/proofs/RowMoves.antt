@@ -1,0 +1,348 @@
+-- The moves of rows: permitted rows that end by T are those of moves that can be carried, one for each instant.
+use Prim.Native.Nat.{ℕ, zero, suc, _+_, _-_, _<_, _≤_}
+use native.Mathlib.Omega.{arith}
+use native.Mathlib.Decide.{ℕ-discrete}
+use mathlib.Core.Path.{_≡_, refl, sym, ap, ap₂, subst, _∙_}
+use mathlib.Core.List.{List, [], _∷_, _++_, List·Memᴰ, List·Memᴰ·head, Memᴰ·append-right}
+use mathlib.Core.Bool.{Bool, true, false, cond, not, _&&_, _||_, false≢true}
+use mathlib.Core.Option.{Option, none, some, Option·map, bind, Option·none-ne-some, Option·some-ne-none, Option·some-injective}
+use lib.ListN.{length, getElem?}
+use lib.Dec.{leb, ltb, eqb}
+use borrow.Author.Tests.{eqb-true, eqb-false, leb-true, ltb-true, lt-ltb, le-ltb, eq-eqb, ne-eqb}
+use Rattle.model.specs.Monitor.{Monitor, Config, Transition, after, wait, enabled, fires, toUnit}
+use Rattle.model.specs.Guard.{holds}
+use Rattle.model.specs.Trace.{Packet}
+use Rattle.model.specs.Recording.{endOf, lastTime}
+use Rattle.model.specs.Witness.{Row, kept, removed, added, noTransition, isRemoved, inForm, follows, inPlace}
+use Rattle.model.specs.Rules.{Progress, begin, noneBefore, isNext, noneAt, others, sends, keeps, removes, adds, account, broken}
+use Rattle.model.specs.Order.{EndsBy}
+use Rattle.model.specs.Situation.{Move, keep, rest, add, moveOf, moveLimit, transitionLimit, uncapped, firstBy, triggerOf, recordedAt}
+use Rattle.model.specs.Validation.{rowsBy, rowsOf}
+use Rattle.model.specs.declared.Situation.{Situation}
+use Rattle.model.proofs.Basics.{and-left, and-right, getElem-within}
+use Rattle.model.proofs.Chains.{Moves, Sane, SaneRecording}
+use Rattle.model.proofs.MoveRows.{Rising, Coming, quiet, heard, coming, Tied, tied-first, situationAt, marked, accounts, one-row, cond-some, sends-fires, broken-next, Fits, instant}
+
+-- numbers of moves
+
+keep-number : (j : ℕ) → j < transitionLimit → moveOf j ≡ keep j
+unfolding moveOf
+keep-number j h = rw (lt-ltb j 64 h)
+
+add-number : (j : ℕ) → moveOf (65 + j) ≡ add j
+unfolding moveOf
+add-number j =
+    rw (le-ltb (65 + j) 64 (omega arith), ne-eqb (65 + j) 64 (omega arith))
+    (ap add (let e : 65 + j - 65 ≡ j = omega arith in e))
+
+-- what a row that keeps the rules says
+
+four-true : (a b c d : Bool) → a && b && c && d ≡ true → (a ≡ true) × (b ≡ true) × (c ≡ true) × (d ≡ true)
+four-true a b c d e =
+    let f = and-left (a && b && c) d e in
+    let g = and-left (a && b) c f in
+    (and-left a b g, and-right a b g, and-right (a && b) c f, and-right (a && b && c) d e)
+
+record InForm (r : Row) : Type 0 where
+  mark : r .mark ≤ 2
+  time : 1 ≤ r .time
+  transition : r .mark ≡ removed → r .transition ≡ noTransition
+
+in-form : (o : Option Row) (r : Row) → inPlace o r ≡ true → InForm r
+unfolding inForm
+in-form o r e =
+    let f = four-true (leb (r .mark) 2) (leb 1 (r .time)) (leb (r .time) lastTime) (not (isRemoved r) || eqb (r .transition) noTransition) (form o e) in
+    record {
+      mark = leb-true (r .mark) 2 (f .0);
+      time = leb-true 1 (r .time) (f .1);
+      transition = λ h. eqb-true (r .transition) noTransition (rw (eq-eqb (r .mark) removed h) at (f .3));
+    }
+  where
+    form : (x : Option Row) → inPlace x r ≡ true → inForm r ≡ true
+    form none f = f
+    form (some p) f = and-left (inForm r) (follows p r) f
+
+-- the row behind another is later, or an added one at the time of a removed one
+data Behind (p r : Row) : Type 0 where
+  later : p .time < r .time → Behind p r
+  joined : p .time ≡ r .time → p .mark ≡ removed → r .mark ≡ added → Behind p r
+
+behind : (p r : Row) → follows p r ≡ true → Behind p r
+unfolding follows
+behind p r e = go (ltb (p .time) (r .time)) refl
+  where
+    go : (b : Bool) → ltb (p .time) (r .time) ≡ b → Behind p r
+    go true f = later (ltb-true (p .time) (r .time) f)
+    go false f =
+        let g = four-true (eqb (p .time) (r .time)) (isRemoved p) (eqb (r .mark) added) (not (eqb (p .kind) (r .kind))) (rw f at e) in
+        joined (eqb-true (p .time) (r .time) (g .0)) (eqb-true (p .mark) removed (g .1)) (eqb-true (r .mark) added (g .2))
+
+-- a kept or added row fires a transition with its kind
+record Sent (m : Monitor) (r : Row) (q : Progress) : Type 0 where
+  before : q .before ≡ some r
+  trigger : triggerOf m (r .transition) ≡ some (r .kind)
+
+fires-trigger : (m : Monitor) (j k : ℕ) (c d : Config) → fires m j k c ≡ some d → triggerOf m j ≡ some k
+unfolding fires bind
+fires-trigger m j k c d e = go (getElem? (m .transitions) j) e
+  where
+    go : (o : Option Transition) → bind o (λ t. cond (enabled t k c) (some (after m t c)) none) ≡ some d → Option·map (λ t. t .trigger) o ≡ some k
+    go none h = absurd (Option·none-ne-some d h)
+    go (some t) h =
+        ap {B = Option ℕ} some
+        (eqb-true (t .trigger) k (and-right (eqb (t .source) (c .state)) (eqb (t .trigger) k)
+        (and-left (eqb (t .source) (c .state) && eqb (t .trigger) k) (holds (t .guard) (c .variables) (c .clocks)) (cond-some (enabled t k c) _ d h .0))))
+
+sends-sent : (m : Monitor) (p : Progress) (r : Row) (left : List Packet) (q : Progress) → sends m p r left ≡ some q → Sent m r q
+sends-sent m p r left q e =
+    let h = sends-fires m p r left q e in
+    record { before = ap (λ x. x .before) (sym (h .2)); trigger = fires-trigger m (r .transition) (r .kind) (wait (r .time - p .now) (p .config)) (h .0) (h .1) }
+
+-- what a row is accounted for as
+data Accounted (m : Monitor) (p : Progress) (r : Row) (q : Progress) : Type 0 where
+  as-kept : r .mark ≡ kept → isNext (p .left) r ≡ true → Sent m r q → Accounted m p r q
+  as-removed : r .mark ≡ removed → isNext (p .left) r ≡ true → q .before ≡ some r → Accounted m p r q
+  as-added : r .mark ≡ added → noneAt (p .left) (r .time) ≡ true → Sent m r q → Accounted m p r q
+
+in-turn : (m : Monitor) (p : Progress) (r : Row) (q : Progress) → account m p r ≡ some q → (inPlace (p .before) r ≡ true) × (noneBefore (p .left) (r .time) ≡ true)
+unfolding account
+in-turn m p r q e =
+    let h = cond-some (inPlace (p .before) r && noneBefore (p .left) (r .time)) _ q e .0 in
+    (and-left (inPlace (p .before) r) (noneBefore (p .left) (r .time)) h, and-right (inPlace (p .before) r) (noneBefore (p .left) (r .time)) h)
+
+accounted : (m : Monitor) (p : Progress) (r : Row) (q : Progress) → account m p r ≡ some q → Accounted m p r q
+unfolding account keeps removes adds
+accounted m p r q e = go (eqb (r .mark) kept) refl (cond-some (inPlace (p .before) r && noneBefore (p .left) (r .time)) _ q e .1)
+  where
+    form : InForm r
+    form = in-form (p .before) r (in-turn m p r q e .0)
+
+    not-kept : (r .mark ≡ kept → ⊥) → (b : Bool) → isRemoved r ≡ b → cond b (removes m p r) (adds m p r) ≡ some q → Accounted m p r q
+    not-kept n true f h =
+        let x = cond-some (isNext (p .left) r && toUnit m (r .kind)) _ q h in
+        as-removed (eqb-true (r .mark) removed f) (and-left (isNext (p .left) r) (toUnit m (r .kind)) (x .0)) (ap (λ y. y .before) (sym (Option·some-injective _ q (x .1))))
+    not-kept n false f h =
+        let x = cond-some (noneAt (p .left) (r .time)) _ q h in
+        let g : r .mark ≡ removed → ⊥ = eqb-false (r .mark) removed f in
+        as-added (omega (arith, form .mark)) (x .0) (sends-sent m p r (p .left) q (x .1))
+
+    go : (b : Bool) → eqb (r .mark) kept ≡ b → cond b (keeps m p r) (cond (isRemoved r) (removes m p r) (adds m p r)) ≡ some q → Accounted m p r q
+    go true f h =
+        let x = cond-some (isNext (p .left) r) _ q h in
+        as-kept (eqb-true (r .mark) kept f) (x .0) (sends-sent m p r (others (p .left)) q (x .1))
+    go false f h = not-kept (eqb-false (r .mark) kept f) (isRemoved r) refl h
+
+-- rows that break no rule
+
+first-row : (m : Monitor) (p : Progress) (i : ℕ) (r : Row) (rs : List Row) → broken m p i (r ∷ rs) ≡ none
+    → (q : Progress) × (account m p r ≡ some q) × (broken m q (suc i) rs ≡ none)
+unfolding broken
+first-row m p i r rs e = go (account m p r) refl
+  where
+    go : (o : Option Progress) → account m p r ≡ o → (q : Progress) × (account m p r ≡ some q) × (broken m q (suc i) rs ≡ none)
+    go none f = absurd (Option·some-ne-none i (rw (f, broken) at e))
+    go (some q) f = (q, f, sym (broken-next m p r q f i rs) ∙ e)
+
+no-rows : (m : Monitor) (p : Progress) (i : ℕ) → broken m p i [] ≡ none → p .left ≡ []
+unfolding broken
+no-rows m p i e = go (p .left) e
+  where
+    go : (l : List Packet) → _≡_ {A = Option ℕ} (elim l [ [] ↦ none | q ∷ qs ↦ some i ]) none → l ≡ []
+    go [] h = refl
+    go (q ∷ l) h = absurd (Option·some-ne-none i h)
+
+abbrev StartsAfter : ℕ → List Row → Type 0
+StartsAfter t [] = Unit {0}
+StartsAfter t (r ∷ rs) = t < r .time
+
+next-row : (m : Monitor) (q : Progress) (r s : Row) (u : Progress) → q .before ≡ some r → account m q s ≡ some u → Behind r s
+next-row m q r s u b e = behind r s (and-right (inForm s) (follows r s) (subst (λ o. inPlace o s ≡ true) b (in-turn m q s u e .0)))
+
+-- only a removed row has another one at its time behind it
+starts-after : (m : Monitor) (q : Progress) (r : Row) (i : ℕ) (rs : List Row) → q .before ≡ some r → (r .mark ≡ removed → ⊥) → broken m q i rs ≡ none
+    → StartsAfter (r .time) rs
+starts-after m q r i [] b n e = tt
+starts-after m q r i (s ∷ rs) b n e = let x = first-row m q i s rs e in go (next-row m q r s (x .0) b (x .1))
+  where
+    go : Behind r s → r .time < s .time
+    go (later l) = l
+    go (joined f g h) = absurd (n g)
+
+trigger-number : (m : Monitor) → Sane m → (j k : ℕ) → triggerOf m j ≡ some k → j < transitionLimit
+trigger-number m table j k e = go (getElem? (m .transitions) j) refl e
+  where
+    go : (o : Option Transition) → getElem? (m .transitions) j ≡ o → Option·map (λ t. t .trigger) o ≡ some k → j < transitionLimit
+    go none f g = absurd (Option·none-ne-some k g)
+    go (some t) f g = omega (arith, table .few, getElem-within (m .transitions) j t f)
+
+not-next : (t : ℕ) (l : List Packet) (r : Row) → Rising t l → r .time ≤ t → isNext l r ≡ true → ⊥
+not-next t [] r h g e = false≢true e
+not-next t (p ∷ l) r h g e = let f : p .time ≡ r .time = eqb-true (p .time) (r .time) (and-left (eqb (p .time) (r .time)) (eqb (p .kind) (r .kind)) e) in omega arith
+
+as-marked : (r : Row) (mark t k j : ℕ) → r .mark ≡ mark → r .time ≡ t → r .kind ≡ k → r .transition ≡ j → marked mark t k j ≡ r
+as-marked r mark t k j a b c d = sym (λ i. marked (a i) (b i) (c i) (d i))
+
+-- the rows of instant t + 1 are those of one move there
+record Split (m : Monitor) (recording : List Packet) (t : ℕ) (p : Progress) (rows : List Row) : Type 0 where
+  move : ℕ
+  small : move < moveLimit
+  fits : Fits m (recordedAt recording (suc t)) (moveOf move)
+  next : Progress
+  comes : accounts m p (rowsBy m (recordedAt recording (suc t)) (suc t) (moveOf move)) ≡ some next
+  more : List Row
+  parts : rowsBy m (recordedAt recording (suc t)) (suc t) (moveOf move) ++ more ≡ rows
+  index : ℕ
+  unbroken : broken m next index more ≡ none
+  later : StartsAfter (suc t) more
+
+module _ (m : Monitor) (recording : List Packet) (table : Sane m) (t : ℕ) (p : Progress) (tied : Tied recording t p) where
+  split-by : (rows : List Row) (recorded : Option ℕ) (n : ℕ) (a : Move) → recordedAt recording (suc t) ≡ recorded → moveOf n ≡ a → n < moveLimit
+      → Fits m recorded a → (q : Progress) → accounts m p (rowsBy m recorded (suc t) a) ≡ some q
+      → (more : List Row) → rowsBy m recorded (suc t) a ++ more ≡ rows → (i : ℕ) → broken m q i more ≡ none → StartsAfter (suc t) more
+      → Split m recording t p rows
+  split-by rows recorded n a e f l g q c more r i u b =
+      record {
+        move = n;
+        small = l;
+        fits = rw (e, f) g;
+        next = q;
+        comes = rw (e, f) c;
+        more = more;
+        parts = rw (e, f) r;
+        index = i;
+        unbroken = u;
+        later = b;
+      }
+
+  -- no row where none is recorded
+  silent : (rows : List Row) (i : ℕ) → recordedAt recording (suc t) ≡ none → broken m p i rows ≡ none → StartsAfter (suc t) rows → Split m recording t p rows
+  unfolding accounts rowsBy moveOf
+  silent rows i e u b = split-by rows none 64 rest e refl (omega arith) tt p refl rows refl i u b
+
+  kept-first : (i : ℕ) (r : Row) (rs : List Row) (q : Progress) (k : ℕ) → recordedAt recording (suc t) ≡ some k → r .time ≡ suc t → r .kind ≡ k
+      → r .mark ≡ kept → account m p r ≡ some q → broken m q i rs ≡ none → Sent m r q → Split m recording t p (r ∷ rs)
+  unfolding rowsBy
+  kept-first i r rs q k e f g h c u s =
+      split-by (r ∷ rs) (some k) (r .transition) (keep (r .transition)) e (keep-number (r .transition) small) (omega (arith, small)) tt q
+      (one-row m p (marked kept (suc t) k (r .transition)) ∙ ap (account m p) same ∙ c) rs (ap (λ x. x ∷ rs) same) i u
+      (subst (λ x. StartsAfter x rs) f (starts-after m q r i rs (s .before) (omega arith) u))
+    where
+      small : r .transition < transitionLimit
+      small = trigger-number m table (r .transition) (r .kind) (s .trigger)
+
+      same : marked kept (suc t) k (r .transition) ≡ r
+      same = as-marked r kept (suc t) k (r .transition) h f g refl
+
+  added-first : (i : ℕ) (r : Row) (rs : List Row) (q : Progress) → recordedAt recording (suc t) ≡ none → r .time ≡ suc t
+      → r .mark ≡ added → account m p r ≡ some q → broken m q i rs ≡ none → Sent m r q → Split m recording t p (r ∷ rs)
+  unfolding rowsBy
+  added-first i r rs q e f h c u s =
+      split-by (r ∷ rs) none (65 + r .transition) (add (r .transition)) e (add-number (r .transition))
+      (omega (arith, trigger-number m table (r .transition) (r .kind) (s .trigger))) (r .kind, s .trigger) q
+      (rw (s .trigger) (one-row m p (marked added (suc t) (r .kind) (r .transition)) ∙ ap (account m p) same ∙ c)) rs (rw (s .trigger) (ap (λ x. x ∷ rs) same)) i u
+      (subst (λ x. StartsAfter x rs) f (starts-after m q r i rs (s .before) (omega arith) u))
+    where
+      same : marked added (suc t) (r .kind) (r .transition) ≡ r
+      same = as-marked r added (suc t) (r .kind) (r .transition) h f refl refl
+
+  removed-first : (i : ℕ) (r : Row) (rs : List Row) (q : Progress) (k : ℕ) → recordedAt recording (suc t) ≡ some k → r .time ≡ suc t → r .kind ≡ k
+      → r .mark ≡ removed → account m p r ≡ some q → q .before ≡ some r → broken m q i rs ≡ none → Split m recording t p (r ∷ rs)
+  unfolding rowsBy accounts bind moveOf
+  removed-first i r rs q k e f g h c b = go rs
+    where
+      same : marked removed (suc t) k noTransition ≡ r
+      same = as-marked r removed (suc t) k noTransition h f g (in-form (p .before) r (in-turn m p r q c .0) .transition h)
+
+      alone : (l : List Row) → broken m q i l ≡ none → StartsAfter (suc t) l → Split m recording t p (r ∷ l)
+      alone l u a =
+          split-by (r ∷ l) (some k) 64 rest e refl (omega arith) tt q (one-row m p (marked removed (suc t) k noTransition) ∙ ap (account m p) same ∙ c)
+          l (ap (λ x. x ∷ l) same) i u a
+
+      swapped : (s : Row) (l : List Row) (v : Progress) → account m q s ≡ some v → broken m v (suc i) l ≡ none → s .time ≡ suc t → s .mark ≡ added
+          → Sent m s v → Split m recording t p (r ∷ s ∷ l)
+      swapped s l v d u a n x =
+          split-by (r ∷ s ∷ l) (some k) (65 + s .transition) (add (s .transition)) e (add-number (s .transition))
+          (omega (arith, trigger-number m table (s .transition) (s .kind) (x .trigger))) (s .kind, x .trigger) v
+          (rw (x .trigger)
+          (ap₂ (λ y z. accounts m p (y ∷ z ∷ [])) same alike ∙ rw c (one-row m q s ∙ d)))
+          l (rw (x .trigger) (ap₂ (λ y z. y ∷ z ∷ l) same alike)) (suc i) u
+          (subst (λ y. StartsAfter y l) a (starts-after m v s (suc i) l (x .before) (omega arith) u))
+        where
+          alike : marked added (suc t) (s .kind) (s .transition) ≡ s
+          alike = as-marked s added (suc t) (s .kind) (s .transition) n a refl refl
+
+      second : (s : Row) (l : List Row) (v : Progress) → broken m q i (s ∷ l) ≡ none → account m q s ≡ some v → broken m v (suc i) l ≡ none
+          → Behind r s → Accounted m q s v → Split m recording t p (r ∷ s ∷ l)
+      second s l v u d w (later a) y = alone (s ∷ l) u (omega arith)
+      second s l v u d w (joined x n o) (as-kept y z a) = absurd (omega arith)
+      second s l v u d w (joined x n o) (as-removed y z a) = absurd (omega arith)
+      second s l v u d w (joined x n o) (as-added y z a) = swapped s l v d w (omega arith) o a
+
+      go : (l : List Row) → broken m q i l ≡ none → Split m recording t p (r ∷ l)
+      go [] u = alone [] u tt
+      go (s ∷ l) u =
+          let x = first-row m q i s l u in
+          second s l (x .0) u (x .1) (x .2) (next-row m q r s (x .0) b (x .1)) (accounted m q s (x .0) (x .1))
+
+  -- the kind of the next recorded row
+  next-kind : (r : Row) (k : ℕ) (l : List Packet) → p .left ≡ record { time = suc t; kind = k } ∷ l → isNext (p .left) r ≡ true → r .kind ≡ k
+  next-kind r k l e f = sym (eqb-true k (r .kind) (and-right (eqb (suc t) (r .time)) (eqb k (r .kind)) (subst (λ x. isNext x r ≡ true) e f)))
+
+  here : (i : ℕ) (r : Row) (rs : List Row) (q : Progress) → r .time ≡ suc t → account m p r ≡ some q → broken m q i rs ≡ none
+      → Coming recording t (p .left) → Accounted m p r q → Split m recording t p (r ∷ rs)
+  here i r rs q e c u (quiet f a) (as-kept g n s) = absurd (not-next (suc t) (p .left) r (a .rising) (omega arith) n)
+  here i r rs q e c u (quiet f a) (as-removed g n b) = absurd (not-next (suc t) (p .left) r (a .rising) (omega arith) n)
+  here i r rs q e c u (quiet f a) (as-added g n s) = added-first i r rs q f e g c u s
+  here i r rs q e c u (heard k l f x a) (as-kept g n s) = kept-first i r rs q k f e (next-kind r k l x n) g c u s
+  here i r rs q e c u (heard k l f x a) (as-removed g n b) = removed-first i r rs q k f e (next-kind r k l x n) g c b u
+  here i r rs q e c u (heard k l f x a) (as-added g n s) =
+      absurd (false≢true (sym (ap not (eq-eqb (suc t) (r .time) (sym e))) ∙ subst (λ y. noneAt y (r .time) ≡ true) x n))
+
+  split : (i : ℕ) (rows : List Row) → broken m p i rows ≡ none → StartsAfter t rows → Split m recording t p rows
+  split i [] u a = go (coming recording t (p .left) (tied .ahead))
+    where
+      go : Coming recording t (p .left) → Split m recording t p []
+      go (quiet e b) = silent [] i e u tt
+      go (heard k l e f b) = absurd (let z : _≡_ {A = ℕ} 0 1 = cc (no-rows m p i u) in omega arith)
+  split i (r ∷ rs) u a = go (ℕ-discrete (r .time) (suc t)) (coming recording t (p .left) (tied .ahead))
+    where
+      first : (q : Progress) × (account m p r ≡ some q) × (broken m q (suc i) rs ≡ none)
+      first = first-row m p i r rs u
+
+      go : Dec (r .time ≡ suc t) → Coming recording t (p .left) → Split m recording t p (r ∷ rs)
+      go (yes e) c = here (suc i) r rs (first .0) e (first .1) (first .2) c (accounted m p r (first .0) (first .1))
+      go (no n) (quiet e b) = silent (r ∷ rs) i e u (omega arith)
+      go (no n) (heard k l e f b) =
+          absurd
+          (let g : r .time ≤ suc t = leb-true (r .time) (suc t) (subst (λ y. noneBefore y (r .time) ≡ true) f (in-turn m p r (first .0) (first .1) .1)) in
+          omega arith)
+
+module _ (m : Monitor) (recording : List Packet) (table : Sane m) (sane : SaneRecording m recording) where
+  rows-moves : (left t : ℕ) (p : Progress) (i : ℕ) (rows : List Row) → left + t ≡ endOf recording → Tied recording t p → broken m p i rows ≡ none
+      → EndsBy (endOf recording) rows → StartsAfter t rows
+      → (ks : List ℕ) × (z : Situation) × (length ks ≡ left) × Moves m recording t (situationAt t p) ks z × (rowsOf m recording (suc t) ks ≡ rows)
+  unfolding rowsOf
+  rows-moves zero t p i [] e tied u ends a = ([], situationAt t p, refl, refl, refl)
+  rows-moves zero t p i (r ∷ rs) e tied u ends a = absurd (omega (arith, ends r (List·Memᴰ·head refl)))
+  rows-moves (suc left) t p i rows e tied u ends a =
+      let s = split m recording table t p tied i rows u a in
+      let now = instant m recording t p (omega (arith, sane .last)) tied (moveOf (s .move)) (s .fits) in
+      let x = rows-moves left (suc t) (s .next) (s .index) (s .more) (omega arith) (now .next (s .next) (s .comes)) (s .unbroken) (later-ends s) (s .later) in
+      (s .move ∷ x .0, x .1, ap suc (x .2), (situationAt (suc t) (s .next), s .small, now .step ∙ ap (Option·map (situationAt (suc t))) (s .comes), x .3), joins s (x .0) (x .4))
+    where
+      later-ends : (s : Split m recording t p rows) → EndsBy (endOf recording) (s .more)
+      later-ends s r h = ends r (subst (List·Memᴰ r) (s .parts) (Memᴰ·append-right (rowsBy m (recordedAt recording (suc t)) (suc t) (moveOf (s .move))) h))
+
+      joins : (s : Split m recording t p rows) (ks : List ℕ) → rowsOf m recording (suc (suc t)) ks ≡ s .more
+          → rowsBy m (recordedAt recording (suc t)) (suc t) (moveOf (s .move)) ++ rowsOf m recording (suc (suc t)) ks ≡ rows
+      joins s ks h = ap (λ l. rowsBy m (recordedAt recording (suc t)) (suc t) (moveOf (s .move)) ++ l) h ∙ s .parts
+
+pub permitted-moves : (m : Monitor) (recording : List Packet) → Sane m → SaneRecording m recording → (rows : List Row)
+    → broken m (begin recording) 0 rows ≡ none → EndsBy (endOf recording) rows
+    → (ks : List ℕ) × (z : Situation) × (length ks ≡ endOf recording) × Moves m recording 0 (firstBy uncapped) ks z × (rowsOf m recording 1 ks ≡ rows)
+permitted-moves m recording table sane rows u ends =
+    rows-moves m recording table sane (endOf recording) 0 (begin recording) 0 rows (omega arith) (tied-first m recording sane) u ends (go rows u)
+  where
+    go : (l : List Row) → broken m (begin recording) 0 l ≡ none → StartsAfter 0 l
+    go [] h = tt
+    go (r ∷ l) h = let x = first-row m (begin recording) 0 r l h in in-form none r (in-turn m (begin recording) r (x .0) (x .1) .0) .time
