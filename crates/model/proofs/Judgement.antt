@@ -13,7 +13,8 @@ use borrow.Author.Tests.{ltb-true, ltb-false, eqb-true, eqb-false}
 use Rattle.model.specs.Monitor.{Monitor}
 use Rattle.model.specs.Trace.{Packet, Possible}
 use Rattle.model.specs.Size.{size}
-use Rattle.model.specs.Recording.{endOf}
+use Rattle.model.specs.Table.{monitorAt}
+use Rattle.model.specs.Recording.{SoundRecording, packetsAt, endOf}
 use Rattle.model.specs.Witness.{Row}
 use Rattle.model.specs.Rules.{broken, begin, Permits}
 use Rattle.model.specs.Order.{Before, EndsBy, Preferred}
@@ -25,6 +26,8 @@ use Rattle.model.specs.declared.Situation.{Situation}
 use Rattle.model.specs.declared.Verdict.{Verdict}
 use Rattle.model.specs.declared.Verdict.the-variants.{Accepted, Rejected, Exhausted, Refused}
 use Rattle.model.proofs.Chains.{Leads, Moves, Less, Sane, SaneRecording}
+use Rattle.model.proofs.TableForm.{sane-table}
+use Rattle.model.proofs.RecordingForm.{sound-table, sane-recording}
 use Rattle.model.proofs.LayerLaws.{reached, cost-le, last-le, last-before, last-end, passing-passes}
 use Rattle.model.proofs.LeastLaws.{least, length-least}
 use Rattle.model.proofs.Numbering.{first-number-below}
@@ -188,3 +191,9 @@ module _ (m : Monitor) (recording : List Packet) (sane : Sane m) (sound : SaneRe
   pub judged : (budget : ℕ) → Judged m recording budget (verdict m recording budget)
   judged budget =
       subst (λ (v : Verdict). Judged m recording budget v) (sym (verdict-is m recording budget _ _ refl refl)) (by-tests budget _ _ refl refl)
+
+-- demand 3 for bytes: a sound recording against its sound table
+pub sound-judged : (table recording : List ℕ) → SoundRecording table recording → (budget : ℕ)
+    → Judged (monitorAt table) (packetsAt recording) budget (verdict (monitorAt table) (packetsAt recording) budget)
+sound-judged table recording sound budget =
+    judged (monitorAt table) (packetsAt recording) (sane-table table (sound-table table recording sound)) (sane-recording table recording sound) budget

@@ -1,5 +1,12 @@
 pub mod Basics
 pub mod Chains
+pub mod Places
+pub mod Tests
+pub mod GuardForm
+pub mod TableForm
+pub mod TableTrip
+pub mod RecordingForm
+pub mod WitnessForm
 pub mod SetLaws
 pub mod LayerLaws
 pub mod LeastLaws
@@ -8,10 +15,10 @@ pub mod Capping
 pub mod Explained
 pub mod Ordered
 pub mod TraceMoves
-pub mod VerdictLaws
-pub mod WalkLaws
 pub mod MoveRows
 pub mod RowMoves
 pub mod Judgement
+pub mod VerdictLaws
+pub mod WalkLaws
 pub mod Examples
 pub mod Counterexample

@@ -1,0 +1,290 @@
+-- What sound table bytes ensure: of their counts and records, and of the monitor that they describe.
+use Prim.Native.Nat.{ℕ, zero, suc, _+_, _*_, _^_, _<_, _≤_}
+use native.Mathlib.Nat.{zero-add, add-zero}
+use native.Mathlib.Decide.{ℕ-discrete}
+use native.Mathlib.Omega.{arith}
+use mathlib.Core.Path.{_≡_, sym, ap, subst, _∙_}
+use mathlib.Core.List.{List, [], _∷_}
+use mathlib.Core.Bool.{Bool, true}
+use mathlib.Core.Option.{some}
+use lib.ListN.{length, take, drop, length-take, length-drop}
+use lib.Seq.{length-take-le}
+use lib.Dec.{leb, ltb, eqb}
+use Rattle.model.specs.Bytes.{byteAt, wordAt, tab, joined}
+use Rattle.model.specs.First.{unless, firstOf}
+use Rattle.model.specs.Guard.{upTo, guardAt, endsAt, guardOf}
+use Rattle.model.specs.Monitor.{Transition}
+use Rattle.model.specs.Size.{size, sizeLimit}
+use Rattle.model.specs.Table.{guardIn, transitionIn, monitorOf, statesAt, variablesAt, clocksAt, kindsAt, transitionsAt, tableCounts, kindRecord, kindRecords, apart, guardLengthAt, transitionFields, transitionRecord, transitionRecords, kindAt, transitionAt, guardPlace, tableParts, tableAnswer, SoundTable, monitorAt}
+use Rattle.model.specs.declared.Reading.{Reading}
+use Rattle.model.specs.declared.Reading.the-variants.{Sound}
+use Rattle.model.specs.declared.Refusal.the-variants.{TableFrame, TableVersion, TableCount, TableLength, TableField, TableGuard, TableSize}
+use Rattle.model.proofs.Basics.{unless-sound, length-tab, getElem-tab, getElem-within}
+use Rattle.model.proofs.Chains.{Sane, SaneTransition}
+use Rattle.model.proofs.Tests.{test, le-test, lt-test, eq-test}
+use Rattle.model.proofs.Places.{stands-part, length-padded, getD-padded, getD-column, length-joined, getD-joined}
+use Rattle.model.proofs.GuardForm.{closed-names, guard-names, guard-moved, moved-guard, ends-read}
+
+-- the limits of the counts
+pub record SoundCounts (b : List ℕ) : Type 0 where
+  pub states-some : 1 ≤ statesAt b
+  pub states : statesAt b ≤ 16
+  pub variables : variablesAt b ≤ 4
+  pub clocks : clocksAt b ≤ 2
+  pub kinds-some : 1 ≤ kindsAt b
+  pub kinds : kindsAt b ≤ 32
+  pub transitions : transitionsAt b ≤ 64
+
+counts : (b : List ℕ) → tableCounts b ≡ Sound → SoundCounts b
+unfolding tableCounts
+counts b e =
+    let l : List Reading =
+    unless (leb 1 (statesAt b)) (TableCount 3)
+    ∷ unless (leb (statesAt b) 16) (TableCount 3)
+    ∷ unless (leb (variablesAt b) 4) (TableCount 4)
+    ∷ unless (leb (clocksAt b) 2) (TableCount 5)
+    ∷ unless (leb 1 (kindsAt b)) (TableCount 6)
+    ∷ unless (leb (kindsAt b) 32) (TableCount 6)
+    ∷ unless (leb (transitionsAt b) 64) (TableCount 7)
+    ∷ []
+    in
+    record {
+      states-some = le-test _ _ (TableCount 3) (test l e 0);
+      states = le-test _ _ (TableCount 3) (test l e 1);
+      variables = le-test _ _ (TableCount 4) (test l e 2);
+      clocks = le-test _ _ (TableCount 5) (test l e 3);
+      kinds-some = le-test _ _ (TableCount 6) (test l e 4);
+      kinds = le-test _ _ (TableCount 6) (test l e 5);
+      transitions = le-test _ _ (TableCount 7) (test l e 6);
+    }
+
+-- the kind record at an offset
+pub record SoundKind (b : List ℕ) (at : ℕ) : Type 0 where
+  pub fits : at + 2 ≤ length b
+  pub direction : byteAt b at ≤ 1
+  pub airtime : byteAt b (at + 1) ≤ 15
+
+soundKind : (b : List ℕ) (at : ℕ) → kindRecord b at ≡ Sound → SoundKind b at
+unfolding kindRecord
+soundKind b at e =
+    let l : List Reading =
+    unless (leb (at + 2) (length b)) (TableLength at)
+    ∷ unless (leb (byteAt b at) 1) (TableField at)
+    ∷ unless (leb (byteAt b (at + 1)) 15) (TableField at)
+    ∷ []
+    in
+    record {
+      fits = le-test _ _ (TableLength at) (test l e 0);
+      direction = le-test _ _ (TableField at) (test l e 1);
+      airtime = le-test _ _ (TableField at) (test l e 2);
+    }
+
+-- the transition record at an offset
+pub record SoundTransition (b : List ℕ) (at : ℕ) : Type 0 where
+  pub source : byteAt b at < statesAt b
+  pub target : byteAt b (at + 1) < statesAt b
+  pub trigger : byteAt b (at + 2) < kindsAt b
+  pub sets : byteAt b (at + 3) < 2 ^ variablesAt b
+  pub clears : byteAt b (at + 4) < 2 ^ variablesAt b
+  pub resets : byteAt b (at + 5) < 2 ^ clocksAt b
+  pub disjoint : apart (variablesAt b) (byteAt b (at + 3)) (byteAt b (at + 4)) ≡ true
+  pub some : 1 ≤ guardLengthAt b at
+  pub few : guardLengthAt b at ≤ 32
+  pub fits : at + 7 + guardLengthAt b at ≤ length b
+  pub guard : endsAt (guardAt 32 (variablesAt b) (clocksAt b) b (at + 7) (at + 7 + guardLengthAt b at)) (at + 7 + guardLengthAt b at) ≡ true
+
+soundTransition : (b : List ℕ) (at : ℕ) → transitionRecord b at ≡ Sound → SoundTransition b at
+unfolding transitionRecord transitionFields
+soundTransition b at e =
+    let parsed : Bool = endsAt (guardAt 32 (variablesAt b) (clocksAt b) b (at + 7) (at + 7 + guardLengthAt b at)) (at + 7 + guardLengthAt b at) in
+    let separate : Bool = apart (variablesAt b) (byteAt b (at + 3)) (byteAt b (at + 4)) in
+    let l : List Reading =
+    unless (leb (at + 7) (length b)) (TableLength at)
+    ∷ transitionFields b at
+    ∷ unless (leb 1 (guardLengthAt b at)) (TableGuard at)
+    ∷ unless (leb (guardLengthAt b at) 32) (TableGuard at)
+    ∷ unless (leb (at + 7 + guardLengthAt b at) (length b)) (TableLength at)
+    ∷ unless parsed (TableGuard at)
+    ∷ []
+    in
+    let fields : List Reading =
+    unless (ltb (byteAt b at) (statesAt b)) (TableField at)
+    ∷ unless (ltb (byteAt b (at + 1)) (statesAt b)) (TableField at)
+    ∷ unless (ltb (byteAt b (at + 2)) (kindsAt b)) (TableField at)
+    ∷ unless (ltb (byteAt b (at + 3)) (2 ^ variablesAt b)) (TableField at)
+    ∷ unless (ltb (byteAt b (at + 4)) (2 ^ variablesAt b)) (TableField at)
+    ∷ unless (ltb (byteAt b (at + 5)) (2 ^ clocksAt b)) (TableField at)
+    ∷ unless separate (TableField at)
+    ∷ []
+    in
+    let f : firstOf fields ≡ Sound = test l e 1 in
+    record {
+      source = lt-test _ _ (TableField at) (test fields f 0);
+      target = lt-test _ _ (TableField at) (test fields f 1);
+      trigger = lt-test _ _ (TableField at) (test fields f 2);
+      sets = lt-test _ _ (TableField at) (test fields f 3);
+      clears = lt-test _ _ (TableField at) (test fields f 4);
+      resets = lt-test _ _ (TableField at) (test fields f 5);
+      disjoint = unless-sound separate (TableField at) (test fields f 6);
+      some = le-test _ _ (TableGuard at) (test l e 2);
+      few = le-test _ _ (TableGuard at) (test l e 3);
+      fits = le-test _ _ (TableLength at) (test l e 4);
+      guard = unless-sound parsed (TableGuard at) (test l e 5);
+    }
+
+-- every record from number i on
+
+kinds-sound : (n : ℕ) (b : List ℕ) (i k : ℕ) → kindRecords n b (kindAt i) ≡ Sound → i ≤ k → k < i + n → SoundKind b (kindAt k)
+unfolding kindRecords
+kinds-sound zero b i k e p q = absurd (omega arith)
+kinds-sound (suc n) b i k e p q =
+    let l : List Reading = kindRecord b (kindAt i) ∷ kindRecords n b (kindAt i + 2) ∷ [] in
+    let rest : kindRecords n b (kindAt (suc i)) ≡ Sound = ap (λ (x : ℕ). kindRecords n b x) (omega arith) ∙ test l e 1 in
+    split (ℕ-discrete i k) (test l e 0) (λ r. kinds-sound n b (suc i) k rest r (omega arith))
+  where
+    split : Dec (i ≡ k) → kindRecord b (kindAt i) ≡ Sound → (suc i ≤ k → SoundKind b (kindAt k)) → SoundKind b (kindAt k)
+    split (yes s) here again = soundKind b (kindAt k) (rw s at here)
+    split (no s) here again = again (omega arith)
+
+transitions-sound :
+    (n : ℕ) (b : List ℕ) (i j : ℕ) → transitionRecords n b (transitionAt b i) ≡ Sound → i ≤ j → j < i + n → SoundTransition b (transitionAt b j)
+unfolding transitionRecords transitionAt
+transitions-sound zero b i j e p q = absurd (omega arith)
+transitions-sound (suc n) b i j e p q =
+    let l : List Reading = transitionRecord b (transitionAt b i) ∷ transitionRecords n b (transitionAt b (suc i)) ∷ [] in
+    split (ℕ-discrete i j) (test l e 0) (λ r. transitions-sound n b (suc i) j (test l e 1) r (omega arith))
+  where
+    split : Dec (i ≡ j) → transitionRecord b (transitionAt b i) ≡ Sound → (suc i ≤ j → SoundTransition b (transitionAt b j)) → SoundTransition b (transitionAt b j)
+    split (yes s) here again = soundTransition b (transitionAt b j) (ap (λ (x : ℕ). transitionRecord b (transitionAt b x)) (sym s) ∙ here)
+    split (no s) here again = again (omega arith)
+
+transitions-end : (n : ℕ) (b : List ℕ) (i : ℕ) → transitionRecords n b (transitionAt b i) ≡ Sound → transitionAt b (i + n) ≡ length b
+unfolding transitionRecords transitionAt
+transitions-end zero b i e = ap (λ (x : ℕ). transitionAt b x) (add-zero i) ∙ eq-test (transitionAt b i) (length b) (TableLength (transitionAt b i)) e
+transitions-end (suc n) b i e =
+    let l : List Reading = transitionRecord b (transitionAt b i) ∷ transitionRecords n b (transitionAt b (suc i)) ∷ [] in
+    let next : i + suc n ≡ suc i + n = omega arith in
+    ap (λ (x : ℕ). transitionAt b x) next ∙ transitions-end n b (suc i) (test l e 1)
+
+-- all that a sound table ensures of its bytes
+pub record TableFacts (b : List ℕ) : Type 0 where
+  pub frame : 8 ≤ length b
+  pub framed : wordAt b 0 + 2 ≡ length b
+  pub version : byteAt b 2 ≡ 1
+  pub counts : SoundCounts b
+  pub kind : (i : ℕ) → i < kindsAt b → SoundKind b (kindAt i)
+  pub transition : (j : ℕ) → j < transitionsAt b → SoundTransition b (transitionAt b j)
+  pub end : transitionAt b (transitionsAt b) ≡ length b
+  pub small : size (monitorAt b) ≤ sizeLimit
+
+pub table-facts : (b : List ℕ) → SoundTable b → TableFacts b
+unfolding tableAnswer transitionAt
+table-facts b e =
+    let l : List Reading =
+    unless (leb 8 (length b)) TableFrame
+    ∷ unless (eqb (wordAt b 0 + 2) (length b)) TableFrame
+    ∷ unless (eqb (byteAt b 2) 1) TableVersion
+    ∷ tableCounts b
+    ∷ kindRecords (kindsAt b) b (kindAt 0)
+    ∷ transitionRecords (transitionsAt b) b (kindAt (kindsAt b))
+    ∷ unless (leb (size (monitorOf (tableParts b))) sizeLimit) TableSize
+    ∷ []
+    in
+    record {
+      frame = le-test _ _ TableFrame (test l e 0);
+      framed = eq-test _ _ TableFrame (test l e 1);
+      version = eq-test _ _ TableVersion (test l e 2);
+      counts = counts b (test l e 3);
+      kind = λ i h. kinds-sound (kindsAt b) b 0 i (test l e 4) (omega arith) (omega arith);
+      transition = λ j h. transitions-sound (transitionsAt b) b 0 j (test l e 5) (omega arith) (omega arith);
+      end = ap (λ (x : ℕ). transitionAt b x) (sym (zero-add (transitionsAt b))) ∙ transitions-end (transitionsAt b) b 0 (test l e 5);
+      small = le-test _ _ TableSize (test l e 6);
+    }
+
+-- the parts, where the counts reach
+
+guardPlace-length : (b : List ℕ) (j : ℕ) → guardLengthAt b (transitionAt b j) ≤ 32 → length (guardPlace b j) ≡ 32
+unfolding guardPlace
+guardPlace-length b j h =
+    let n : ℕ = guardLengthAt b (transitionAt b j) in
+    length-padded 32 (take n (drop (transitionAt b j + 7) b)) (omega (arith, length-take n (drop (transitionAt b j + 7) b)))
+
+module _ (b : List ℕ) (facts : TableFacts b) where
+  places : (j : ℕ) → j < transitionsAt b → length (guardPlace b j) ≡ 32
+  places j h = guardPlace-length b j (facts .transition j h .few)
+
+  pub places-length : length (joined (guardPlace b) (transitionsAt b)) ≡ 32 * transitionsAt b
+  places-length = length-joined (guardPlace b) 32 (transitionsAt b) places
+
+  pub guard-place : (j : ℕ) → j < transitionsAt b → (i : ℕ) → i < 32 → byteAt (tableParts b .guards) (32 * j + i) ≡ byteAt (guardPlace b j) i
+  unfolding tableParts
+  guard-place j h i p =
+      getD-padded 2048 (joined (guardPlace b) (transitionsAt b)) (32 * j + i) (omega (arith, places-length))
+      ∙ getD-joined (guardPlace b) 32 (transitionsAt b) places j i h p
+
+  pub guard-byte :
+      (j : ℕ) → j < transitionsAt b → (i : ℕ) → i < guardLengthAt b (transitionAt b j)
+      → byteAt (tableParts b .guards) (32 * j + i) ≡ byteAt b (transitionAt b j + 7 + i)
+  unfolding guardPlace
+  guard-byte j h i p =
+      let t : SoundTransition b (transitionAt b j) = facts .transition j h in
+      let few : guardLengthAt b (transitionAt b j) ≤ 32 = t .few in
+      let fits : transitionAt b j + 7 + guardLengthAt b (transitionAt b j) ≤ length b = t .fits in
+      let n : ℕ = guardLengthAt b (transitionAt b j) in
+      let g : List ℕ = take n (drop (transitionAt b j + 7) b) in
+      let e : length g ≡ n = length-take-le n (drop (transitionAt b j + 7) b) (omega (arith, length-drop (transitionAt b j + 7) b)) in
+      guard-place j h i (omega arith) ∙ getD-padded 32 g i (omega arith) ∙ sym (stands-part b (transitionAt b j + 7) n i (omega arith))
+
+  pub guard-again :
+      (j : ℕ) → j < transitionsAt b
+      → guardIn (tableParts b) j
+      ≡ guardOf (guardAt 32 (variablesAt b) (clocksAt b) b (transitionAt b j + 7) (transitionAt b j + 7 + guardLengthAt b (transitionAt b j)))
+  unfolding guardIn tableParts
+  guard-again j h =
+      let vs : ℕ = variablesAt b in
+      let cs : ℕ = clocksAt b in
+      let at : ℕ = transitionAt b j + 7 in
+      let n : ℕ = guardLengthAt b (transitionAt b j) in
+      let few : n ≤ 32 = facts .transition j h .few in
+      ap (λ (k : ℕ). guardOf (guardAt 32 vs cs (tableParts b .guards) (32 * j) (32 * j + k))) (getD-column 64 (λ i. byteAt b (transitionAt b i + 6)) (transitionsAt b) j h)
+      ∙ ap guardOf (guard-moved vs cs b (tableParts b .guards) at (32 * j) n (λ i p. sym (guard-byte j h i p)) 32 32 few few)
+      ∙ moved-guard at (32 * j) (guardAt 32 vs cs b at (at + n))
+
+  -- the guard at its place in the bytes, as read
+  pub guard-sound :
+      (j : ℕ) → j < transitionsAt b
+      → guardAt 32 (variablesAt b) (clocksAt b) b (transitionAt b j + 7) (transitionAt b j + 7 + guardLengthAt b (transitionAt b j))
+      ≡ upTo (guardIn (tableParts b) j) (transitionAt b j + 7 + guardLengthAt b (transitionAt b j))
+  guard-sound j h =
+      let at : ℕ = transitionAt b j + 7 in
+      let end : ℕ = at + guardLengthAt b (transitionAt b j) in
+      rw (guard-again j h) (ends-read (guardAt 32 (variablesAt b) (clocksAt b) b at end) end (facts .transition j h .guard))
+
+  pub sane-transition : (j : ℕ) → j < transitionsAt b → SaneTransition (monitorAt b) (transitionIn (tableParts b) j)
+  unfolding transitionIn monitorOf tableParts
+  sane-transition j h =
+      let t : SoundTransition b (transitionAt b j) = facts .transition j h in
+      let at : ℕ = transitionAt b j + 7 in
+      let end : ℕ = at + guardLengthAt b (transitionAt b j) in
+      record {
+        target = rw (getD-column 64 (λ i. byteAt b (transitionAt b i + 1)) (transitionsAt b) j h) (t .target);
+        trigger = rw (length-tab (λ k. byteAt (tableParts b .airtimes) k) (kindsAt b), getD-column 64 (λ i. byteAt b (transitionAt b i + 2)) (transitionsAt b) j h) (t .trigger);
+        closed = closed-names (monitorAt b) (guardIn (tableParts b) j) (guard-names (variablesAt b) (clocksAt b) b end 32 at (guardIn (tableParts b) j) end (guard-sound j h));
+      }
+
+pub sane-table : (b : List ℕ) → SoundTable b → Sane (monitorAt b)
+unfolding monitorOf tableParts
+sane-table b s =
+    let facts : TableFacts b = table-facts b s in
+    let counts : SoundCounts b = facts .counts in
+    let n : length (tab (transitionIn (tableParts b)) (transitionsAt b)) ≡ transitionsAt b = length-tab (transitionIn (tableParts b)) (transitionsAt b) in
+    record {
+      states = counts .states-some;
+      clocks = counts .clocks;
+      few = rw n (counts .transitions);
+      transition = λ j t e.
+          let h : j < transitionsAt b = rw n at (getElem-within (tab (transitionIn (tableParts b)) (transitionsAt b)) j t e) in
+          let f : some (transitionIn (tableParts b) j) ≡ some t = sym (getElem-tab (transitionIn (tableParts b)) (transitionsAt b) j h) ∙ e in
+          let same : transitionIn (tableParts b) j ≡ t = cc in
+          subst (λ (x : Transition). SaneTransition (monitorAt b) x) same (sane-transition b facts j h);
+    }

@@ -1,0 +1,374 @@
+-- The table's round trips: sound bytes to parts and back, and parts to bytes and back.
+use Prim.Native.Nat.{ℕ, zero, suc, _+_, _*_, _<_, _≤_}
+use native.Mathlib.Omega.{arith}
+use mathlib.Core.Path.{_≡_, refl, sym, ap, ap₂, _∙_}
+use mathlib.Core.List.{List, [], _∷_, _++_}
+use lib.ListN.{length, take, drop, length-append, length-take, length-drop}
+use lib.Seq.{length-take-le, getD-take, getD-drop}
+use Rattle.model.specs.Bytes.{byteAt, tab, wordAt, wordBytes, joined}
+use lib.Dec.{eqb}
+use Rattle.model.specs.Guard.{guardAt, guardOf}
+use Rattle.model.proofs.GuardForm.{guard-moved, moved-guard}
+use Rattle.model.specs.Table.{guardIn, transitionIn, monitorOf, monitorAt, statesAt, variablesAt, clocksAt, kindsAt, transitionsAt, guardLengthAt, kindAt, transitionAt, guardPlace, tableParts, SoundTable, kindColumn, transitionColumn, kindBytes, transitionBytes, tableBody, tableBytes}
+use Rattle.model.specs.declared.TableParts.{TableParts}
+use Rattle.model.proofs.Places.{AllBytes, Stands, stands-append, stands-left, stands-right, stands-moved, stands-self, stands-whole, word-at, length-padded, getD-padded-past, getD-column, getD-column-past, length-joined, stands-joined, joined-stands, tab-same}
+use Rattle.model.proofs.TableForm.{SoundTransition, TableFacts, table-facts, places-length, guard-place, guard-byte}
+
+-- the guard of transition j as it is written: the first bytes of its 32 places
+abbrev guardOut : TableParts → ℕ → List ℕ
+guardOut t j = take (byteAt (t .lengths) j) (take 32 (drop (32 * j) (t .guards)))
+
+module _ (t : TableParts) (full : length (t .guards) ≡ 2048) (j : ℕ) (h : j < 64) (few : byteAt (t .lengths) j ≤ 32) where
+  guardOut-length : length (guardOut t j) ≡ byteAt (t .lengths) j
+  guardOut-length =
+      let e : length (take 32 (drop (32 * j) (t .guards))) ≡ 32 = length-take-le 32 (drop (32 * j) (t .guards)) (omega (arith, length-drop (32 * j) (t .guards))) in
+      length-take-le (byteAt (t .lengths) j) (take 32 (drop (32 * j) (t .guards))) (rw e few)
+
+  transitionBytes-length : length (transitionBytes t j) ≡ 7 + byteAt (t .lengths) j
+  transitionBytes-length = omega (arith, guardOut-length)
+
+guardOut-byte : (t : TableParts) (j i : ℕ) → byteAt (t .lengths) j ≤ 32 → i < byteAt (t .lengths) j → byteAt (guardOut t j) i ≡ byteAt (t .guards) (32 * j + i)
+guardOut-byte t j i few h =
+    getD-take (byteAt (t .lengths) j) (take 32 (drop (32 * j) (t .guards))) i 0 h
+    ∙ getD-take 32 (drop (32 * j) (t .guards)) i 0 (omega arith)
+    ∙ getD-drop (32 * j) (t .guards) i 0
+
+kinds-length : (t : TableParts) (n : ℕ) → length (joined (kindBytes t) n) ≡ 2 * n
+kinds-length t n = length-joined (kindBytes t) 2 n (λ i h. refl)
+
+-- the seven bytes before a guard
+fieldsOut : TableParts → ℕ → List ℕ
+fieldsOut t j =
+    byteAt (t .sources) j
+    ∷ byteAt (t .targets) j
+    ∷ byteAt (t .triggers) j
+    ∷ byteAt (t .sets) j
+    ∷ byteAt (t .clears) j
+    ∷ byteAt (t .resets) j
+    ∷ byteAt (t .lengths) j
+    ∷ []
+
+-- the parts of a sound table, written again
+module _ (b : List ℕ) (facts : TableFacts b) where
+  guards-full : length (tableParts b .guards) ≡ 2048
+  unfolding tableParts
+  guards-full =
+      let few : transitionsAt b ≤ 64 = facts .counts .transitions in
+      length-padded 2048 (joined (guardPlace b) (transitionsAt b)) (omega (arith, places-length b facts))
+
+  length-of : (j : ℕ) → j < transitionsAt b → byteAt (tableParts b .lengths) j ≡ guardLengthAt b (transitionAt b j)
+  unfolding tableParts
+  length-of j h = getD-column 64 (λ i. byteAt b (transitionAt b i + 6)) (transitionsAt b) j h
+
+  length-few : (j : ℕ) → j < transitionsAt b → byteAt (tableParts b .lengths) j ≤ 32
+  length-few j h = rw (length-of j h) (facts .transition j h .few)
+
+  offset : (j : ℕ) → j ≤ transitionsAt b → kindAt (kindsAt b) + length (joined (transitionBytes (tableParts b)) j) ≡ transitionAt b j
+  unfolding joined transitionAt
+  offset zero h = omega arith
+  offset (suc j) h =
+      let few : transitionsAt b ≤ 64 = facts .counts .transitions in
+      let again : kindAt (kindsAt b) + length (joined (transitionBytes (tableParts b)) j) ≡ transitionAt b j = offset j (omega arith) in
+      let n : length (transitionBytes (tableParts b) j) ≡ 7 + byteAt (tableParts b .lengths) j =
+      transitionBytes-length (tableParts b) guards-full j (omega arith) (length-few j h)
+      in
+      omega (arith, length-append (joined (transitionBytes (tableParts b)) j) (transitionBytes (tableParts b) j), length-of j h)
+
+  kind-stands : (i : ℕ) → i < kindsAt b → Stands b (kindAt i) (kindBytes (tableParts b) i)
+  unfolding tableParts
+  kind-stands i h zero p = sym (getD-column 32 (λ i. byteAt b (kindAt i + 0)) (kindsAt b) i h)
+  kind-stands i h (suc zero) p = sym (getD-column 32 (λ i. byteAt b (kindAt i + 1)) (kindsAt b) i h)
+  kind-stands i h (suc (suc k)) p = absurd (omega arith)
+
+  column : (j : ℕ) → j < transitionsAt b → (k : ℕ) → byteAt b (transitionAt b j + k) ≡ byteAt (transitionColumn b k) j
+  column j h k = sym (getD-column 64 (λ i. byteAt b (transitionAt b i + k)) (transitionsAt b) j h)
+
+  fields-stand : (j : ℕ) → j < transitionsAt b → Stands b (transitionAt b j) (fieldsOut (tableParts b) j)
+  unfolding tableParts fieldsOut
+  fields-stand j h zero p = column j h 0
+  fields-stand j h (suc zero) p = column j h 1
+  fields-stand j h (suc (suc zero)) p = column j h 2
+  fields-stand j h (suc (suc (suc zero))) p = column j h 3
+  fields-stand j h (suc (suc (suc (suc zero)))) p = column j h 4
+  fields-stand j h (suc (suc (suc (suc (suc zero))))) p = column j h 5
+  fields-stand j h (suc (suc (suc (suc (suc (suc zero)))))) p = column j h 6
+  fields-stand j h (suc (suc (suc (suc (suc (suc (suc i))))))) p = absurd (omega arith)
+
+  guard-stands : (j : ℕ) → j < transitionsAt b → Stands b (transitionAt b j + 7) (guardOut (tableParts b) j)
+  guard-stands j h i p =
+      let n : byteAt (tableParts b .lengths) j ≡ guardLengthAt b (transitionAt b j) = length-of j h in
+      let few : transitionsAt b ≤ 64 = facts .counts .transitions in
+      let e : length (guardOut (tableParts b) j) ≡ byteAt (tableParts b .lengths) j = guardOut-length (tableParts b) guards-full j (omega arith) (length-few j h) in
+      sym (guardOut-byte (tableParts b) j i (length-few j h) (omega arith) ∙ guard-byte b facts j h i (omega arith))
+
+  transition-stands : (j : ℕ) → j < transitionsAt b → Stands b (transitionAt b j) (transitionBytes (tableParts b) j)
+  unfolding fieldsOut
+  transition-stands j h = stands-append b (transitionAt b j) (fieldsOut (tableParts b) j) (guardOut (tableParts b) j) (fields-stand j h) (guard-stands j h)
+
+  body-length : 2 + length (tableBody (tableParts b)) ≡ length b
+  unfolding tableBody tableParts
+  body-length =
+      let t : TableParts = tableParts b in
+      let e : kindAt (kindsAt b) + length (joined (transitionBytes t) (transitionsAt b)) ≡ transitionAt b (transitionsAt b) = offset (transitionsAt b) (omega arith) in
+      let f : transitionAt b (transitionsAt b) ≡ length b = facts .end in
+      omega (arith, length-append (joined (kindBytes t) (kindsAt b)) (joined (transitionBytes t) (transitionsAt b)), kinds-length t (kindsAt b))
+
+  counts-stand : Stands b 2 (1 ∷ statesAt b ∷ variablesAt b ∷ clocksAt b ∷ kindsAt b ∷ transitionsAt b ∷ [])
+  counts-stand zero p = facts .version
+  counts-stand (suc zero) p = refl
+  counts-stand (suc (suc zero)) p = refl
+  counts-stand (suc (suc (suc zero))) p = refl
+  counts-stand (suc (suc (suc (suc zero)))) p = refl
+  counts-stand (suc (suc (suc (suc (suc zero))))) p = refl
+  counts-stand (suc (suc (suc (suc (suc (suc i)))))) p = absurd (omega arith)
+
+  body-stands : Stands b 2 (tableBody (tableParts b))
+  unfolding tableBody tableParts
+  body-stands =
+      let t : TableParts = tableParts b in
+      let counts : List ℕ = 1 ∷ statesAt b ∷ variablesAt b ∷ clocksAt b ∷ kindsAt b ∷ transitionsAt b ∷ [] in
+      let kinds : List ℕ = joined (kindBytes t) (kindsAt b) in
+      let transitions : List ℕ = joined (transitionBytes t) (transitionsAt b) in
+      let end : kindAt (kindsAt b) ≡ 2 + length (counts ++ kinds) = omega (arith, kinds-length t (kindsAt b)) in
+      stands-append b 2 (counts ++ kinds) transitions
+      (stands-append b 2 counts kinds counts-stand
+      (stands-joined (kindBytes t) b 8 (kindsAt b)
+      (λ i h. stands-moved b (kindAt i) (8 + length (joined (kindBytes t) i)) (kindBytes t i) (omega (arith, kinds-length t i)) (kind-stands i h))))
+      (stands-moved b (kindAt (kindsAt b)) (2 + length (counts ++ kinds)) transitions end
+      (stands-joined (transitionBytes t) b (kindAt (kindsAt b)) (transitionsAt b)
+      (λ j h. stands-moved b (transitionAt b j) (kindAt (kindsAt b) + length (joined (transitionBytes t) j)) (transitionBytes t j) (sym (offset j (omega arith))) (transition-stands j h))))
+
+pub table-again : (b : List ℕ) → AllBytes b → SoundTable b → tableBytes (tableParts b) ≡ b
+unfolding tableBytes
+table-again b all s =
+    let facts : TableFacts b = table-facts b s in
+    let n : 2 + length (tableBody (tableParts b)) ≡ length b = body-length b facts in
+    let f : wordAt b 0 + 2 ≡ length b = facts .framed in
+    stands-whole b (tableBytes (tableParts b)) (omega arith)
+    (stands-append b 0 (wordBytes (length (tableBody (tableParts b)))) (tableBody (tableParts b))
+    (word-at b 0 (length (tableBody (tableParts b))) all (omega arith)) (body-stands b facts))
+
+-- two columns agree on their first n places
+abbrev pub Agree : ℕ → List ℕ → List ℕ → Type 0
+Agree n a c = (i : ℕ) → i < n → byteAt a i ≡ byteAt c i
+
+-- two tables' parts agree where counts and guard lengths reach
+pub record SameTable (t u : TableParts) : Type 0 where
+  pub states : t .states ≡ u .states
+  pub variables : t .variables ≡ u .variables
+  pub clocks : t .clocks ≡ u .clocks
+  pub kinds : t .kinds ≡ u .kinds
+  pub transitions : t .transitions ≡ u .transitions
+  pub directions : Agree (u .kinds) (t .directions) (u .directions)
+  pub airtimes : Agree (u .kinds) (t .airtimes) (u .airtimes)
+  pub sources : Agree (u .transitions) (t .sources) (u .sources)
+  pub targets : Agree (u .transitions) (t .targets) (u .targets)
+  pub triggers : Agree (u .transitions) (t .triggers) (u .triggers)
+  pub sets : Agree (u .transitions) (t .sets) (u .sets)
+  pub clears : Agree (u .transitions) (t .clears) (u .clears)
+  pub resets : Agree (u .transitions) (t .resets) (u .resets)
+  pub lengths : Agree (u .transitions) (t .lengths) (u .lengths)
+  pub guards : (j : ℕ) → j < u .transitions → (i : ℕ) → i < byteAt (u .lengths) j → byteAt (t .guards) (32 * j + i) ≡ byteAt (u .guards) (32 * j + i)
+
+-- a column is 0 from place n on
+abbrev pub Zero : ℕ → List ℕ → Type 0
+Zero n c = (i : ℕ) → n ≤ i → byteAt c i ≡ 0
+
+-- a table's parts are 0 beyond its counts and guard lengths
+pub record ZeroBeyond (t : TableParts) : Type 0 where
+  pub directions : Zero (t .kinds) (t .directions)
+  pub airtimes : Zero (t .kinds) (t .airtimes)
+  pub sources : Zero (t .transitions) (t .sources)
+  pub targets : Zero (t .transitions) (t .targets)
+  pub triggers : Zero (t .transitions) (t .triggers)
+  pub sets : Zero (t .transitions) (t .sets)
+  pub clears : Zero (t .transitions) (t .clears)
+  pub resets : Zero (t .transitions) (t .resets)
+  pub lengths : Zero (t .transitions) (t .lengths)
+  pub guards : (j : ℕ) → j < t .transitions → (i : ℕ) → byteAt (t .lengths) j ≤ i → i < 32 → byteAt (t .guards) (32 * j + i) ≡ 0
+  pub no-guards : Zero (32 * t .transitions) (t .guards)
+
+module _ (b : List ℕ) where
+  no-kind : (k : ℕ) → Zero (kindsAt b) (kindColumn b k)
+  no-kind k = getD-column-past 32 (λ i. byteAt b (kindAt i + k)) (kindsAt b)
+
+  no-transition : (k : ℕ) → Zero (transitionsAt b) (transitionColumn b k)
+  no-transition k = getD-column-past 64 (λ j. byteAt b (transitionAt b j + k)) (transitionsAt b)
+
+  no-guard : (facts : TableFacts b) (j : ℕ) → j < transitionsAt b → (i : ℕ) → byteAt (tableParts b .lengths) j ≤ i → i < 32 → byteAt (tableParts b .guards) (32 * j + i) ≡ 0
+  unfolding guardPlace
+  no-guard facts j h i p q =
+      let n : ℕ = guardLengthAt b (transitionAt b j) in
+      let l : n ≤ i = rw (length-of b facts j h) at p in
+      let g : List ℕ = take n (drop (transitionAt b j + 7) b) in
+      guard-place b facts j h i q ∙ getD-padded-past 32 g i (omega (arith, length-take n (drop (transitionAt b j + 7) b)))
+
+  pub zero-beyond : SoundTable b → ZeroBeyond (tableParts b)
+  unfolding tableParts
+  zero-beyond s =
+      let facts : TableFacts b = table-facts b s in
+      record {
+        directions = no-kind 0;
+        airtimes = no-kind 1;
+        sources = no-transition 0;
+        targets = no-transition 1;
+        triggers = no-transition 2;
+        sets = no-transition 3;
+        clears = no-transition 4;
+        resets = no-transition 5;
+        lengths = no-transition 6;
+        guards = no-guard facts;
+        no-guards = λ i h. getD-padded-past 2048 (joined (guardPlace b) (transitionsAt b)) i (omega (arith, places-length b facts));
+      }
+
+-- the bytes of parts, read
+
+abbrev countsOut : TableParts → List ℕ
+countsOut t = 1 ∷ t .states ∷ t .variables ∷ t .clocks ∷ t .kinds ∷ t .transitions ∷ []
+
+module _ (t : TableParts) where
+  written-body : Stands (tableBytes t) 2 (countsOut t ++ joined (kindBytes t) (t .kinds) ++ joined (transitionBytes t) (t .transitions))
+  unfolding tableBytes tableBody
+  written-body = stands-right (tableBytes t) 0 (wordBytes (length (tableBody t))) (tableBody t) (stands-self (tableBytes t))
+
+  written-counts : Stands (tableBytes t) 2 (countsOut t)
+  written-counts =
+      stands-left (tableBytes t) 2 (countsOut t) (joined (kindBytes t) (t .kinds))
+      (stands-left (tableBytes t) 2 (countsOut t ++ joined (kindBytes t) (t .kinds)) (joined (transitionBytes t) (t .transitions)) written-body)
+
+  written-kind : (i : ℕ) → i < t .kinds → Stands (tableBytes t) (kindAt i) (kindBytes t i)
+  written-kind i h =
+      stands-moved (tableBytes t) (8 + length (joined (kindBytes t) i)) (kindAt i) (kindBytes t i) (omega (arith, kinds-length t i))
+      (joined-stands (kindBytes t) (tableBytes t) 8 (t .kinds) i h
+      (stands-right (tableBytes t) 2 (countsOut t) (joined (kindBytes t) (t .kinds))
+      (stands-left (tableBytes t) 2 (countsOut t ++ joined (kindBytes t) (t .kinds)) (joined (transitionBytes t) (t .transitions)) written-body)))
+
+  written-transition : (j : ℕ) → j < t .transitions → Stands (tableBytes t) (kindAt (t .kinds) + length (joined (transitionBytes t) j)) (transitionBytes t j)
+  written-transition j h =
+      let kinds : List ℕ = joined (kindBytes t) (t .kinds) in
+      let transitions : List ℕ = joined (transitionBytes t) (t .transitions) in
+      joined-stands (transitionBytes t) (tableBytes t) (kindAt (t .kinds)) (t .transitions) j h
+      (stands-moved (tableBytes t) (2 + length (countsOut t ++ kinds)) (kindAt (t .kinds)) transitions (omega (arith, kinds-length t (t .kinds)))
+      (stands-right (tableBytes t) 2 (countsOut t ++ kinds) transitions written-body))
+
+module _ (t : TableParts) (full : length (t .guards) ≡ 2048) (facts : TableFacts (tableBytes t)) where
+  few-transitions : t .transitions ≤ 64
+  few-transitions = let h : transitionsAt (tableBytes t) ≤ 64 = facts .counts .transitions in rw (written-counts t 5 (omega arith)) at h
+
+  transition-facts : (j : ℕ) → j < t .transitions → SoundTransition (tableBytes t) (transitionAt (tableBytes t) j)
+  transition-facts j h = facts .transition j (rw (written-counts t 5 (omega arith)) h)
+
+  placed : (j : ℕ) → j ≤ t .transitions → kindAt (t .kinds) + length (joined (transitionBytes t) j) ≡ transitionAt (tableBytes t) j
+  unfolding transitionAt joined
+  placed zero h = let e : kindsAt (tableBytes t) ≡ t .kinds = written-counts t 4 (omega arith) in omega arith
+  placed (suc j) h =
+      let again : kindAt (t .kinds) + length (joined (transitionBytes t) j) ≡ transitionAt (tableBytes t) j = placed j (omega arith) in
+      let e : guardLengthAt (tableBytes t) (transitionAt (tableBytes t) j) ≡ byteAt (t .lengths) j =
+      stands-moved (tableBytes t) _ (transitionAt (tableBytes t) j) (transitionBytes t j) again (written-transition t j h) 6 (omega arith)
+      in
+      let few : guardLengthAt (tableBytes t) (transitionAt (tableBytes t) j) ≤ 32 = transition-facts j h .few in
+      let n : length (transitionBytes t j) ≡ 7 + byteAt (t .lengths) j = transitionBytes-length t full j (omega (arith, few-transitions)) (omega arith) in
+      omega (arith, length-append (joined (transitionBytes t) j) (transitionBytes t j))
+
+  back : (j : ℕ) → j < t .transitions → Stands (tableBytes t) (transitionAt (tableBytes t) j) (transitionBytes t j)
+  back j h =
+      stands-moved (tableBytes t) (kindAt (t .kinds) + length (joined (transitionBytes t) j)) (transitionAt (tableBytes t) j) (transitionBytes t j) (placed j (omega arith)) (written-transition t j h)
+
+  back-few : (j : ℕ) → j < t .transitions → byteAt (t .lengths) j ≤ 32
+  back-few j h = let e : guardLengthAt (tableBytes t) (transitionAt (tableBytes t) j) ≡ byteAt (t .lengths) j = back j h 6 (omega arith) in rw (sym e) (transition-facts j h .few)
+
+  -- a column of the parts read, at a place that the count reaches
+  back-kind : (i : ℕ) → i < t .kinds → (k : ℕ) → k < 2 → byteAt (kindColumn (tableBytes t) k) i ≡ byteAt (kindBytes t i) k
+  back-kind i h k p =
+      let b : List ℕ = tableBytes t in
+      getD-column 32 (λ i. byteAt b (kindAt i + k)) (kindsAt b) i (rw (written-counts t 4 (omega arith)) h) ∙ written-kind t i h k p
+
+  back-field : (j : ℕ) → j < t .transitions → (k : ℕ) → k < 7 → byteAt (transitionColumn (tableBytes t) k) j ≡ byteAt (transitionBytes t j) k
+  back-field j h k p =
+      let b : List ℕ = tableBytes t in
+      getD-column 64 (λ i. byteAt b (transitionAt b i + k)) (transitionsAt b) j (rw (written-counts t 5 (omega arith)) h) ∙ back j h k (omega arith)
+
+  back-guard :
+      (j : ℕ) → j < t .transitions → (i : ℕ) → i < byteAt (t .lengths) j → byteAt (tableParts (tableBytes t) .guards) (32 * j + i) ≡ byteAt (t .guards) (32 * j + i)
+  unfolding fieldsOut
+  back-guard j h i p =
+      let b : List ℕ = tableBytes t in
+      let e : guardLengthAt b (transitionAt b j) ≡ byteAt (t .lengths) j = back j h 6 (omega arith) in
+      let n : length (guardOut t j) ≡ byteAt (t .lengths) j = guardOut-length t full j (omega (arith, few-transitions)) (back-few j h) in
+      guard-byte b facts j (rw (written-counts t 5 (omega arith)) h) i (omega arith)
+      ∙ stands-right b (transitionAt b j) (fieldsOut t j) (guardOut t j) (back j h) i (omega arith)
+      ∙ guardOut-byte t j i (back-few j h) p
+
+pub table-back : (t : TableParts) → length (t .guards) ≡ 2048 → SoundTable (tableBytes t) → SameTable (tableParts (tableBytes t)) t
+unfolding tableParts
+table-back t full s =
+    let facts : TableFacts (tableBytes t) = table-facts (tableBytes t) s in
+    record {
+      states = written-counts t 1 (omega arith);
+      variables = written-counts t 2 (omega arith);
+      clocks = written-counts t 3 (omega arith);
+      kinds = written-counts t 4 (omega arith);
+      transitions = written-counts t 5 (omega arith);
+      directions = λ i h. back-kind t full facts i h 0 (omega arith);
+      airtimes = λ i h. back-kind t full facts i h 1 (omega arith);
+      sources = λ j h. back-field t full facts j h 0 (omega arith);
+      targets = λ j h. back-field t full facts j h 1 (omega arith);
+      triggers = λ j h. back-field t full facts j h 2 (omega arith);
+      sets = λ j h. back-field t full facts j h 3 (omega arith);
+      clears = λ j h. back-field t full facts j h 4 (omega arith);
+      resets = λ j h. back-field t full facts j h 5 (omega arith);
+      lengths = λ j h. back-field t full facts j h 6 (omega arith);
+      guards = back-guard t full facts;
+    }
+
+-- parts that agree so describe the same monitor
+
+module _ (t u : TableParts) (same : SameTable t u) (few : (j : ℕ) → j < u .transitions → byteAt (u .lengths) j ≤ 32) where
+  same-guard : (j : ℕ) → j < u .transitions → guardIn t j ≡ guardIn u j
+  unfolding guardIn
+  same-guard j h =
+      let n : ℕ = byteAt (u .lengths) j in
+      ap₂ (λ (vs cs : ℕ). guardOf (guardAt 32 vs cs (t .guards) (32 * j) (32 * j + byteAt (t .lengths) j))) (same .variables) (same .clocks)
+      ∙ ap (λ (k : ℕ). guardOf (guardAt 32 (u .variables) (u .clocks) (t .guards) (32 * j) (32 * j + k))) (same .lengths j h)
+      ∙ ap guardOf (guard-moved (u .variables) (u .clocks) (u .guards) (t .guards) (32 * j) (32 * j) n (λ i p. sym (same .guards j h i p)) 32 32 (few j h) (few j h))
+      ∙ moved-guard (32 * j) (32 * j) (guardAt 32 (u .variables) (u .clocks) (u .guards) (32 * j) (32 * j + n))
+
+  same-transition : (j : ℕ) → j < u .transitions → transitionIn t j ≡ transitionIn u j
+  unfolding transitionIn
+  same-transition j h i =
+      record {
+        source = same .sources j h i;
+        target = same .targets j h i;
+        trigger = same .triggers j h i;
+        sets = same .sets j h i;
+        clears = same .clears j h i;
+        resets = same .resets j h i;
+        guard = same-guard j h i;
+      }
+
+  pub same-monitor : monitorOf t ≡ monitorOf u
+  unfolding monitorOf
+  same-monitor =
+      let inbound : tab (λ k. eqb (byteAt (t .directions) k) 1) (t .kinds) ≡ tab (λ k. eqb (byteAt (u .directions) k) 1) (u .kinds) =
+      ap (λ (n : ℕ). tab (λ k. eqb (byteAt (t .directions) k) 1) n) (same .kinds)
+      ∙ tab-same (λ k. eqb (byteAt (t .directions) k) 1) (λ k. eqb (byteAt (u .directions) k) 1) (u .kinds) (λ k h. ap (λ (x : ℕ). eqb x 1) (same .directions k h))
+      in
+      let airtimes : tab (λ k. byteAt (t .airtimes) k) (t .kinds) ≡ tab (λ k. byteAt (u .airtimes) k) (u .kinds) =
+      ap (λ (n : ℕ). tab (λ k. byteAt (t .airtimes) k) n) (same .kinds)
+      ∙ tab-same (λ k. byteAt (t .airtimes) k) (λ k. byteAt (u .airtimes) k) (u .kinds) (same .airtimes)
+      in
+      let transitions : tab (transitionIn t) (t .transitions) ≡ tab (transitionIn u) (u .transitions) =
+      ap (λ (n : ℕ). tab (transitionIn t) n) (same .transitions) ∙ tab-same (transitionIn t) (transitionIn u) (u .transitions) same-transition
+      in
+      λ i.
+      record {
+        states = same .states i;
+        variables = same .variables i;
+        clocks = same .clocks i;
+        inbound = inbound i;
+        airtimes = airtimes i;
+        transitions = transitions i;
+      }
+
+pub monitor-back : (t : TableParts) → length (t .guards) ≡ 2048 → SoundTable (tableBytes t) → monitorAt (tableBytes t) ≡ monitorOf t
+monitor-back t full s = same-monitor (tableParts (tableBytes t)) t (table-back t full s) (back-few t full (table-facts (tableBytes t) s))
