@@ -17,7 +17,7 @@ use Rattle.model.specs.Layers.{count, firstFrom, spread, image, layer, t
 use Rattle.model.specs.Numbers.{Values, values, verdictValues}
 use Rattle.model.specs.Witness.{Row, rowsBytes, witnessBytes}
 use Rattle.model.specs.Validation.{rowsBy, rowsOf, preferred, verdict, refusal, validation, scratchAfter, roomAfter, possibleAfter}
-use Rattle.model.specs.Desk.{digits, rowLines, verdictLines, judgedLines, tableLength, deskLines}
+use Rattle.model.specs.Desk.{digits, rowLines, verdictLines, judgedLines, tableLength, linesFor, deskLines}
 
 -- what a run leaves: its values, the scratch and the room
 pub record Run : Type 0 where
@@ -121,7 +121,7 @@ unfolding run
 works table recording n = tab (λ t. count (possibleAfter (monitorAt table) (packetsAt recording) t)) n
 
 pub printed : List ℕ → List ℕ
-unfolding run digits rowLines verdictLines judgedLines tableLength deskLines
+unfolding run digits rowLines verdictLines judgedLines tableLength linesFor
 printed s = deskLines s
 
 -- accepted 13 3, kept 1 0 0, removed 3 2 255, kept 6 1 2: a line each

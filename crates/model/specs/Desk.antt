@@ -1,7 +1,7 @@
 -- The program: how it splits its input, and the lines that it prints, as bytes.
 use Prim.Native.Nat.{ℕ, zero, suc, _+_, _-_, _*_, _/_, _%_}
 use mathlib.Core.List.{List, [], _∷_, _++_}
-use mathlib.Core.Bool.{Bool, true, false, cond}
+use mathlib.Core.Bool.{Bool, true, false, cond, _&&_}
 use lib.ListN.{length, take, drop}
 use lib.Dec.{leb, ltb, eqb}
 use Rattle.model.specs.Bytes.{byteAt, wordAt}
@@ -9,7 +9,7 @@ use Rattle.model.specs.Numbers.{refusalValues}
 use Rattle.model.specs.Table.{monitorAt}
 use Rattle.model.specs.Recording.{packetsAt}
 use Rattle.model.specs.Witness.{Row, kept, removed}
-use Rattle.model.specs.Validation.{validation, preferred}
+use Rattle.model.specs.Validation.{validation, preferred, scratchAfter, roomAfter}
 use Rattle.model.specs.declared.Verdict.{Verdict}
 use Rattle.model.specs.declared.Verdict.the-variants.{Accepted, Rejected, Exhausted, Refused}
 
@@ -91,16 +91,36 @@ verdictLines (Rejected cost instant) witness = line rejectedWord cost instant
 verdictLines (Exhausted budget instant) witness = line exhaustedWord budget instant
 verdictLines (Refused r) witness = line refusedWord (refusalValues r .number) (refusalValues r .second)
 
--- the lines for files of a table and a recording
-unfoldable pub judgedLines : (table recording : List ℕ) → ℕ → List ℕ
-judgedLines table recording budget =
-    verdictLines (validation table recording budget deskScratch deskRoom) (preferred (monitorAt table) (packetsAt recording))
+-- the lines for a table and a recording, judged with a scratch and a witness room of these lengths
+unfoldable pub judgedLines : (scratchLength roomLength : ℕ) → (table recording : List ℕ) → ℕ → List ℕ
+judgedLines scratchLength roomLength table recording budget =
+    verdictLines (validation table recording budget scratchLength roomLength) (preferred (monitorAt table) (packetsAt recording))
 
 -- "A program reads at most 8,192 bytes"; "Fewer than 4 bytes prints `refused 5 0`, more than 8,192 `refused 6 0`"
-unfoldable pub deskLines : List ℕ → List ℕ
-deskLines s =
+unfoldable pub linesFor : (scratchLength roomLength : ℕ) → List ℕ → List ℕ
+linesFor scratchLength roomLength s =
     elim (ltb (length s) 4) [
       | true ↦ line refusedWord 5 0
       | false ↦
-          elim (ltb 8192 (length s)) [ true ↦ line refusedWord 6 0 | false ↦ judgedLines (tableIn s) (recordingIn s) (budgetIn s) ]
+          elim (ltb 8192 (length s))
+          [ true ↦ line refusedWord 6 0 | false ↦ judgedLines scratchLength roomLength (tableIn s) (recordingIn s) (budgetIn s) ]
     ]
+
+-- what the program prints for its input
+abbrev pub deskLines : List ℕ → List ℕ
+deskLines s = linesFor deskScratch deskRoom s
+
+-- "After a refusal every lent byte is untouched", 5 and 6 too
+
+abbrev pub judgeable : List ℕ → Bool
+judgeable s = leb 4 (length s) && leb (length s) 8192
+
+unfoldable pub scratchFor : List ℕ → (scratch room : List ℕ) → List ℕ
+scratchFor s scratch room = cond (judgeable s) (scratchAfter (tableIn s) (recordingIn s) (budgetIn s) scratch room) scratch
+
+unfoldable pub roomFor : List ℕ → (scratch room : List ℕ) → List ℕ
+roomFor s scratch room = cond (judgeable s) (roomAfter (tableIn s) (recordingIn s) (budgetIn s) scratch room) room
+
+-- lines in a lent text: as far as they fit, the rest untouched
+abbrev pub inText : List ℕ → List ℕ → List ℕ
+inText lines text = take (length text) lines ++ drop (length lines) text
