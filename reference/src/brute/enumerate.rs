@@ -1,0 +1,61 @@
+//! Every mutation trace that the monitor satisfies, and with each choice of transitions the
+//! witness that tells of it.
+
+use super::monitor::Monitor;
+use super::trace::{is_mutation, is_packet_trace, traces, Trace};
+use crate::recording::{Heard, Recording};
+use crate::table::Table;
+use crate::witness::{Row, Witness, ADDED, KEPT, NO_TRANSITION, REMOVED};
+
+/// One witness for each satisfying mutation trace up to T and each choice of transitions.
+pub fn witnesses(table: &Table, recording: &Recording) -> Vec<Witness> {
+    let mut found = Vec::new();
+    for trace in mutation_traces(table, recording, recording.last_time() as u32) {
+        for run in Monitor::start().runs(table, &trace) {
+            found.push(witness(recording, &trace, &run));
+        }
+    }
+    found
+}
+
+/// The first instant that no trace passes: none up to it is a mutation trace of the rows up
+/// to it and satisfies the monitor.
+pub fn first_dead_instant(table: &Table, recording: &Recording) -> Option<u64> {
+    let last = recording.last_time() as u32;
+    (1..=last).map(u64::from).find(|instant| {
+        let mut heard = recording.clone();
+        heard.rows.retain(|row| u64::from(row.time) <= *instant);
+        let mut traces = mutation_traces(table, &heard, *instant as u32);
+        !traces.any(|trace| Monitor::satisfies(table, &trace))
+    })
+}
+
+fn mutation_traces<'a>(
+    table: &'a Table,
+    recording: &'a Recording,
+    last: u32,
+) -> impl Iterator<Item = Trace> + 'a {
+    traces(last, table.kinds.len() as u8)
+        .filter(|trace| is_packet_trace(table, trace))
+        .filter(|trace| is_mutation(table, recording, trace))
+}
+
+/// Recorded rows are kept if the trace has them and removed if not; its others are added.
+/// At one time the removed row comes first.
+fn witness(recording: &Recording, trace: &Trace, run: &[u8]) -> Witness {
+    let mut rows: Vec<Row> = Vec::new();
+    for Heard { time, kind } in recording.rows.iter().copied() {
+        if !trace.contains(&(u32::from(time), kind)) {
+            rows.push(Row { mark: REMOVED, time, kind, transition: NO_TRANSITION });
+        }
+    }
+    for ((time, kind), transition) in trace.iter().copied().zip(run.iter().copied()) {
+        let time = time as u16;
+        let recorded = recording.rows.contains(&Heard { time, kind });
+        let mark = if recorded { KEPT } else { ADDED };
+        rows.push(Row { mark, time, kind, transition });
+    }
+    // The sort is stable and the removed rows were put in first.
+    rows.sort_by_key(|row| row.time);
+    Witness { rows }
+}

@@ -1,0 +1,19 @@
+//! A brute-force search for small inputs, straight from the definitions: whole packet
+//! traces, real clocks without upper limit, no situations. It shares the parts of tables,
+//! recordings and witnesses with the program, and none of its reading or searching.
+
+mod checker;
+mod enumerate;
+mod monitor;
+mod permitted;
+mod preference;
+mod trace;
+mod works;
+
+pub use checker::expected_check;
+pub use enumerate::{first_dead_instant, witnesses};
+pub use monitor::Monitor;
+pub use permitted::permitted_by_checker;
+pub use preference::preference;
+pub use trace::{is_mutation, is_packet_trace, traces, Trace};
+pub use works::works;

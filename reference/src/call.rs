@@ -1,0 +1,110 @@
+//! A call of one of the five public functions with all that is lent to it, and its outcome.
+
+use crate::answer::Answer;
+use crate::check::check_witness;
+use crate::lent::Lent;
+use crate::rewrite::{rewrite_recording, rewrite_table, rewrite_witness};
+use crate::validate::validate;
+
+/// Table, recording, budget, scratch and room.
+pub type Validate = fn(&[u8], &[u8], u32, &mut [u8], &mut [u8]) -> Answer;
+
+/// The five functions of a program: this one's, or those of the library behind C.
+#[derive(Clone, Copy)]
+pub struct Engine {
+    pub validate: Validate,
+    pub check: fn(&[u8], &[u8], &[u8]) -> Answer,
+    pub rewrite_table: fn(&[u8], &mut [u8]) -> Answer,
+    pub rewrite_recording: fn(&[u8], &[u8], &mut [u8]) -> Answer,
+    pub rewrite_witness: fn(&[u8], &mut [u8]) -> Answer,
+}
+
+/// This program.
+pub const ORDINARY: Engine =
+    Engine { validate, check: check_witness, rewrite_table, rewrite_recording, rewrite_witness };
+
+#[derive(Clone, Debug, PartialEq, Eq)]
+pub enum Call {
+    Validate { table: Vec<u8>, recording: Vec<u8>, budget: u32, scratch: Vec<u8>, room: Vec<u8> },
+    Check { table: Vec<u8>, recording: Vec<u8>, witness: Vec<u8> },
+    RewriteTable { bytes: Vec<u8>, room: Vec<u8> },
+    RewriteRecording { table: Vec<u8>, bytes: Vec<u8>, room: Vec<u8> },
+    RewriteWitness { bytes: Vec<u8>, room: Vec<u8> },
+}
+
+/// The answer, and every lent byte as the call left it.
+#[derive(Clone, Debug, PartialEq, Eq)]
+pub struct Outcome {
+    pub answer: Answer,
+    pub scratch: Vec<u8>,
+    pub room: Vec<u8>,
+    /// Whether all that was not lent is as it was.
+    pub margins_kept: bool,
+}
+
+impl Call {
+    /// Runs the call on copies of the lent buffers.
+    pub fn run(&self, engine: &Engine) -> Outcome {
+        let (scratch, room) = self.buffers();
+        let (mut scratch, mut room) = (Lent::new(scratch), Lent::new(room));
+        let answer = self.call(engine, scratch.slice(), room.slice());
+        let margins_kept = scratch.margins_kept() && room.margins_kept();
+        let (scratch, room) = (scratch.slice().to_vec(), room.slice().to_vec());
+        Outcome { answer, scratch, room, margins_kept }
+    }
+
+    fn call(&self, engine: &Engine, scratch: &mut [u8], room: &mut [u8]) -> Answer {
+        match self {
+            Call::Validate { table, recording, budget, .. } => {
+                (engine.validate)(table, recording, *budget, scratch, room)
+            }
+            Call::Check { table, recording, witness } => (engine.check)(table, recording, witness),
+            Call::RewriteTable { bytes, .. } => (engine.rewrite_table)(bytes, room),
+            Call::RewriteRecording { table, bytes, .. } => {
+                (engine.rewrite_recording)(table, bytes, room)
+            }
+            Call::RewriteWitness { bytes, .. } => (engine.rewrite_witness)(bytes, room),
+        }
+    }
+
+    /// What scratch and room hold before the call; nothing where the call has none.
+    fn buffers(&self) -> (&[u8], &[u8]) {
+        match self {
+            Call::Validate { scratch, room, .. } => (scratch, room),
+            Call::Check { .. } => (&[], &[]),
+            Call::RewriteTable { room, .. }
+            | Call::RewriteRecording { room, .. }
+            | Call::RewriteWitness { room, .. } => (&[], room),
+        }
+    }
+
+    pub fn name(&self) -> &'static str {
+        match self {
+            Call::Validate { .. } => "validate",
+            Call::Check { .. } => "check",
+            Call::RewriteTable { .. } => "rewrite table",
+            Call::RewriteRecording { .. } => "rewrite recording",
+            Call::RewriteWitness { .. } => "rewrite witness",
+        }
+    }
+
+    /// The inputs by name, for a report in hex.
+    pub fn inputs(&self) -> Vec<(&'static str, &[u8])> {
+        match self {
+            Call::Validate { table, recording, scratch, room, .. } => vec![
+                ("table", table),
+                ("recording", recording),
+                ("scratch", scratch),
+                ("room", room),
+            ],
+            Call::Check { table, recording, witness } => {
+                vec![("table", table), ("recording", recording), ("witness", witness)]
+            }
+            Call::RewriteTable { bytes, room } => vec![("table", bytes), ("room", room)],
+            Call::RewriteRecording { table, bytes, room } => {
+                vec![("table", table), ("recording", bytes), ("room", room)]
+            }
+            Call::RewriteWitness { bytes, room } => vec![("witness", bytes), ("room", room)],
+        }
+    }
+}

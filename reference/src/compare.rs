@@ -1,0 +1,93 @@
+//! Comparing another engine with this program on random calls.
+
+use crate::call::{Call, Engine, Outcome, ORDINARY};
+use crate::generate::{calls, Rng};
+
+/// Every file is shown whole; only a large scratch is cut. The seed brings it back.
+const MOST_SHOWN: usize = 100_000;
+
+/// How many calls were compared, by the number of the answer.
+#[derive(Default)]
+pub struct Tally {
+    pub calls: u64,
+    pub by_number: std::collections::BTreeMap<(&'static str, u64), u64>,
+}
+
+/// The first call on which the two engines differ.
+pub struct Difference {
+    pub call: Call,
+    pub ordinary: Outcome,
+    pub other: Outcome,
+}
+
+/// Compares until a difference is found or, after some call, `go_on` says no.
+pub fn compare(
+    other: &Engine,
+    seed: u64,
+    go_on: impl Fn(&Tally) -> bool,
+) -> (Tally, Option<Box<Difference>>) {
+    let mut rng = Rng::new(seed);
+    let mut tally = Tally::default();
+    while go_on(&tally) {
+        for call in calls(&mut rng) {
+            if let Some(difference) = compare_call(other, call, &mut tally) {
+                return (tally, Some(difference));
+            }
+        }
+    }
+    (tally, None)
+}
+
+fn compare_call(other: &Engine, call: Call, tally: &mut Tally) -> Option<Box<Difference>> {
+    let ordinary = call.run(&ORDINARY);
+    let theirs = call.run(other);
+    tally.calls += 1;
+    *tally.by_number.entry((call.name(), ordinary.answer.number)).or_default() += 1;
+    (ordinary != theirs).then(|| Box::new(Difference { call, ordinary, other: theirs }))
+}
+
+impl Tally {
+    pub fn report(&self) -> String {
+        let mut text = format!("compared {} calls, no difference\n", self.calls);
+        for ((name, number), count) in &self.by_number {
+            text.push_str(&format!("  {name}: answer {number}: {count}\n"));
+        }
+        text
+    }
+}
+
+impl Difference {
+    pub fn report(&self) -> String {
+        let mut text = format!("difference in {}\n", self.call.name());
+        if let Call::Validate { budget, .. } = &self.call {
+            text.push_str(&format!("budget {budget}\n"));
+        }
+        for (name, bytes) in self.call.inputs() {
+            let shown = &bytes[..bytes.len().min(MOST_SHOWN)];
+            text.push_str(&format!("{name}, {} bytes: {}\n", bytes.len(), hex(shown)));
+        }
+        text.push_str(&format!("ordinary: {:?}\n", self.ordinary.answer));
+        text.push_str(&format!("other:    {:?}\n", self.other.answer));
+        if !self.other.margins_kept {
+            text.push_str("other: wrote outside what was lent\n");
+        }
+        let buffers = [
+            ("scratch", &self.ordinary.scratch, &self.other.scratch),
+            ("room", &self.ordinary.room, &self.other.room),
+        ];
+        for (name, ours, theirs) in buffers {
+            if let Some(place) = (0..ours.len()).find(|place| ours[*place] != theirs[*place]) {
+                let pair = (ours[place], theirs[place]);
+                text.push_str(&format!(
+                    "{name} differs first at byte {place}: {:02x} ordinary, {:02x} other\n",
+                    pair.0, pair.1
+                ));
+            }
+        }
+        text
+    }
+}
+
+pub fn hex(bytes: &[u8]) -> String {
+    bytes.iter().map(|byte| format!("{byte:02x}")).collect()
+}

@@ -1,0 +1,215 @@
+//! Random calls: for one table and recording, each public function several times.
+
+use super::buffers::{dirty, length_near};
+use super::encode::{encode_recording, encode_table, encode_witness};
+use super::recordings::{any_rows, overheard, spoil_rows};
+use super::rng::Rng;
+use super::spoil::{any_bytes, spoil_bytes};
+use super::spoil_tables::spoil_table;
+use super::tables::{any_table, sound_table, Shape};
+use super::witnesses::{guessed, spoil_witness};
+use crate::answer::Answer;
+use crate::call::Call;
+use crate::recording::{Recording, LAST_TIME};
+use crate::situation::Space;
+use crate::table::Table;
+use crate::validate::validate;
+use crate::witness::Witness;
+
+/// Situations times instants that a random validation may look at: as a rule, and at times.
+const USUAL_WORK: usize = 60_000;
+const RARE_WORK: usize = 2_000_000;
+
+/// A sound table and recording as parts, and the bytes made of them, which may be spoilt.
+struct Base {
+    table: Table,
+    recording: Recording,
+    table_bytes: Vec<u8>,
+    recording_bytes: Vec<u8>,
+}
+
+pub fn calls(rng: &mut Rng) -> Vec<Call> {
+    if rng.one_in(10) {
+        return wild_calls(rng);
+    }
+    let base = base(rng);
+    let mut calls = Vec::new();
+    let preferred = validations(rng, &base, &mut calls);
+    checks(rng, &base, preferred, &mut calls);
+    rewrites(rng, &base, &mut calls);
+    calls
+}
+
+/// Files that are any bytes at all, alone or behind a sound table.
+fn wild_calls(rng: &mut Rng) -> Vec<Call> {
+    let table = encode_table(&sound_table(rng, &Shape::TINY));
+    let recording = encode_recording(&Recording::default());
+    let wild = any_bytes(rng);
+    let room = dirty(rng, 50);
+    vec![
+        Call::RewriteTable { bytes: wild.clone(), room: room.clone() },
+        Call::RewriteRecording { table: table.clone(), bytes: wild.clone(), room: room.clone() },
+        Call::RewriteWitness { bytes: wild.clone(), room: room.clone() },
+        Call::Check { table: table.clone(), recording, witness: wild.clone() },
+        Call::Validate { table, recording: wild, budget: 9, scratch: room.clone(), room },
+    ]
+}
+
+fn base(rng: &mut Rng) -> Base {
+    let table = match rng.below(40) {
+        0..=15 => sound_table(rng, &Shape::TINY),
+        16..=31 => sound_table(rng, &Shape::MIDDLE),
+        32..=37 => sound_table(rng, &Shape::LARGE),
+        38 => any_table(rng, &Shape::LARGE),
+        _ => sound_table(rng, &Shape::WIDE),
+    };
+    let last = last_time(rng, &table);
+    let recording = match rng.one_in(2) {
+        true => any_rows(rng, &table, last),
+        false => overheard(rng, &table, last),
+    };
+    let mut base = Base {
+        table_bytes: encode_table(&table),
+        recording_bytes: encode_recording(&recording),
+        table,
+        recording,
+    };
+    if rng.one_in(3) {
+        spoil(rng, &mut base);
+    }
+    base
+}
+
+fn last_time(rng: &mut Rng, table: &Table) -> u16 {
+    let situations = Space::of(table).count();
+    let work = match rng.below(5_000) {
+        0 => usize::MAX,
+        1..=50 => RARE_WORK,
+        _ => USUAL_WORK,
+    };
+    let most = (work / situations).clamp(2, usize::from(LAST_TIME));
+    let last = match rng.below(10) {
+        0 => most,
+        1 => rng.between(0, most),
+        _ => rng.between(0, most.min(40)),
+    };
+    last as u16
+}
+
+fn spoil(rng: &mut Rng, base: &mut Base) {
+    match rng.below(9) {
+        0 | 1 => base.table_bytes = encode_table(&spoil_table(rng, &base.table)),
+        2 | 3 => base.table_bytes = spoil_bytes(rng, &base.table_bytes),
+        4 | 5 => {
+            let spoilt = spoil_rows(rng, &base.table, &base.recording);
+            base.recording_bytes = encode_recording(&spoilt);
+        }
+        6 => base.recording_bytes = spoil_bytes(rng, &base.recording_bytes),
+        7 => std::mem::swap(&mut base.table_bytes, &mut base.recording_bytes),
+        _ => match rng.one_in(2) {
+            true => base.table_bytes = any_bytes(rng),
+            false => base.recording_bytes = any_bytes(rng),
+        },
+    }
+}
+
+/// Adds validations with budgets around the cost and rooms around what is wanted, and gives
+/// the preferred witness if there is one.
+fn validations(rng: &mut Rng, base: &Base, calls: &mut Vec<Call>) -> Option<Vec<u8>> {
+    let (scratch_wanted, room_wanted) = wanted(&base.table_bytes, &base.recording_bytes);
+    let mut scratch = vec![0; scratch_wanted];
+    let mut room = vec![0; room_wanted];
+    let learnt = run(base, u32::MAX, &mut scratch, &mut room);
+    let costly = scratch_wanted > 1_000_000;
+    for budget in budgets(rng, learnt, if costly { 1 } else { 4 }) {
+        let scratch_length = length_near(rng, scratch_wanted);
+        let room_length = length_near(rng, room_wanted);
+        calls.push(Call::Validate {
+            table: base.table_bytes.clone(),
+            recording: base.recording_bytes.clone(),
+            budget,
+            scratch: dirty(rng, scratch_length),
+            room: dirty(rng, room_length),
+        });
+    }
+    room.truncate(5 + 5 * learnt.third as usize);
+    (learnt.number == 0).then_some(room)
+}
+
+fn run(base: &Base, budget: u32, scratch: &mut [u8], room: &mut [u8]) -> Answer {
+    validate(&base.table_bytes, &base.recording_bytes, budget, scratch, room)
+}
+
+/// Bytes of scratch and room that these files want, found by lending too few; some, if the
+/// files are refused before that.
+fn wanted(table: &[u8], recording: &[u8]) -> (usize, usize) {
+    let short = validate(table, recording, 0, &mut [], &mut []);
+    if short.number != 30 {
+        return (50, 50);
+    }
+    let scratch_wanted = short.second as usize;
+    let mut scratch = vec![0; scratch_wanted];
+    let short = validate(table, recording, 0, &mut scratch, &mut []);
+    (scratch_wanted, short.second as usize)
+}
+
+fn budgets(rng: &mut Rng, learnt: Answer, most: usize) -> Vec<u32> {
+    if learnt.number > 2 {
+        return vec![rng.draw() as u32];
+    }
+    let cost = learnt.second as u32;
+    let mut budgets = Vec::new();
+    for _ in 0..most {
+        budgets.push(match rng.below(8) {
+            0 => u32::MAX,
+            1 | 2 => cost,
+            3 => cost + 1,
+            4 | 5 => cost.saturating_sub(1),
+            6 => 0,
+            _ => rng.below(cost as usize + 1) as u32,
+        });
+    }
+    budgets
+}
+
+fn checks(rng: &mut Rng, base: &Base, preferred: Option<Vec<u8>>, calls: &mut Vec<Call>) {
+    let guess = guessed(rng, &base.table, &base.recording);
+    let spoilt = spoil_witness(rng, &guess);
+    let mut witnesses = vec![encode_witness(&guess), encode_witness(&spoilt)];
+    if let Some(preferred) = preferred {
+        witnesses.push(spoil_bytes(rng, &preferred));
+        if let Ok(parts) = crate::witness::read(&preferred) {
+            witnesses.push(encode_witness(&spoil_witness(rng, &parts)));
+        }
+        witnesses.push(preferred);
+    }
+    match rng.below(6) {
+        0 => witnesses.push(any_bytes(rng)),
+        1 => witnesses.push(encode_witness(&Witness::default())),
+        2 => witnesses.push(base.recording_bytes.clone()),
+        _ => {}
+    }
+    for witness in witnesses {
+        let room_length = length_near(rng, witness.len());
+        calls.push(Call::RewriteWitness { bytes: witness.clone(), room: dirty(rng, room_length) });
+        calls.push(Call::Check {
+            table: base.table_bytes.clone(),
+            recording: base.recording_bytes.clone(),
+            witness,
+        });
+    }
+}
+
+fn rewrites(rng: &mut Rng, base: &Base, calls: &mut Vec<Call>) {
+    let room_length = length_near(rng, base.table_bytes.len());
+    calls.push(Call::RewriteTable {
+        bytes: base.table_bytes.clone(),
+        room: dirty(rng, room_length),
+    });
+    let room_length = length_near(rng, base.recording_bytes.len());
+    calls.push(Call::RewriteRecording {
+        table: base.table_bytes.clone(),
+        bytes: base.recording_bytes.clone(),
+        room: dirty(rng, room_length),
+    });
+}

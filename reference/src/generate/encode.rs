@@ -1,0 +1,46 @@
+//! Parts into bytes without any judging, so that unsound parts can be had as bytes too.
+//! Numbers too large for their bytes lose their upper part.
+
+use crate::recording::Recording;
+use crate::table::Table;
+use crate::witness::Witness;
+
+pub fn encode_table(table: &Table) -> Vec<u8> {
+    let mut body = vec![1, table.states, table.variables, table.clocks];
+    body.push(table.kinds.len() as u8);
+    body.push(table.transitions.len() as u8);
+    for kind in &table.kinds {
+        body.push(kind.direction);
+        body.push(kind.airtime);
+    }
+    for it in &table.transitions {
+        body.extend([it.from, it.to, it.kind, it.set, it.clear, it.reset]);
+        body.push(it.guard.len() as u8);
+        body.extend(&it.guard);
+    }
+    with_length(body)
+}
+
+pub fn encode_recording(recording: &Recording) -> Vec<u8> {
+    let mut body = vec![1];
+    body.extend((recording.rows.len() as u16).to_be_bytes());
+    for row in &recording.rows {
+        body.extend([(row.time >> 8) as u8, row.time as u8, row.kind]);
+    }
+    with_length(body)
+}
+
+pub fn encode_witness(witness: &Witness) -> Vec<u8> {
+    let mut body = vec![1];
+    body.extend((witness.rows.len() as u16).to_be_bytes());
+    for row in &witness.rows {
+        body.extend([row.mark, (row.time >> 8) as u8, row.time as u8, row.kind, row.transition]);
+    }
+    with_length(body)
+}
+
+fn with_length(body: Vec<u8>) -> Vec<u8> {
+    let mut bytes = (body.len() as u16).to_be_bytes().to_vec();
+    bytes.extend(body);
+    bytes
+}

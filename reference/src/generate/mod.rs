@@ -1,0 +1,21 @@
+//! Random inputs: sound ones, nearly sound ones and any bytes at all.
+
+mod buffers;
+mod calls;
+mod encode;
+mod recordings;
+mod rng;
+mod spoil;
+mod spoil_tables;
+mod tables;
+mod witnesses;
+
+pub use buffers::{dirty, length_near};
+pub use calls::calls;
+pub use encode::{encode_recording, encode_table, encode_witness};
+pub use recordings::{any_rows, overheard, spoil_rows};
+pub use rng::Rng;
+pub use spoil::{any_bytes, spoil_bytes};
+pub use spoil_tables::spoil_table;
+pub use tables::{any_table, sound_table, Shape};
+pub use witnesses::{guessed, spoil_witness};

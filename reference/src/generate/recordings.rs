@@ -1,0 +1,97 @@
+//! Random recordings of a table's packets.
+
+use super::rng::Rng;
+use crate::brute::Monitor;
+use crate::recording::{Heard, Recording, FILE, LAST_TIME};
+use crate::table::Table;
+
+/// What a sniffer may hear of a monitor that keeps to its table: some packets are lost, and
+/// some that the unit missed are heard; now and then there is one that nobody can have sent,
+/// so that a rejection comes late. Sound always.
+pub fn overheard(rng: &mut Rng, table: &Table, last: u16) -> Recording {
+    let mut recording = Recording::default();
+    let mut monitor = Monitor::start();
+    let mut free_from = 0;
+    let pace = rng.between(1, 4);
+    let loss = rng.between(2, 6);
+    let odd_time = if rng.one_in(3) { rng.between(1, 1 + usize::from(last)) } else { 0 };
+    for time in 1..=last {
+        let kind = rng.below(table.kinds.len()) as u8;
+        if usize::from(time) == odd_time || (table.to_unit(kind) && rng.one_in(12)) {
+            hear(&mut recording, table, Heard { time, kind });
+        }
+        if u32::from(time) < free_from || !rng.one_in(pace) {
+            continue;
+        }
+        if let Some((kind, after)) = some_firing(rng, table, &monitor, time) {
+            monitor = after;
+            free_from = u32::from(time) + table.airtime(kind) + 1;
+            if !rng.one_in(loss) {
+                hear(&mut recording, table, Heard { time, kind });
+            }
+        }
+    }
+    recording
+}
+
+fn some_firing(rng: &mut Rng, table: &Table, it: &Monitor, time: u16) -> Option<(u8, Monitor)> {
+    let count = table.transitions.len();
+    let first = rng.below(count);
+    (0..count).find_map(|step| {
+        let number = (first + step) % count;
+        let kind = table.transitions[number].kind;
+        let after = it.fire(table, number as u8, (u32::from(time), kind))?;
+        Some((kind, after))
+    })
+}
+
+/// Adds the row if the recording stays sound with it.
+fn hear(recording: &mut Recording, table: &Table, row: Heard) {
+    let fits = recording.rows.last().is_none_or(|before| {
+        u32::from(row.time) > u32::from(before.time) + table.airtime(before.kind)
+    });
+    if fits && recording.rows.len() < FILE.most_rows {
+        recording.rows.push(row);
+    }
+}
+
+/// Any sound rows of the table's kinds up to this time.
+pub fn any_rows(rng: &mut Rng, table: &Table, last: u16) -> Recording {
+    let mut recording = Recording::default();
+    let pace = rng.between(1, 4);
+    for time in 1..=last {
+        if rng.one_in(pace) {
+            let kind = rng.below(table.kinds.len()) as u8;
+            hear(&mut recording, table, Heard { time, kind });
+        }
+    }
+    recording
+}
+
+/// Parts with a thing or a few out of order or just at a limit.
+pub fn spoil_rows(rng: &mut Rng, table: &Table, recording: &Recording) -> Recording {
+    let mut spoilt = recording.clone();
+    for _ in 0..=rng.below(2) {
+        let count = spoilt.rows.len();
+        let number = rng.below(count);
+        match rng.below(7) {
+            0 => spoilt.rows.resize(rng.pick(&[511, 512, 513, 600]), Heard { time: 1, kind: 0 }),
+            1 if count >= 2 => spoilt.rows.swap(number, (number + 1) % count),
+            2 if count >= 2 => {
+                let before = spoilt.rows[number.saturating_sub(1)];
+                let after = u32::from(before.time) + rng.below(4) as u32;
+                spoilt.rows[number].time = after as u16;
+            }
+            3 if count >= 1 => {
+                spoilt.rows[number].time = rng.pick(&[0, 1, LAST_TIME, LAST_TIME + 1, 65_535]);
+            }
+            4 if count >= 1 => {
+                let kinds = table.kinds.len() as u8;
+                spoilt.rows[number].kind = rng.pick(&[kinds - 1, kinds, 255]);
+            }
+            5 if count >= 1 => drop(spoilt.rows.remove(number)),
+            _ => spoilt.rows.push(Heard { time: LAST_TIME, kind: 0 }),
+        }
+    }
+    spoilt
+}

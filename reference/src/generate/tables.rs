@@ -1,0 +1,151 @@
+//! Random tables.
+
+use super::rng::Rng;
+use crate::situation::{Space, MOST_SITUATIONS};
+use crate::table::{Kind, Table, Transition};
+
+/// The most of everything that a random table may have.
+#[derive(Clone, Copy, Debug)]
+pub struct Shape {
+    pub states: usize,
+    pub variables: usize,
+    pub clocks: usize,
+    pub kinds: usize,
+    pub transitions: usize,
+    pub airtime: usize,
+    /// The largest number a clock is compared with.
+    pub limit: usize,
+    pub guard_bytes: usize,
+    /// Whether every count is at its most.
+    pub full: bool,
+}
+
+impl Shape {
+    /// Small enough for the brute-force search.
+    pub const TINY: Shape = Shape {
+        states: 3,
+        variables: 2,
+        clocks: 2,
+        kinds: 3,
+        transitions: 7,
+        airtime: 2,
+        limit: 5,
+        guard_bytes: 10,
+        full: false,
+    };
+    pub const MIDDLE: Shape = Shape {
+        states: 7,
+        variables: 3,
+        clocks: 2,
+        kinds: 6,
+        transitions: 24,
+        airtime: 4,
+        limit: 9,
+        guard_bytes: 20,
+        full: false,
+    };
+    /// Counts up to every limit; N is often too large and the numbers come down until it fits.
+    pub const LARGE: Shape = Shape {
+        states: 16,
+        variables: 4,
+        clocks: 2,
+        kinds: 32,
+        transitions: 64,
+        airtime: 15,
+        limit: 255,
+        guard_bytes: 32,
+        full: false,
+    };
+    /// N near its limit, and every count at its own.
+    pub const WIDE: Shape = Shape { airtime: 0, limit: 14, full: true, ..Shape::LARGE };
+}
+
+pub fn sound_table(rng: &mut Rng, shape: &Shape) -> Table {
+    let mut shape = *shape;
+    loop {
+        let table = any_table(rng, &shape);
+        if Space::of(&table).count() <= MOST_SITUATIONS {
+            return table;
+        }
+        shape.limit = (shape.limit * 3 / 4).max(1);
+        shape.airtime /= 2;
+    }
+}
+
+/// Sound but for N, which may be above its limit.
+pub fn any_table(rng: &mut Rng, shape: &Shape) -> Table {
+    let count = |rng: &mut Rng, low, most| if shape.full { most } else { rng.between(low, most) };
+    let states = count(rng, 1, shape.states);
+    let variables = count(rng, 0, shape.variables);
+    let clocks = count(rng, 0, shape.clocks);
+    let kinds = count(rng, 1, shape.kinds);
+    // Few transitions say little, so the larger of two counts.
+    let transitions = count(rng, 0, shape.transitions).max(count(rng, 0, shape.transitions));
+    let mut table = Table {
+        states: states as u8,
+        variables: variables as u8,
+        clocks: clocks as u8,
+        kinds: (0..kinds).map(|_| kind(rng, shape)).collect(),
+        transitions: Vec::new(),
+    };
+    for _ in 0..transitions {
+        let transition = transition(rng, shape, &table);
+        table.transitions.push(transition);
+    }
+    table
+}
+
+fn kind(rng: &mut Rng, shape: &Shape) -> Kind {
+    let airtime = if rng.one_in(2) { 0 } else { rng.between(0, shape.airtime) };
+    Kind { direction: u8::from(rng.below(5) < 2), airtime: airtime as u8 }
+}
+
+fn transition(rng: &mut Rng, shape: &Shape, table: &Table) -> Transition {
+    let variables_mask = (1 << table.variables) - 1;
+    let set = rng.byte() & rng.byte() & variables_mask;
+    let most = if shape.full { shape.guard_bytes } else { rng.between(1, shape.guard_bytes) };
+    let mut guard = guard(rng, shape, table, most);
+    if rng.one_in(8) {
+        // As long as it may be: enough times not.
+        guard.splice(0..0, vec![4; most - guard.len()]);
+    }
+    Transition {
+        from: rng.below(table.states.into()) as u8,
+        to: rng.below(table.states.into()) as u8,
+        kind: rng.below(table.kinds.len()) as u8,
+        set,
+        clear: rng.byte() & rng.byte() & variables_mask & !set,
+        reset: rng.byte() & ((1 << table.clocks) - 1),
+        guard,
+    }
+}
+
+/// A guard of at most so many bytes, which must be one or more.
+fn guard(rng: &mut Rng, shape: &Shape, table: &Table, most: usize) -> Vec<u8> {
+    let clock = |rng: &mut Rng, code: u8| {
+        let limit = if shape.full { shape.limit } else { rng.between(0, shape.limit) };
+        vec![code, rng.below(table.clocks.into()) as u8, limit as u8]
+    };
+    match rng.below(12) {
+        0..=2 if most >= 3 && table.clocks > 0 => clock(rng, 1),
+        3..=5 if most >= 3 && table.clocks > 0 => clock(rng, 2),
+        6 | 7 if most >= 2 && table.variables > 0 => {
+            vec![3, rng.below(table.variables.into()) as u8]
+        }
+        8 | 9 if most >= 2 => {
+            let mut bytes = vec![4];
+            bytes.extend(guard(rng, shape, table, most - 1));
+            bytes
+        }
+        10 | 11 if most >= 3 => {
+            let left_most = rng.between(1, most - 2);
+            let left = guard(rng, shape, table, left_most);
+            let mut bytes = vec![5];
+            let right = guard(rng, shape, table, most - 1 - left.len());
+            bytes.extend(left);
+            bytes.extend(right);
+            bytes
+        }
+        _ => vec![0],
+    }
+}

@@ -1,0 +1,33 @@
+//! An ordinary program for verdicts, costs and witnesses of recorded handovers.
+//!
+//! It is written from the papers alone, to be compared with the verified library and to be
+//! measured beside it.
+
+#![deny(unsafe_code)]
+
+pub mod answer;
+pub mod bench;
+pub mod brute;
+pub mod call;
+pub mod check;
+pub mod compare;
+pub mod desk;
+pub mod frame;
+pub mod generate;
+pub mod guard;
+pub mod instant;
+pub mod lent;
+#[cfg(feature = "linked")]
+pub mod linked;
+pub mod moves;
+pub mod papers;
+pub mod recording;
+pub mod rewrite;
+pub mod search;
+pub mod selftest;
+pub mod set;
+pub mod situation;
+pub mod table;
+pub mod validate;
+pub mod wide;
+pub mod witness;

@@ -1,0 +1,112 @@
+//! The verified library behind its C interface.
+
+#![allow(unsafe_code)]
+
+use crate::answer::Answer;
+use crate::call::Engine;
+
+extern "C" {
+    fn lutarosa_validate(
+        table: *const u8,
+        table_length: usize,
+        recording: *const u8,
+        recording_length: usize,
+        budget: u32,
+        scratch: *mut u8,
+        scratch_length: usize,
+        room: *mut u8,
+        room_length: usize,
+    ) -> Answer;
+    fn lutarosa_check(
+        table: *const u8,
+        table_length: usize,
+        recording: *const u8,
+        recording_length: usize,
+        witness: *const u8,
+        witness_length: usize,
+    ) -> Answer;
+    fn lutarosa_rewrite_table(
+        bytes: *const u8,
+        length: usize,
+        room: *mut u8,
+        room_length: usize,
+    ) -> Answer;
+    fn lutarosa_rewrite_recording(
+        table: *const u8,
+        table_length: usize,
+        bytes: *const u8,
+        length: usize,
+        room: *mut u8,
+        room_length: usize,
+    ) -> Answer;
+    fn lutarosa_rewrite_witness(
+        bytes: *const u8,
+        length: usize,
+        room: *mut u8,
+        room_length: usize,
+    ) -> Answer;
+}
+
+/// The folder that the library was linked from.
+pub const FOLDER: &str = env!("LUTAROSA_LINKED_FROM");
+
+pub const VERIFIED: Engine =
+    Engine { validate, check, rewrite_table, rewrite_recording, rewrite_witness };
+
+// Each call lends whole slices that do not overlap and outlive it; the library keeps none.
+
+fn validate(
+    table: &[u8],
+    recording: &[u8],
+    budget: u32,
+    scratch: &mut [u8],
+    room: &mut [u8],
+) -> Answer {
+    unsafe {
+        lutarosa_validate(
+            table.as_ptr(),
+            table.len(),
+            recording.as_ptr(),
+            recording.len(),
+            budget,
+            scratch.as_mut_ptr(),
+            scratch.len(),
+            room.as_mut_ptr(),
+            room.len(),
+        )
+    }
+}
+
+fn check(table: &[u8], recording: &[u8], witness: &[u8]) -> Answer {
+    unsafe {
+        lutarosa_check(
+            table.as_ptr(),
+            table.len(),
+            recording.as_ptr(),
+            recording.len(),
+            witness.as_ptr(),
+            witness.len(),
+        )
+    }
+}
+
+fn rewrite_table(bytes: &[u8], room: &mut [u8]) -> Answer {
+    unsafe { lutarosa_rewrite_table(bytes.as_ptr(), bytes.len(), room.as_mut_ptr(), room.len()) }
+}
+
+fn rewrite_recording(table: &[u8], bytes: &[u8], room: &mut [u8]) -> Answer {
+    unsafe {
+        lutarosa_rewrite_recording(
+            table.as_ptr(),
+            table.len(),
+            bytes.as_ptr(),
+            bytes.len(),
+            room.as_mut_ptr(),
+            room.len(),
+        )
+    }
+}
+
+fn rewrite_witness(bytes: &[u8], room: &mut [u8]) -> Answer {
+    unsafe { lutarosa_rewrite_witness(bytes.as_ptr(), bytes.len(), room.as_mut_ptr(), room.len()) }
+}

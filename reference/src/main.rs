@@ -1,0 +1,112 @@
+//! The command `reference`.
+
+use std::io;
+use std::path::Path;
+use std::process::ExitCode;
+use std::time::{Duration, Instant};
+
+use lutarosa_reference::call::Engine;
+use lutarosa_reference::{bench, compare, desk, selftest, wide};
+
+const USAGE: &str = "\
+reference desk                             standard input to the desk's lines
+reference selftest [SECONDS] [SEED]        the paper's values and the brute-force search
+reference compare [FOLDER] SECONDS [SEED]  random calls against the verified library
+reference bench                            the time of the wide input
+reference wide FOLDER                      the wide input as files
+";
+
+fn main() -> ExitCode {
+    let arguments: Vec<String> = std::env::args().skip(1).collect();
+    let arguments: Vec<&str> = arguments.iter().map(String::as_str).collect();
+    let outcome = match arguments.as_slice() {
+        ["desk"] => desk::run(io::stdin(), io::stdout()).map_err(|it| it.to_string()),
+        ["selftest", rest @ ..] => run_selftest(rest),
+        ["compare", rest @ ..] => run_compare(rest),
+        ["bench"] => run_bench(),
+        ["wide", folder] => write_wide(Path::new(folder)),
+        _ => {
+            eprint!("{USAGE}");
+            return ExitCode::from(2);
+        }
+    };
+    match outcome {
+        Ok(()) => ExitCode::SUCCESS,
+        Err(text) => {
+            println!("{}", text.trim_end());
+            ExitCode::FAILURE
+        }
+    }
+}
+
+fn run_selftest(arguments: &[&str]) -> Result<(), String> {
+    let (time, seed) = time_and_seed(arguments)?;
+    print!("{}", selftest::selftest(time, seed)?.report());
+    Ok(())
+}
+
+fn run_compare(arguments: &[&str]) -> Result<(), String> {
+    let verified = verified().ok_or("built without the feature `linked`: nothing to compare")?;
+    let rest = match arguments {
+        [folder, rest @ ..] if folder.parse::<u64>().is_err() => {
+            is_linked_from(folder)?;
+            rest
+        }
+        rest => rest,
+    };
+    let (time, seed) = time_and_seed(rest)?;
+    println!("seed {seed}");
+    let end = Instant::now() + time;
+    let (tally, difference) = compare::compare(&verified, seed, |_| Instant::now() < end);
+    if let Some(difference) = difference {
+        return Err(format!("{}after {} calls", difference.report(), tally.calls));
+    }
+    print!("{}", tally.report());
+    Ok(())
+}
+
+fn run_bench() -> Result<(), String> {
+    let (text, as_expected) = bench::bench(verified().as_ref());
+    print!("{text}");
+    as_expected.then_some(()).ok_or_else(|| "the input or an answer is not as it should be".into())
+}
+
+fn write_wide(folder: &Path) -> Result<(), String> {
+    let files = [("wide.table", wide::wide_table()), ("wide.recording", wide::wide_recording())];
+    for (name, bytes) in files {
+        std::fs::write(folder.join(name), bytes).map_err(|it| format!("{name}: {it}"))?;
+    }
+    Ok(())
+}
+
+/// 20 seconds and seed 1 where nothing is said.
+fn time_and_seed(arguments: &[&str]) -> Result<(Duration, u64), String> {
+    let number = |place: usize, usual: u64| match arguments.get(place) {
+        Some(text) => text.parse().map_err(|_| format!("not a number: {text}")),
+        None => Ok(usual),
+    };
+    Ok((Duration::from_secs(number(0, 20)?), number(1, 1)?))
+}
+
+#[cfg(feature = "linked")]
+fn verified() -> Option<Engine> {
+    Some(lutarosa_reference::linked::VERIFIED)
+}
+
+#[cfg(not(feature = "linked"))]
+fn verified() -> Option<Engine> {
+    None
+}
+
+/// A named folder must be the one linked, so that no stale library is compared unseen.
+#[cfg(feature = "linked")]
+fn is_linked_from(folder: &str) -> Result<(), String> {
+    let linked = lutarosa_reference::linked::FOLDER;
+    let same = std::fs::canonicalize(folder).ok() == std::fs::canonicalize(linked).ok();
+    same.then_some(()).ok_or_else(|| format!("built with the library in {linked}"))
+}
+
+#[cfg(not(feature = "linked"))]
+fn is_linked_from(_: &str) -> Result<(), String> {
+    Ok(())
+}

@@ -1,0 +1,106 @@
+//! Reading against writing: sound files come back as they were, and writing unsound parts
+//! gives what reading their bytes gives.
+
+use super::{same, Counts};
+use crate::answer::{Answer, Refusal};
+use crate::compare::hex;
+use crate::generate::{
+    any_bytes, dirty, encode_recording, encode_table, encode_witness, guessed, length_near,
+    overheard, sound_table, spoil_bytes, spoil_rows, spoil_table, spoil_witness, Rng, Shape,
+};
+use crate::rewrite::{rewrite_recording, rewrite_table, rewrite_witness};
+use crate::{recording, table, witness};
+
+pub fn test(rng: &mut Rng, counts: &mut Counts) -> Result<(), String> {
+    let shape = rng.pick(&[Shape::TINY, Shape::MIDDLE, Shape::LARGE]);
+    let sound = sound_table(rng, &shape);
+    let table_bytes = encode_table(&sound);
+    same("sound table", table::read(&table_bytes), Ok(sound.clone()))?;
+    let last = rng.between(0, 60) as u16;
+    let heard = overheard(rng, &sound, last);
+    let heard_bytes = encode_recording(&heard);
+    let read = recording::read(&table_bytes, &heard_bytes).map(|it| it.1);
+    same("sound recording", read, Ok(heard.clone()))?;
+    let guess = guessed(rng, &sound, &heard);
+    let guess_bytes = encode_witness(&guess);
+    same("witness in form", witness::read(&guess_bytes), Ok(guess.clone()))?;
+
+    let spoilt = spoil_table(rng, &sound);
+    tables(rng, &spoilt)?;
+    let spoilt = spoil_rows(rng, &sound, &heard);
+    recordings(rng, &table_bytes, &spoilt)?;
+    let spoilt = spoil_witness(rng, &guess);
+    witnesses(rng, &spoilt)?;
+    for file in [&table_bytes, &heard_bytes, &guess_bytes] {
+        let spoilt = spoil_bytes(rng, file);
+        bytes(rng, &table_bytes, file)?;
+        bytes(rng, &table_bytes, &spoilt)?;
+    }
+    let any = any_bytes(rng);
+    bytes(rng, &table_bytes, &any)?;
+    counts.files += 16;
+    Ok(())
+}
+
+/// Writes into a dirty room and expects what reading the same bytes says.
+fn written(
+    rng: &mut Rng,
+    read: Result<(), Refusal>,
+    bytes: &[u8],
+    write: impl Fn(&mut [u8]) -> Answer,
+) -> Result<(), String> {
+    let room_length = length_near(rng, bytes.len());
+    let room = dirty(rng, room_length);
+    let mut after = room.clone();
+    let answer = write(&mut after);
+    let expected = match read {
+        Err(refusal) => refusal.into(),
+        Ok(()) if room.len() < bytes.len() => Answer::new(33, bytes.len() as u64, 0),
+        Ok(()) => Answer::new(0, bytes.len() as u64, 0),
+    };
+    same("answer", answer, expected)?;
+    let mut expected_room = room;
+    if answer.number == 0 {
+        expected_room[..bytes.len()].copy_from_slice(bytes);
+    }
+    same("room", after, expected_room)
+}
+
+fn tables(rng: &mut Rng, parts: &table::Table) -> Result<(), String> {
+    // A guard length past its byte cannot be had as bytes; 255 stands for it there.
+    let mut shown = parts.clone();
+    for it in &mut shown.transitions {
+        it.guard.truncate(255);
+    }
+    let bytes = encode_table(&shown);
+    let read = table::read(&bytes).map(|_| ());
+    written(rng, read, &bytes, |room| table::write(parts, room))
+        .map_err(|it| format!("write table {parts:?}: {it}"))
+}
+
+fn recordings(rng: &mut Rng, table: &[u8], parts: &recording::Recording) -> Result<(), String> {
+    let bytes = encode_recording(parts);
+    let read = recording::read(table, &bytes).map(|_| ());
+    written(rng, read, &bytes, |room| recording::write(table, parts, room))
+        .map_err(|it| format!("write recording {parts:?}: {it}"))
+}
+
+fn witnesses(rng: &mut Rng, parts: &witness::Witness) -> Result<(), String> {
+    let bytes = encode_witness(parts);
+    let read = witness::read(&bytes).map(|_| ());
+    written(rng, read, &bytes, |room| witness::write(parts, room))
+        .map_err(|it| format!("write witness {parts:?}: {it}"))
+}
+
+/// Any bytes, taken for each of the three files in turn.
+fn bytes(rng: &mut Rng, table: &[u8], bytes: &[u8]) -> Result<(), String> {
+    let all = |rng: &mut Rng| {
+        let read = table::read(bytes).map(|_| ());
+        written(rng, read, bytes, |room| rewrite_table(bytes, room))?;
+        let read = recording::read(table, bytes).map(|_| ());
+        written(rng, read, bytes, |room| rewrite_recording(table, bytes, room))?;
+        let read = witness::read(bytes).map(|_| ());
+        written(rng, read, bytes, |room| rewrite_witness(bytes, room))
+    };
+    all(rng).map_err(|it| format!("rewrite: {it}\ntable: {}\nbytes: {}", hex(table), hex(bytes)))
+}

@@ -1,0 +1,73 @@
+//! The program tested against itself: the paper's values, the brute-force search, the rules
+//! of lent buffers, and reading against writing.
+
+mod against_brute;
+mod checks;
+mod files;
+mod papers;
+
+use std::time::{Duration, Instant};
+
+use crate::generate::Rng;
+
+/// What was looked at.
+#[derive(Default)]
+pub struct Counts {
+    pub papers: u64,
+    pub inputs: u64,
+    pub accepted: u64,
+    pub rejected: u64,
+    pub validations: u64,
+    pub witnesses: u64,
+    pub checker_hunts: u64,
+    pub hunts_left: u64,
+    pub checks: u64,
+    pub files: u64,
+}
+
+/// Runs until the time is up; an error says what differed.
+pub fn selftest(time: Duration, seed: u64) -> Result<Counts, String> {
+    let end = Instant::now() + time;
+    let mut counts = Counts::default();
+    papers::test(&mut counts)?;
+    let mut rng = Rng::new(seed);
+    while Instant::now() < end {
+        against_brute::test(&mut rng, &mut counts)?;
+        checks::test(&mut rng, &mut counts)?;
+        files::test(&mut rng, &mut counts)?;
+    }
+    Ok(counts)
+}
+
+impl Counts {
+    pub fn report(&self) -> String {
+        format!(
+            "papers: {} as stated\n\
+             small inputs against brute force: {} ({} accepted, {} rejected)\n\
+             validations of them at budgets around every running total: {}\n\
+             witnesses found by brute force: {}\n\
+             all lists the checker permits enumerated: {} inputs ({} left as too many)\n\
+             witnesses checked rule by rule: {}\n\
+             files read and written: {}\n\
+             no difference\n",
+            self.papers,
+            self.inputs,
+            self.accepted,
+            self.rejected,
+            self.validations,
+            self.witnesses,
+            self.checker_hunts,
+            self.hunts_left,
+            self.checks,
+            self.files
+        )
+    }
+}
+
+/// An error unless both are equal.
+fn same<T: PartialEq + std::fmt::Debug>(what: &str, got: T, expected: T) -> Result<(), String> {
+    match got == expected {
+        true => Ok(()),
+        false => Err(format!("{what}: got {got:?}, expected {expected:?}")),
+    }
+}

@@ -1,0 +1,36 @@
+//! P1 to P12 with the values the paper states.
+
+use super::{same, Counts};
+use crate::answer::Answer;
+use crate::brute::works;
+use crate::check::check_witness;
+use crate::papers::{Paper, PAPERS, SMALL_MONITOR};
+use crate::recording;
+use crate::validate::validate;
+
+pub fn test(counts: &mut Counts) -> Result<(), String> {
+    for paper in PAPERS {
+        test_one(paper).map_err(|text| format!("{}: {text}", paper.name))?;
+        counts.papers += 1;
+    }
+    let five = PAPERS[4].recording();
+    let (table, five) = recording::read(&SMALL_MONITOR, &five).map_err(|it| format!("{it:?}"))?;
+    same("P5 works", works(&table, &five), vec![1, 1, 1, 2, 3, 5])
+}
+
+/// With buffers far larger than wanted, so that nothing but the verdict is in question.
+fn test_one(paper: &Paper) -> Result<(), String> {
+    let recording = paper.recording();
+    let mut scratch = vec![0xAA; 1_000];
+    let mut room = vec![0xAA; 1_000];
+    let answer = validate(&SMALL_MONITOR, &recording, paper.budget, &mut scratch, &mut room);
+    same("answer", answer, paper.answer)?;
+    same("witness", &room[..paper.witness.len()], paper.witness)?;
+    same("rest of the room", room[paper.witness.len()..].iter().all(|it| *it == 0xAA), true)?;
+    if paper.answer.number == 0 {
+        let guessed = paper.witness[5..].chunks_exact(5).filter(|row| row[0] != 0).count() as u64;
+        let checked = check_witness(&SMALL_MONITOR, &recording, paper.witness);
+        same("check", checked, Answer::new(0, guessed, paper.answer.third))?;
+    }
+    Ok(())
+}

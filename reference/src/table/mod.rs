@@ -1,0 +1,66 @@
+//! The table: a monitor and its kinds of packet.
+
+mod read;
+mod rules;
+mod write;
+
+pub use read::read;
+pub use rules::{COUNT_LIMITS, FIRST_COUNT};
+pub use write::write;
+
+use crate::guard::Guard;
+
+#[derive(Clone, Copy, Debug, PartialEq, Eq, Default)]
+pub struct Kind {
+    /// 0 from the unit, 1 to it.
+    pub direction: u8,
+    pub airtime: u8,
+}
+
+#[derive(Clone, Debug, PartialEq, Eq, Default)]
+pub struct Transition {
+    pub from: u8,
+    pub to: u8,
+    pub kind: u8,
+    pub set: u8,
+    pub clear: u8,
+    pub reset: u8,
+    /// In the prefix form of the file; its length is the guard length.
+    pub guard: Vec<u8>,
+}
+
+/// The parts of a table. They may be unsound: writing judges them as reading would.
+#[derive(Clone, Debug, PartialEq, Eq, Default)]
+pub struct Table {
+    pub states: u8,
+    pub variables: u8,
+    pub clocks: u8,
+    pub kinds: Vec<Kind>,
+    pub transitions: Vec<Transition>,
+}
+
+impl Table {
+    /// The five counts in the order of the file.
+    pub fn counts(&self) -> [usize; 5] {
+        [
+            usize::from(self.states),
+            usize::from(self.variables),
+            usize::from(self.clocks),
+            self.kinds.len(),
+            self.transitions.len(),
+        ]
+    }
+
+    /// The guard of a transition, or nothing if it is malformed.
+    pub fn guard(&self, transition: &Transition) -> Option<Guard> {
+        Guard::read(&transition.guard, self.variables, self.clocks)
+    }
+
+    pub fn to_unit(&self, kind: u8) -> bool {
+        self.kinds[usize::from(kind)].direction == 1
+    }
+
+    pub fn airtime(&self, kind: u8) -> u32 {
+        u32::from(self.kinds[usize::from(kind)].airtime)
+    }
+}

@@ -1,0 +1,56 @@
+//! The validation of a recording: verdict, cost and preferred witness.
+
+use crate::answer::{settle, Answer, Refusal};
+use crate::frame::put;
+use crate::instant::instants;
+use crate::moves::Moves;
+use crate::recording;
+use crate::search::Search;
+use crate::set;
+use crate::situation::Space;
+use crate::witness;
+
+/// Lends `scratch` to the search and leaves the witness at the start of `room`.
+pub fn validate(
+    table: &[u8],
+    recording: &[u8],
+    budget: u32,
+    scratch: &mut [u8],
+    room: &mut [u8],
+) -> Answer {
+    settle(validate_read(table, recording, budget, scratch, room))
+}
+
+fn validate_read(
+    table: &[u8],
+    recording: &[u8],
+    budget: u32,
+    scratch: &mut [u8],
+    room: &mut [u8],
+) -> Result<Answer, Refusal> {
+    let (table, recording) = recording::read(table, recording)?;
+    let space = Space::of(&table);
+    let last_time = recording.last_time();
+    let set_size = set::size(space.count());
+
+    let scratch_wanted = (last_time + 1) * set_size;
+    let layers = scratch.get_mut(..scratch_wanted).ok_or(Refusal::new(30, scratch_wanted))?;
+    let room_wanted = witness::FILE.size(last_time + recording.rows.len());
+    if room.len() < room_wanted {
+        return Err(Refusal::new(31, room_wanted));
+    }
+
+    let instants = instants(&table, &recording);
+    let moves = Moves::new(&table, &space);
+    let first = space.number(&space.first());
+    let answer = match (Search { instants: &instants, moves, layers, set_size }).run(first, budget)
+    {
+        Err(verdict) => verdict,
+        Ok((cost, found)) => {
+            put(&witness::bytes_of(&found), room)?;
+            Answer::new(0, cost, found.rows.len() as u64)
+        }
+    };
+    layers.fill(0);
+    Ok(answer)
+}

@@ -1,0 +1,212 @@
+//! The comparison finds no difference where there is none, and finds each of these faults.
+
+use lutarosa_reference::answer::Answer;
+use lutarosa_reference::call::{Engine, Validate, ORDINARY};
+use lutarosa_reference::check::check_witness;
+use lutarosa_reference::compare::compare;
+use lutarosa_reference::frame::big_endian;
+use lutarosa_reference::rewrite::{rewrite_recording, rewrite_table, rewrite_witness};
+use lutarosa_reference::validate::validate;
+use lutarosa_reference::{recording, situation::Space, table};
+
+/// In which each fault must be found; most need a small part of it.
+const MOST_CALLS: u64 = 200_000;
+
+#[test]
+fn no_difference_from_itself() {
+    let (_, difference) = compare(&ORDINARY, 5, |tally| tally.calls < 2_000);
+    assert!(difference.is_none());
+}
+
+fn finds(name: &str, engine: Engine) {
+    let (tally, difference) = compare(&engine, 5, |tally| tally.calls < MOST_CALLS);
+    assert!(difference.is_some(), "{name}: not found in {} calls", tally.calls);
+    println!("{name}: found at call {}", tally.calls);
+}
+
+fn finds_validate(name: &str, validate: Validate) {
+    finds(name, Engine { validate, ..ORDINARY });
+}
+
+#[test]
+fn wrong_answers_of_validation() {
+    finds_validate("one less is exhausted", |table, heard, budget, scratch, room| {
+        let it = validate(table, heard, budget, scratch, room);
+        match it.number {
+            0 if it.second == u64::from(budget) => Answer::new(2, it.second, 1),
+            _ => it,
+        }
+    });
+    finds_validate("budget above, cost unsaid", |table, heard, budget, scratch, room| {
+        let it = validate(table, heard, budget, scratch, room);
+        match it.number {
+            1 if it.second > 100 => Answer::new(1, 100, it.third),
+            _ => it,
+        }
+    });
+    finds_validate("30 and 31 changed over", |table, heard, budget, scratch, room| match validate(
+        table, heard, budget, scratch, room,
+    ) {
+        Answer { number: 31, second, .. } if scratch.is_empty() => Answer::new(30, second, 0),
+        Answer { number: 30, second, .. } if room.len() < 6 => Answer::new(31, second, 0),
+        it => it,
+    });
+}
+
+#[test]
+fn lent_bytes_of_validation() {
+    finds_validate("last scratch byte dirty", |table, heard, budget, scratch, room| {
+        let last = scratch.last().copied();
+        let it = validate(table, heard, budget, scratch, room);
+        if let (true, Some(last), Some(byte)) = (it.number < 3, last, scratch.last_mut()) {
+            *byte = last;
+        }
+        it
+    });
+    finds_validate("all scratch cleared", |table, heard, budget, scratch, room| {
+        let it = validate(table, heard, budget, scratch, room);
+        if it.number < 3 {
+            scratch.fill(0);
+        }
+        it
+    });
+    finds_validate("room cleared after rejection", |table, heard, budget, scratch, room| {
+        let it = validate(table, heard, budget, scratch, room);
+        if it.number == 1 {
+            room.fill(0);
+        }
+        it
+    });
+    finds_validate("rest of the room cleared", |table, heard, budget, scratch, room| {
+        let it = validate(table, heard, budget, scratch, room);
+        if it.number == 0 {
+            room[5 + 5 * it.third as usize..].fill(0);
+        }
+        it
+    });
+    finds_validate("scratch cleared after 31", |table, heard, budget, scratch, room| {
+        let it = validate(table, heard, budget, scratch, room);
+        if it.number == 31 {
+            scratch.fill(0);
+        }
+        it
+    });
+}
+
+#[test]
+fn limits_of_tables_and_times() {
+    finds_validate("last time 4,095", |table, heard, budget, scratch, room| match recording::read(
+        table, heard,
+    ) {
+        Ok((_, it)) if it.last_time() == 4_096 => Answer::new(23, 0, 0),
+        _ => validate(table, heard, budget, scratch, room),
+    });
+    finds("N below 65,536", {
+        let rewrite_table = |bytes: &[u8], room: &mut [u8]| match table::read(bytes) {
+            Ok(it) if Space::of(&it).count() == 65_536 => Answer::new(16, 0, 0),
+            _ => rewrite_table(bytes, room),
+        };
+        Engine { rewrite_table, ..ORDINARY }
+    });
+    finds("guard of 32 bytes refused", {
+        let rewrite_table = |bytes: &[u8], room: &mut [u8]| match table::read(bytes) {
+            Ok(it) if it.transitions.iter().any(|it| it.guard.len() == 32) => {
+                Answer::new(15, 10, 0)
+            }
+            _ => rewrite_table(bytes, room),
+        };
+        Engine { rewrite_table, ..ORDINARY }
+    });
+}
+
+#[test]
+fn limits_of_lengths_and_counts() {
+    finds("length taken without its upper part", {
+        let rewrite_witness = |bytes: &[u8], room: &mut [u8]| match bytes {
+            [high, low, version, ..]
+                if bytes.len() > 65_537
+                    && usize::from(big_endian(*high, *low)) == (bytes.len() - 2) % 65_536
+                    && *version != 1 =>
+            {
+                Answer::new(41, 2, 0)
+            }
+            _ => rewrite_witness(bytes, room),
+        };
+        Engine { rewrite_witness, ..ORDINARY }
+    });
+    finds("most rows of a witness", {
+        let rewrite_witness = |bytes: &[u8], room: &mut [u8]| match rewrite_witness(bytes, room) {
+            Answer { number: 42, .. } if bytes.len() == 5 + 5 * 4_609 => Answer::new(43, 1, 0),
+            it => it,
+        };
+        Engine { rewrite_witness, ..ORDINARY }
+    });
+    finds("512 rows of a recording refused", {
+        let rewrite_recording =
+            |table: &[u8], bytes: &[u8], room: &mut [u8]| match rewrite_recording(
+                table, bytes, room,
+            ) {
+                it if it.number < 22 => it,
+                _ if bytes.len() == 5 + 3 * 512 => Answer::new(22, 3, 0),
+                it => it,
+            };
+        Engine { rewrite_recording, ..ORDINARY }
+    });
+}
+
+#[test]
+fn checker() {
+    finds("all accepted", {
+        let check =
+            |table: &[u8], heard: &[u8], witness: &[u8]| match check_witness(table, heard, witness)
+            {
+                Answer { number: 43, second, .. } => Answer::new(0, 0, second),
+                it => it,
+            };
+        Engine { check, ..ORDINARY }
+    });
+    finds("unaccounted rows get the last row", {
+        let check =
+            |table: &[u8], heard: &[u8], witness: &[u8]| match check_witness(table, heard, witness)
+            {
+                Answer { number: 43, second, .. } if witness.len() == 5 + 5 * second as usize => {
+                    Answer::new(43, second.saturating_sub(1), 0)
+                }
+                it => it,
+            };
+        Engine { check, ..ORDINARY }
+    });
+}
+
+#[test]
+fn rewriting() {
+    finds("33 after a few bytes were written", {
+        let rewrite_table = |bytes: &[u8], room: &mut [u8]| {
+            let it = rewrite_table(bytes, room);
+            if let (33, Some(byte)) = (it.number, room.first_mut()) {
+                *byte = bytes[0];
+            }
+            it
+        };
+        Engine { rewrite_table, ..ORDINARY }
+    });
+    finds("a byte beyond is cleared", {
+        let rewrite_recording = |table: &[u8], bytes: &[u8], room: &mut [u8]| {
+            let it = rewrite_recording(table, bytes, room);
+            if it.number == 0 {
+                room[bytes.len()..].fill(0);
+            }
+            it
+        };
+        Engine { rewrite_recording, ..ORDINARY }
+    });
+    finds("nothing written", {
+        let rewrite_witness = |bytes: &[u8], room: &mut [u8]| {
+            let before = room.to_vec();
+            let it = rewrite_witness(bytes, room);
+            room.copy_from_slice(&before);
+            it
+        };
+        Engine { rewrite_witness, ..ORDINARY }
+    });
+}

@@ -1,0 +1,71 @@
+//! The desk's program: how its input is cut up, and its lines.
+
+mod common;
+
+use common::file;
+use lutarosa_reference::desk::{report, run};
+use lutarosa_reference::papers::{recording, ACK, DATA, RETRY, SMALL_MONITOR};
+
+fn input(table: &[u8], recording: &[u8], budget: u32) -> Vec<u8> {
+    [table, recording, &budget.to_be_bytes()].concat()
+}
+
+fn lines(rows: &[(u16, u8)], budget: u32) -> String {
+    report(&input(&SMALL_MONITOR, &recording(rows), budget))
+}
+
+#[test]
+fn verdicts() {
+    assert_eq!(lines(&[], 0), "accepted 0 0\n");
+    assert_eq!(lines(&[(1, DATA)], 1), "accepted 1 1\nkept 1 0 0\n");
+    assert_eq!(lines(&[(1, RETRY)], 1), "rejected 1 1\n");
+    assert_eq!(lines(&[(1, DATA), (3, ACK), (6, RETRY)], 7), "exhausted 7 5\n");
+    assert_eq!(lines(&[(1, DATA), (2, DATA)], 7), "refused 24 1\n");
+    let added = "accepted 5 3\nkept 1 0 0\nadded 3 2 1\nkept 4 0 0\n";
+    assert_eq!(lines(&[(1, DATA), (4, DATA)], 5), added);
+}
+
+#[test]
+fn too_few_and_too_many_bytes() {
+    assert_eq!(report(&[]), "refused 5 0\n");
+    assert_eq!(report(&[0; 3]), "refused 5 0\n");
+    assert_eq!(report(&[0; 4]), "refused 10 0\n");
+    assert_eq!(report(&[0; 8_192]), "refused 10 0\n");
+    assert_eq!(report(&[0; 8_193]), "refused 6 0\n");
+    assert_eq!(report(&[0; 70_000]), "refused 6 0\n");
+}
+
+#[test]
+fn streams_are_read_to_one_past_the_limit() {
+    let of = |bytes: &[u8]| {
+        let mut output = Vec::new();
+        run(bytes, &mut output).unwrap();
+        String::from_utf8(output).unwrap()
+    };
+    assert_eq!(of(&[0; 8_193]), "refused 6 0\n");
+    assert_eq!(of(&input(&SMALL_MONITOR, &recording(&[]), 0)), "accepted 0 0\n");
+}
+
+#[test]
+fn the_table_is_what_its_length_states_or_all() {
+    // One byte before the budget: no two length bytes, so it is all table.
+    assert_eq!(report(&[7, 0, 0, 0, 0]), "refused 10 0\n");
+    // A length past the end: all of it is table, and the length does not match.
+    assert_eq!(report(&[0, 66, 1, 0, 0, 0, 0]), "refused 10 0\n");
+    // Nothing after a sound table: the recording is empty.
+    assert_eq!(report(&input(&SMALL_MONITOR, &[], 0)), "refused 20 0\n");
+    // A byte after the recording belongs to it.
+    let mut longer = recording(&[(1, DATA)]);
+    longer.push(0);
+    assert_eq!(report(&input(&SMALL_MONITOR, &longer, 9)), "refused 20 0\n");
+}
+
+/// 16 states, 4 variables, one clock with M 254: N is 65,536 and S is 8,192, so eight sets
+/// are all the scratch there is.
+#[test]
+fn scratch_of_65_536() {
+    let table = file(&[1, 16, 4, 1, 1, 1, 1, 0, 0, 0, 0, 0, 0, 0, 3, 1, 0, 254]);
+    let heard = |time| input(&table, &recording(&[(time, 0)]), 100_000);
+    assert_eq!(report(&heard(8)), "refused 30 73728\n");
+    assert!(report(&heard(7)).starts_with("accepted "));
+}

@@ -1,0 +1,183 @@
+//! Numbers 40 to 43, with answers worked out by hand from the rules.
+
+mod common;
+
+use common::{answer, file, monitor_with};
+use lutarosa_reference::answer::{Answer, Refusal};
+use lutarosa_reference::check::check_witness;
+use lutarosa_reference::papers::{recording, ACK, DATA, RETRY, SMALL_MONITOR};
+use lutarosa_reference::rewrite::rewrite_witness;
+use lutarosa_reference::witness::{bytes_of, read, write, Row, Witness, ADDED, KEPT, REMOVED};
+
+type Parts = (u8, u16, u8, u8);
+
+fn witness(rows: &[Parts]) -> Witness {
+    let row = |it: &Parts| Row { mark: it.0, time: it.1, kind: it.2, transition: it.3 };
+    Witness { rows: rows.iter().map(row).collect() }
+}
+
+fn refused(bytes: &[u8], number: u64, value: usize) {
+    assert_eq!(read(bytes), Err(Refusal::new(number, value)), "{bytes:02x?}");
+    let mut room = [0x5A; 40];
+    assert_eq!(rewrite_witness(bytes, &mut room), answer(number, value as u64, 0));
+    assert_eq!(room, [0x5A; 40]);
+}
+
+fn bad_form(rows: &[Parts], row: u64) {
+    refused(&bytes_of(&witness(rows)), 43, row as usize);
+    assert_eq!(write(&witness(rows), &mut []), answer(43, row, 0));
+}
+
+#[test]
+fn numbers_40_to_42() {
+    refused(&[], 40, 0);
+    refused(&[0, 2, 1, 0], 40, 0);
+    refused(&[0, 4, 1, 0, 0], 40, 0);
+    refused(&vec![0; 70_000], 40, 0);
+    refused(&[0, 3, 2, 0, 9], 41, 2);
+    refused(&[0, 3, 1, 0, 1], 42, 3);
+    refused(&file(&[1, 0, 1, 0, 0, 1, 0]), 42, 3);
+    refused(&file(&[1, 0, 0, 0]), 42, 3);
+    let many = |count| bytes_of(&witness(&vec![(ADDED, 1, 0, 0); count]));
+    refused(&many(4_609), 42, 3);
+    refused(&many(4_608), 43, 1);
+}
+
+#[test]
+fn form_of_one_row() {
+    bad_form(&[(3, 1, 0, 0)], 0);
+    bad_form(&[(255, 1, 0, 0)], 0);
+    bad_form(&[(KEPT, 0, 0, 0)], 0);
+    bad_form(&[(KEPT, 4_097, 0, 0)], 0);
+    bad_form(&[(REMOVED, 1, 0, 0)], 0);
+    // Kind and transition may be any byte in a form.
+    let any = witness(&[(KEPT, 1, 255, 255), (ADDED, 2, 200, 255), (REMOVED, 4_096, 99, 255)]);
+    assert_eq!(read(&bytes_of(&any)), Ok(any));
+}
+
+#[test]
+fn form_of_two_rows() {
+    bad_form(&[(KEPT, 2, 0, 0), (KEPT, 1, 0, 0)], 1);
+    bad_form(&[(KEPT, 2, 0, 0), (KEPT, 2, 1, 0)], 1);
+    bad_form(&[(KEPT, 2, 0, 0), (ADDED, 2, 1, 0)], 1);
+    bad_form(&[(REMOVED, 2, 0, 255), (KEPT, 2, 1, 0)], 1);
+    bad_form(&[(REMOVED, 2, 0, 255), (REMOVED, 2, 1, 255)], 1);
+    bad_form(&[(ADDED, 2, 1, 0), (REMOVED, 2, 0, 255)], 1);
+    bad_form(&[(REMOVED, 2, 0, 255), (ADDED, 2, 0, 0)], 1);
+    bad_form(&[(REMOVED, 2, 0, 255), (ADDED, 2, 1, 0), (ADDED, 2, 2, 0)], 2);
+    let pair = witness(&[(REMOVED, 2, 0, 255), (ADDED, 2, 1, 0), (KEPT, 3, 0, 0)]);
+    assert_eq!(read(&bytes_of(&pair)), Ok(pair));
+}
+
+#[test]
+fn writing() {
+    let two = witness(&[(KEPT, 258, 3, 4), (REMOVED, 300, 5, 255)]);
+    let mut room = [0x5A; 16];
+    assert_eq!(write(&two, &mut room), answer(0, 15, 0));
+    assert_eq!(room, [0, 13, 1, 0, 2, 0, 1, 2, 3, 4, 1, 1, 44, 5, 255, 0x5A]);
+    assert_eq!(rewrite_witness(&room[..15], &mut [0; 14]), answer(33, 15, 0));
+    let many = witness(&vec![(KEPT, 0, 0, 0); 4_609]);
+    assert_eq!(write(&many, &mut []), answer(42, 3, 0));
+    let many = witness(&vec![(KEPT, 0, 0, 0); 65_537]);
+    assert_eq!(write(&many, &mut []), answer(42, 3, 0));
+}
+
+/// The small monitor heard these rows, and is told this.
+fn check(heard: &[(u16, u8)], rows: &[Parts]) -> Answer {
+    check_witness(&SMALL_MONITOR, &recording(heard), &bytes_of(&witness(rows)))
+}
+
+const DATA_KEPT: Parts = (KEPT, 1, DATA, 0);
+
+#[test]
+fn accepted_witnesses() {
+    assert_eq!(check(&[], &[]), answer(0, 0, 0));
+    assert_eq!(check(&[(1, DATA)], &[DATA_KEPT]), answer(0, 0, 1));
+    assert_eq!(check(&[(1, ACK)], &[(REMOVED, 1, ACK, 255)]), answer(0, 1, 1));
+    // Removed takes no air, and another kind is added at its time.
+    let swapped = [(REMOVED, 1, ACK, 255), (ADDED, 1, DATA, 0)];
+    assert_eq!(check(&[(1, ACK)], &swapped), answer(0, 2, 2));
+    // Rows after the last recorded time are permitted, up to the last time there is.
+    let beyond = [DATA_KEPT, (ADDED, 4, ACK, 1), (ADDED, 4_096, DATA, 0)];
+    assert_eq!(check(&[(1, DATA)], &beyond), answer(0, 2, 3));
+    // A removed row may stand inside the air of an added one.
+    let inside = [(ADDED, 1, DATA, 0), (REMOVED, 2, ACK, 255), (KEPT, 3, ACK, 1)];
+    assert_eq!(check(&[(2, ACK), (3, ACK)], &inside), answer(0, 2, 3));
+}
+
+/// With ACK at airtime 2, what is removed at 1 leaves 2 free, and what is added does not.
+#[test]
+fn removed_rows_take_no_air() {
+    let table = monitor_with(&[(13, 2)]);
+    let heard = recording(&[(1, ACK)]);
+    let rows = [(REMOVED, 1, ACK, 255), (ADDED, 2, DATA, 0), (ADDED, 4, ACK, 1)];
+    let run = |rows: &[Parts]| check_witness(&table, &heard, &bytes_of(&witness(rows)));
+    assert_eq!(run(&rows), answer(0, 3, 3));
+    let after = |time| [rows[0], rows[1], rows[2], (ADDED, time, DATA, 0)];
+    assert_eq!(run(&after(6)), answer(43, 3, 0));
+    assert_eq!(run(&after(7)), answer(0, 4, 4));
+}
+
+#[test]
+fn number_43_accounts() {
+    // Nothing breaks a rule, but rows are unaccounted for: the row count.
+    assert_eq!(check(&[(1, DATA)], &[]), answer(43, 0, 0));
+    assert_eq!(check(&[(1, DATA), (4, ACK)], &[DATA_KEPT]), answer(43, 1, 0));
+    // A row of an earlier time is passed over.
+    assert_eq!(check(&[(1, ACK)], &[(ADDED, 2, DATA, 0)]), answer(43, 0, 0));
+    // A kept or removed row that is not the next one: time, kind, none left.
+    assert_eq!(check(&[(2, DATA)], &[DATA_KEPT]), answer(43, 0, 0));
+    assert_eq!(check(&[(1, ACK)], &[DATA_KEPT]), answer(43, 0, 0));
+    assert_eq!(check(&[(1, DATA)], &[DATA_KEPT, (KEPT, 4, ACK, 1)]), answer(43, 1, 0));
+    // Removed, but from the unit.
+    assert_eq!(check(&[(1, DATA)], &[(REMOVED, 1, DATA, 255)]), answer(43, 0, 0));
+    // Added at the time of an unaccounted one, which a removal behind it cannot mend.
+    let behind = [(ADDED, 1, DATA, 0), (REMOVED, 1, ACK, 255)];
+    assert_eq!(check(&[(1, ACK)], &behind), answer(43, 0, 0));
+    // Added as what was recorded, instead of kept.
+    assert_eq!(check(&[(1, DATA)], &[(ADDED, 1, DATA, 0)]), answer(43, 0, 0));
+    // An added row before the recorded one is no trouble, but the end is.
+    assert_eq!(check(&[(9, ACK)], &[(ADDED, 1, DATA, 0)]), answer(43, 1, 0));
+}
+
+#[test]
+fn number_43_air_and_firing() {
+    let heard = &[(1, DATA)];
+    // DATA at 1 takes 2 as well; at 3 the air is free.
+    assert_eq!(check(heard, &[DATA_KEPT, (ADDED, 2, ACK, 1)]), answer(43, 1, 0));
+    assert_eq!(check(heard, &[DATA_KEPT, (ADDED, 3, ACK, 1)]), answer(0, 1, 2));
+    // No such transition, another kind's, another state's.
+    for transition in [5, 64, 255, 1, 2, 4] {
+        assert_eq!(check(heard, &[(KEPT, 1, DATA, transition)]), answer(43, 0, 0));
+    }
+    // Guards: ACK at most 3 ticks after DATA, RETRY from 4 to 6.
+    assert_eq!(check(heard, &[DATA_KEPT, (ADDED, 4, ACK, 1)]), answer(0, 1, 2));
+    assert_eq!(check(heard, &[DATA_KEPT, (ADDED, 5, ACK, 1)]), answer(43, 1, 0));
+    for (time, fires) in [(4, false), (5, true), (7, true), (8, false), (4_096, false)] {
+        let it = check(heard, &[DATA_KEPT, (ADDED, time, RETRY, 2)]);
+        assert_eq!(it, if fires { answer(0, 1, 2) } else { answer(43, 1, 0) });
+    }
+}
+
+/// The first row that breaks any rule, of form or not.
+#[test]
+fn number_43_first_of_all_rules() {
+    let late_form = [DATA_KEPT, (ADDED, 2, ACK, 1), (9, 9, 9, 9)];
+    assert_eq!(check(&[(1, DATA)], &late_form), answer(43, 1, 0));
+    let early_form = [(KEPT, 0, DATA, 0), (ADDED, 2, ACK, 1)];
+    assert_eq!(check(&[(1, DATA)], &early_form), answer(43, 0, 0));
+    let unknown_kind = [(ADDED, 1, 200, 0)];
+    assert_eq!(check(&[], &unknown_kind), answer(43, 0, 0));
+    assert_eq!(check(&[], &[(REMOVED, 1, 200, 255)]), answer(43, 0, 0));
+}
+
+#[test]
+fn table_then_recording_then_witness() {
+    let bad_witness = [0, 9];
+    assert_eq!(check_witness(&monitor_with(&[(2, 0)]), &[], &bad_witness), answer(11, 2, 0));
+    assert_eq!(check_witness(&SMALL_MONITOR, &[], &bad_witness), answer(20, 0, 0));
+    let heard = recording(&[(0, DATA)]);
+    assert_eq!(check_witness(&SMALL_MONITOR, &heard, &bad_witness), answer(23, 0, 0));
+    let heard = recording(&[(1, DATA)]);
+    assert_eq!(check_witness(&SMALL_MONITOR, &heard, &bad_witness), answer(40, 0, 0));
+}
