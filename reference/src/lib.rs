@@ -9,6 +9,7 @@ pub mod answer;
 pub mod bench;
 pub mod brute;
 pub mod call;
+pub mod cases;
 pub mod check;
 pub mod compare;
 pub mod desk;

@@ -6,7 +6,7 @@ use std::process::ExitCode;
 use std::time::{Duration, Instant};
 
 use lutarosa_reference::call::Engine;
-use lutarosa_reference::{bench, compare, desk, selftest, wide};
+use lutarosa_reference::{bench, cases, compare, desk, selftest, wide};
 
 const USAGE: &str = "\
 reference desk                             standard input to the desk's lines
@@ -14,6 +14,7 @@ reference selftest [SECONDS] [SEED]        the paper's values and the brute-forc
 reference compare [FOLDER] SECONDS [SEED]  random calls against the verified library
 reference bench                            the time of the wide input
 reference wide FOLDER                      the wide input as files
+reference cases FOLDER                     the recorded cases: stdin and stdout of the batch program
 ";
 
 fn main() -> ExitCode {
@@ -25,6 +26,7 @@ fn main() -> ExitCode {
         ["compare", rest @ ..] => run_compare(rest),
         ["bench"] => run_bench(),
         ["wide", folder] => write_wide(Path::new(folder)),
+        ["cases", folder] => write_cases(Path::new(folder)),
         _ => {
             eprint!("{USAGE}");
             return ExitCode::from(2);
@@ -76,6 +78,16 @@ fn write_wide(folder: &Path) -> Result<(), String> {
     for (name, bytes) in files {
         std::fs::write(folder.join(name), bytes).map_err(|it| format!("{name}: {it}"))?;
     }
+    Ok(())
+}
+
+fn write_cases(folder: &Path) -> Result<(), String> {
+    let made = cases::cases(1).map_err(|it| it.to_string())?;
+    for (name, bytes) in [("stdin", &made.input), ("stdout", &made.output)] {
+        std::fs::write(folder.join(name), bytes).map_err(|it| format!("{name}: {it}"))?;
+    }
+    let times = made.numbers.iter().map(|(number, times)| format!("{number} x {times}"));
+    println!("{}", times.collect::<Vec<_>>().join(", "));
     Ok(())
 }
 

@@ -14,6 +14,7 @@ pub mod Numbering
 pub mod Capping
 pub mod Explained
 pub mod Ordered
+pub mod Instants
 pub mod TraceMoves
 pub mod MoveRows
 pub mod RowMoves

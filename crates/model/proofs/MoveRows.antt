@@ -22,6 +22,7 @@ use Rattle.model.specs.Validation.{rowsBy, rowsOf, keptRow, removedRow, 
 use Rattle.model.specs.declared.Situation.{Situation}
 use Rattle.model.proofs.Basics.{both-true}
 use Rattle.model.proofs.Chains.{Moves, Sane, SaneRecording}
+use Rattle.model.proofs.Instants.{recorded-here, recorded-later}
 
 -- the recorded rows still to come
 
@@ -57,14 +58,6 @@ ahead-first m recording h = record { rising = from recording h; within = within-
     from [] g = tt
     from (p ∷ ps) g = (omega arith, spaced-rising m p ps (g .1))
 
-recorded-first : (p : Packet) (ps : List Packet) (t : ℕ) → p .time ≡ t → recordedAt (p ∷ ps) t ≡ some (p .kind)
-unfolding recordedAt
-recorded-first p ps t e = rw (eq-eqb (p .time) t e, recordedAt)
-
-recorded-later : (p : Packet) (ps : List Packet) (t : ℕ) → (p .time ≡ t → ⊥) → recordedAt (p ∷ ps) t ≡ recordedAt ps t
-unfolding recordedAt
-recorded-later p ps t e = rw (ne-eqb (p .time) t e, recordedAt)
-
 recorded-before : (t : ℕ) (l : List Packet) (u : ℕ) → Rising t l → u ≤ t → recordedAt l u ≡ none
 unfolding recordedAt
 recorded-before t [] u h g = refl
@@ -83,7 +76,7 @@ coming recording t (p ∷ ps) a = go (ℕ-discrete (p .time) (suc t))
   where
     go : Dec (p .time ≡ suc t) → Coming recording t (p ∷ ps)
     go (yes e) =
-        heard (p .kind) ps (a .same (suc t) (omega arith) ∙ recorded-first p ps (suc t) e)
+        heard (p .kind) ps (a .same (suc t) (omega arith) ∙ recorded-here p ps (suc t) e)
         (λ i. record { time = e i; kind = p .kind } ∷ ps)
         (record {
           rising = rw e at (a .rising .1);

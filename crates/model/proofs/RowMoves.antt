@@ -21,19 +21,8 @@ use Rattle.model.specs.Validation.{rowsBy, rowsOf}
 use Rattle.model.specs.declared.Situation.{Situation}
 use Rattle.model.proofs.Basics.{and-left, and-right, getElem-within}
 use Rattle.model.proofs.Chains.{Moves, Sane, SaneRecording}
+use Rattle.model.proofs.Instants.{moveOf-keep, moveOf-add}
 use Rattle.model.proofs.MoveRows.{Rising, Coming, quiet, heard, coming, Tied, tied-first, situationAt, marked, accounts, one-row, cond-some, sends-fires, broken-next, Fits, instant}
-
--- numbers of moves
-
-keep-number : (j : ℕ) → j < transitionLimit → moveOf j ≡ keep j
-unfolding moveOf
-keep-number j h = rw (lt-ltb j 64 h)
-
-add-number : (j : ℕ) → moveOf (65 + j) ≡ add j
-unfolding moveOf
-add-number j =
-    rw (le-ltb (65 + j) 64 (omega arith), ne-eqb (65 + j) 64 (omega arith))
-    (ap add (let e : 65 + j - 65 ≡ j = omega arith in e))
 
 -- what a row that keeps the rules says
 
@@ -223,7 +212,7 @@ module _ (m : Monitor) (recording : List Packet) (table : Sane m) (t : ℕ) (p :
       → r .mark ≡ kept → account m p r ≡ some q → broken m q i rs ≡ none → Sent m r q → Split m recording t p (r ∷ rs)
   unfolding rowsBy
   kept-first i r rs q k e f g h c u s =
-      split-by (r ∷ rs) (some k) (r .transition) (keep (r .transition)) e (keep-number (r .transition) small) (omega (arith, small)) tt q
+      split-by (r ∷ rs) (some k) (r .transition) (keep (r .transition)) e (moveOf-keep (r .transition) small) (omega (arith, small)) tt q
       (one-row m p (marked kept (suc t) k (r .transition)) ∙ ap (account m p) same ∙ c) rs (ap (λ x. x ∷ rs) same) i u
       (subst (λ x. StartsAfter x rs) f (starts-after m q r i rs (s .before) (omega arith) u))
     where
@@ -237,7 +226,7 @@ module _ (m : Monitor) (recording : List Packet) (table : Sane m) (t : ℕ) (p :
       → r .mark ≡ added → account m p r ≡ some q → broken m q i rs ≡ none → Sent m r q → Split m recording t p (r ∷ rs)
   unfolding rowsBy
   added-first i r rs q e f h c u s =
-      split-by (r ∷ rs) none (65 + r .transition) (add (r .transition)) e (add-number (r .transition))
+      split-by (r ∷ rs) none (65 + r .transition) (add (r .transition)) e (moveOf-add (r .transition))
       (omega (arith, trigger-number m table (r .transition) (r .kind) (s .trigger))) (r .kind, s .trigger) q
       (rw (s .trigger) (one-row m p (marked added (suc t) (r .kind) (r .transition)) ∙ ap (account m p) same ∙ c)) rs (rw (s .trigger) (ap (λ x. x ∷ rs) same)) i u
       (subst (λ x. StartsAfter x rs) f (starts-after m q r i rs (s .before) (omega arith) u))
@@ -261,7 +250,7 @@ module _ (m : Monitor) (recording : List Packet) (table : Sane m) (t : ℕ) (p :
       swapped : (s : Row) (l : List Row) (v : Progress) → account m q s ≡ some v → broken m v (suc i) l ≡ none → s .time ≡ suc t → s .mark ≡ added
           → Sent m s v → Split m recording t p (r ∷ s ∷ l)
       swapped s l v d u a n x =
-          split-by (r ∷ s ∷ l) (some k) (65 + s .transition) (add (s .transition)) e (add-number (s .transition))
+          split-by (r ∷ s ∷ l) (some k) (65 + s .transition) (add (s .transition)) e (moveOf-add (s .transition))
           (omega (arith, trigger-number m table (s .transition) (s .kind) (x .trigger))) (s .kind, x .trigger) v
           (rw (x .trigger)
           (ap₂ (λ y z. accounts m p (y ∷ z ∷ [])) same alike ∙ rw c (one-row m q s ∙ d)))

@@ -19,33 +19,9 @@ use Rattle.model.specs.Situation.{keep, rest, add, configOf, withAir, un
 use Rattle.model.specs.declared.Situation.{Situation}
 use Rattle.model.proofs.Basics.{and-left, and-right, getElem-within}
 use Rattle.model.proofs.Chains.{Moves, Sane, SaneRecording}
+use Rattle.model.proofs.Instants.{moveOf-keep, moveOf-rest, moveOf-add, recorded-here, recorded-later}
 
--- moves as numbers
-
-pub moveOf-keep : (j : ℕ) → j < transitionLimit → moveOf j ≡ keep j
-unfolding moveOf
-moveOf-keep j h = rw (lt-ltb j 64)
-
-pub moveOf-rest : moveOf 64 ≡ rest
-unfolding moveOf
-moveOf-rest = refl
-
-pub moveOf-add : (j : ℕ) → moveOf (65 + j) ≡ add j
-unfolding moveOf
-moveOf-add j =
-    let past : 65 + j ≡ 64 → ⊥ = omega arith in
-    let same : 65 + j - 65 ≡ j = omega arith in
-    rw (le-ltb (65 + j) 64 (omega arith), ne-eqb (65 + j) 64 past, same)
-
--- what is recorded at an instant
-
-pub recorded-here : (q : Packet) (r : List Packet) (t : ℕ) → q .time ≡ t → recordedAt (q ∷ r) t ≡ some (q .kind)
-unfolding recordedAt
-recorded-here q r t e = rw (eq-eqb (q .time) t e, recordedAt)
-
-pub recorded-later : (q : Packet) (r : List Packet) (t : ℕ) → (q .time ≡ t → ⊥) → recordedAt (q ∷ r) t ≡ recordedAt r t
-unfolding recordedAt
-recorded-later q r t e = rw (ne-eqb (q .time) t e, recordedAt)
+-- what is recorded at an instant is in the recording
 
 pub recorded-member : (recording : List Packet) (t k : ℕ) → recordedAt recording t ≡ some k → List·Memᴰ (record { time = t; kind = k }) recording
 unfolding recordedAt
