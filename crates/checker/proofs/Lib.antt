@@ -1,0 +1,5 @@
+pub mod Left
+pub mod Places
+pub mod Steps
+pub mod Pass
+pub mod Answers

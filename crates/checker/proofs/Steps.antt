@@ -1,0 +1,133 @@
+-- What a row comes to, by the tests that the code has made.
+use Prim.Native.Nat.{ℕ, _+_, _-_, _<_, _≤_}
+use native.Mathlib.Numerals.{add-one}
+use native.Mathlib.Omega.{arith}
+use mathlib.Core.Path.{_≡_, refl, sym, ap, _∙_}
+use mathlib.Core.List.{List, [], _∷_, map}
+use mathlib.Core.Bool.{Bool, true, false, _&&_}
+use mathlib.Core.Option.{Option, none, some}
+use lib.ListN.{length, getD, drop, length-map}
+use borrow.Author.Tests.{le-leb, lt-leb, eq-eqb, ne-eqb}
+use Rattle.model.specs.Trace.{Packet}
+use Rattle.model.specs.Monitor.{Monitor, wait, fires, airtime, toUnit}
+use Rattle.model.specs.declared.Config.{Config}
+use Rattle.model.specs.Witness.{inPlace}
+use Rattle.model.specs.Rules.{Progress, noneBefore, isNext, noneAt, sends, removes, keeps, adds, account}
+use Rattle.monitor.proofs.Records.{fired-length, fired-below}
+use Rattle.checker.specs.declared.Entry.{Entry}
+use Rattle.checker.specs.declared.Standing.{Standing}
+use Rattle.checker.specs.declared.Step.{Step}
+use Rattle.checker.proofs.Left.{others-drop}
+use Rattle.checker.proofs.Places.{place-times}
+use Rattle.checker.specs.Standing.{rowOf, beforeOf, progressOf, Bounded, Ready, Stepped}
+
+pub stepped-as : (ps : List Packet) {a b : Option Progress} {r : Step} → Stepped ps a r → a ≡ b → Stepped ps b r
+stepped-as ps s e = record { is = s .is ∙ e; bounded = s .bounded }
+
+read-two : (l : List ℕ) (ticks : ℕ) → length l ≡ 2 → (getD (map (λ x. x + ticks) l) 0 0 ≡ getD l 0 0 + ticks) × (getD (map (λ x. x + ticks) l) 1 0 ≡ getD l 1 0 + ticks)
+read-two [] ticks h = absurd (omega arith)
+read-two (x ∷ []) ticks h = absurd (omega arith)
+read-two (x ∷ y ∷ l) ticks h = (refl, refl)
+
+module _ (m : Monitor) (ps : List Packet) (s : Standing) (e : Entry) (left : List Packet) where
+  pub sent-late : e .time < s .free → none ≡ sends m (progressOf ps s) (rowOf e) left
+  unfolding sends
+  sent-late h = rw (lt-leb (s .free) (e .time) h)
+
+  pub sent-unfired : s .free ≤ e .time → fires m (e .transition) (e .kind) (wait (e .time - s .now) (s .config)) ≡ none → none ≡ sends m (progressOf ps s) (rowOf e) left
+  unfolding sends
+  sent-unfired h f = rw (le-leb (s .free) (e .time) h, f)
+
+module _ (m : Monitor) (ps : List Packet) (s : Standing) (e : Entry) (next : ℕ) where
+  pub sent-fired : (d : Config) (air : ℕ) → Ready s e → s .free ≤ e .time → fires m (e .transition) (e .kind) (wait (e .time - s .now) (s .config)) ≡ some d →
+      air ≡ airtime m (e .kind) → air < 256 →
+      Stepped ps (sends m (progressOf ps s) (rowOf e) (drop next ps))
+      (record { sound = true; to = record { before = e; next = next; now = e .time; free = e .time + air + 1; config = d } })
+  unfolding sends
+  sent-fired d air ready h f g small =
+      let b = ready .bounded in
+      let two : length (d .clocks) ≡ 2 = fired-length m (e .transition) (e .kind) (wait (e .time - s .now) (s .config)) d f ∙ length-map (s .config .clocks) (λ x. x + (e .time - s .now)) ∙ b .clocks in
+      let below = fired-below m (e .transition) (e .kind) (wait (e .time - s .now) (s .config)) d f in
+      let read = read-two (s .config .clocks) (e .time - s .now) (b .clocks) in
+      record {
+        is = rw (le-leb (s .free) (e .time) h, f, ← g, ne-eqb (e .time) 0 (λ q. omega (arith, ready .first)));
+        bounded =
+            λ q.
+            record {
+              fired = omega arith;
+              last = ready .last;
+              free = omega (arith, ready .last);
+              clocks = two;
+              first = omega (arith, below 0, read .0, b .first, b .fired, ready .behind);
+              second = omega (arith, below 1, read .1, b .second, b .fired, ready .behind);
+            };
+      }
+
+module _ (m : Monitor) (ps : List Packet) (s : Standing) (e : Entry) where
+  abbrev p : Progress
+  p = progressOf ps s
+
+  pub not-next-kept : isNext (drop (s .next) ps) (rowOf e) ≡ false → none ≡ keeps m p (rowOf e)
+  unfolding keeps
+  not-next-kept h = rw h
+
+  pub kept-sent : isNext (drop (s .next) ps) (rowOf e) ≡ true → sends m p (rowOf e) (drop (s .next + 1) ps) ≡ keeps m p (rowOf e)
+  unfolding keeps
+  kept-sent h = rw h (ap (sends m p (rowOf e)) (ap (λ (n : ℕ). drop n ps) (add-one (s .next)) ∙ sym (others-drop (s .next) ps)))
+
+  pub not-removed : (next unit : Bool) → isNext (drop (s .next) ps) (rowOf e) ≡ next → toUnit m (e .kind) ≡ unit → next && unit ≡ false → none ≡ removes m p (rowOf e)
+  unfolding removes
+  not-removed next unit n u h = rw (n, u, h)
+
+  pub removed-step : Ready s e → isNext (drop (s .next) ps) (rowOf e) ≡ true → toUnit m (e .kind) ≡ true →
+      Stepped ps (removes m p (rowOf e))
+      (record { sound = true; to = record { before = e; next = s .next + 1; now = s .now; free = s .free; config = s .config } })
+  unfolding removes
+  removed-step ready n u =
+      let b = ready .bounded in
+      record {
+        is = rw (n, u, ne-eqb (e .time) 0 (λ q. omega (arith, ready .first)), others-drop (s .next) ps, add-one (s .next));
+        bounded =
+            λ q.
+            record {
+              fired = omega (arith, b .fired, ready .behind);
+              last = ready .last;
+              free = b .free;
+              clocks = b .clocks;
+              first = b .first;
+              second = b .second;
+            };
+      }
+
+  pub not-added : noneAt (drop (s .next) ps) (e .time) ≡ false → none ≡ adds m p (rowOf e)
+  unfolding adds
+  not-added h = rw h
+
+  pub added-sent : noneAt (drop (s .next) ps) (e .time) ≡ true → sends m p (rowOf e) (drop (s .next) ps) ≡ adds m p (rowOf e)
+  unfolding adds
+  added-sent h = rw h
+
+  -- a row whose form and time are right goes by its mark
+
+  pub not-accounted : (place early : Bool) → inPlace (beforeOf (s .before)) (rowOf e) ≡ place → noneBefore (drop (s .next) ps) (e .time) ≡ early → place && early ≡ false →
+      none ≡ account m p (rowOf e)
+  unfolding account
+  not-accounted place early a b h = rw (a, b, h)
+
+  module _ (a : inPlace (beforeOf (s .before)) (rowOf e) ≡ true) (b : noneBefore (drop (s .next) ps) (e .time) ≡ true) where
+    pub account-kept : e .mark ≡ 0 → keeps m p (rowOf e) ≡ account m p (rowOf e)
+    unfolding account
+    account-kept k = rw (a, b, eq-eqb (e .mark) 0 k)
+
+    pub account-removed : e .mark ≡ 1 → removes m p (rowOf e) ≡ account m p (rowOf e)
+    unfolding account
+    account-removed k = rw (a, b, ne-eqb (e .mark) 0 (λ q. omega arith), eq-eqb (e .mark) 1 k)
+
+    pub account-added : (e .mark ≡ 0 → ⊥) → (e .mark ≡ 1 → ⊥) → adds m p (rowOf e) ≡ account m p (rowOf e)
+    unfolding account
+    account-added n r = rw (a, b, ne-eqb (e .mark) 0 n, ne-eqb (e .mark) 1 r)
+
+pub ready-row : (s : Standing) (e : Entry) → Bounded s → inPlace (beforeOf (s .before)) (rowOf e) ≡ true → Ready s e
+ready-row s e b h =
+    let t = place-times (s .before) e h in
+    record { bounded = b; behind = t .0; last = t .1; first = t .2 }

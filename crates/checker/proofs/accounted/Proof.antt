@@ -1,0 +1,76 @@
+use Rattle.checker.proofs.Steps.{stepped-as, not-accounted, account-kept, account-removed, account-added, ready-row}
+use Rattle.model.specs.Rules.{noneBefore}
+use lib.ListN.{drop}
+use Rattle.monitor.specs.From.{monitorFrom}
+use Rattle.model.specs.Recording.{packetsAt}
+use borrow.Author.Tests.{not-true, not-false}
+use mathlib.Core.Bool.{true, false}
+use mathlib.Core.Path.{refl, sym, _∙_}
+use borrow.Author.Needs.{needs}
+use Rattle.checker.proofs.accounted.Statement.{statement}
+use Rattle.checker.proofs.accounted.Tie as tie
+
+in-place-requires : tie.Need-in-place-requires
+in-place-requires c κs = search needs
+
+refused-requires : tie.Need-refused-requires
+refused-requires c κs = search needs
+
+returns : tie.Need-returns
+returns c = let a = c .before .before .before .before .before .before .before .args in
+    let ps = packetsAt (a .recording .now) in
+    stepped-as ps (c .refused .ensures ps)
+    (not-accounted (monitorFrom (a .table .now) (a .offsets .now)) ps (a .s) (a .e) false (noneBefore (drop (a .s .next) ps) (a .e .time)) (sym (c .before .before .in-place .ensures) ∙ not-true _ (c .before .if1 .taken)) refl refl)
+
+none-before-requires : tie.Need-none-before-requires
+none-before-requires c κs = search needs
+
+refused-requires-2 : tie.Need-refused-requires-2
+refused-requires-2 c κs = search needs
+
+returns-2 : tie.Need-returns-2
+returns-2 c = let a = c .before .before .before .before .before .before .before .before .before .args in
+    let ps = packetsAt (a .recording .now) in
+    stepped-as ps (c .refused2 .ensures ps)
+    (not-accounted (monitorFrom (a .table .now) (a .offsets .now)) ps (a .s) (a .e) true false (sym (c .before .before .before .before .in-place .ensures) ∙ not-false _ (c .before .before .before .if1 .left)) (sym (c .before .before .none-before .ensures) ∙ not-true _ (c .before .if2 .taken)) refl)
+
+keep-row-requires : tie.Need-keep-row-requires
+keep-row-requires c κs = let a = c .before .before .before .before .before .before .before .before .before .before .args in ready-row (a .s) (a .e) (c .before .before .before .before .before .before .before .before .before .before .pre) (sym (c .before .before .before .before .before .in-place .ensures) ∙ not-false _ (c .before .before .before .before .if1 .left))
+
+returns-3 : tie.Need-returns-3
+returns-3 c = let a = c .before .before .before .before .before .before .before .before .before .before .before .args in
+    let ps = packetsAt (a .recording .now) in
+    stepped-as ps (c .keep-row .ensures) (account-kept (monitorFrom (a .table .now) (a .offsets .now)) ps (a .s) (a .e) (sym (c .before .before .before .before .before .before .in-place .ensures) ∙ not-false _ (c .before .before .before .before .before .if1 .left)) (sym (c .before .before .before .before .none-before .ensures) ∙ not-false _ (c .before .before .before .if2 .left)) (c .before .if3 .taken))
+
+remove-row-requires : tie.Need-remove-row-requires
+remove-row-requires c κs = let a = c .before .before .before .before .before .before .before .before .before .before .before .before .args in ready-row (a .s) (a .e) (c .before .before .before .before .before .before .before .before .before .before .before .before .pre) (sym (c .before .before .before .before .before .before .before .in-place .ensures) ∙ not-false _ (c .before .before .before .before .before .before .if1 .left))
+
+returns-4 : tie.Need-returns-4
+returns-4 c = let a = c .before .before .before .before .before .before .before .before .before .before .before .before .before .args in
+    let ps = packetsAt (a .recording .now) in
+    stepped-as ps (c .remove-row .ensures) (account-removed (monitorFrom (a .table .now) (a .offsets .now)) ps (a .s) (a .e) (sym (c .before .before .before .before .before .before .before .before .in-place .ensures) ∙ not-false _ (c .before .before .before .before .before .before .before .if1 .left)) (sym (c .before .before .before .before .before .before .none-before .ensures) ∙ not-false _ (c .before .before .before .before .before .if2 .left)) (c .before .if4 .taken))
+
+add-row-requires : tie.Need-add-row-requires
+add-row-requires c κs = let a = c .before .before .before .before .before .before .before .before .before .before .before .before .args in ready-row (a .s) (a .e) (c .before .before .before .before .before .before .before .before .before .before .before .before .pre) (sym (c .before .before .before .before .before .before .before .in-place .ensures) ∙ not-false _ (c .before .before .before .before .before .before .if1 .left))
+
+returns-5 : tie.Need-returns-5
+returns-5 c = let a = c .before .before .before .before .before .before .before .before .before .before .before .before .before .args in
+    let ps = packetsAt (a .recording .now) in
+    stepped-as ps (c .add-row .ensures) (account-added (monitorFrom (a .table .now) (a .offsets .now)) ps (a .s) (a .e) (sym (c .before .before .before .before .before .before .before .before .in-place .ensures) ∙ not-false _ (c .before .before .before .before .before .before .before .if1 .left)) (sym (c .before .before .before .before .before .before .none-before .ensures) ∙ not-false _ (c .before .before .before .before .before .if2 .left)) (c .before .before .before .if3 .left) (c .before .if4 .left))
+
+pub accounted-spec : {M : Type 1} → statement M
+accounted-spec =
+    tie.close
+    (tie.spec
+    in-place-requires
+    refused-requires
+    returns
+    none-before-requires
+    refused-requires-2
+    returns-2
+    keep-row-requires
+    returns-3
+    remove-row-requires
+    returns-4
+    add-row-requires
+    returns-5)

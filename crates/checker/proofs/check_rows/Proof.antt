@@ -1,0 +1,107 @@
+use Prim.Native.Nat.{_-_}
+use native.Mathlib.Omega.{arith}
+use mathlib.Core.Path.{_≡_}
+use borrow.Author.Tests.{not-true, not-false}
+use Rattle.model.specs.Recording.{packetsAt}
+use Rattle.model.specs.Witness.{witnessCountAt}
+use Rattle.monitor.specs.From.{monitorFrom}
+use Rattle.checker.specs.Standing.{Bounded}
+use Rattle.checker.proofs.Pass.{Ahead, ahead-first, ahead-more, ahead-broken, ahead-left, ahead-done}
+use borrow.Author.Needs.{needs}
+use Rattle.checker.proofs.check_rows.Statement.{statement}
+use Rattle.checker.proofs.check_rows.Tie as tie
+
+abbrev Inv-loop : tie.InvT-loop
+Inv-loop table offsets recording witness count s₀ changed₀ i₀ s changed i =
+    (count ≡ witnessCountAt witness) × Bounded s × Ahead (monitorFrom table offsets) recording witness s changed i
+
+abbrev μ-loop : tie.MeasureT-loop
+μ-loop table offsets recording witness count s₀ changed₀ i₀ s changed i = count - i
+
+word-requires : tie.Need-word-requires Inv-loop μ-loop
+word-requires c κs = search needs
+
+cast-count : tie.Need-cast-count Inv-loop μ-loop
+cast-count c = search needs
+
+begun-requires : tie.Need-begun-requires Inv-loop μ-loop
+begun-requires c κs = search needs
+
+loop-holds : tie.Need-loop-holds Inv-loop μ-loop
+loop-holds c = let a = c .before .before .before .before .before .before .args in
+    let m = monitorFrom (a .table .now) (a .offsets .now) in
+    ((c .before .word .ensures .0), (c .begun .ensures .0), ahead-first m (a .recording .now) (a .witness .now) (c .begun .result) (c .begun .ensures .1 (packetsAt (a .recording .now))))
+
+row-at-requires : tie.Need-row-at-requires Inv-loop μ-loop
+row-at-requires c κs = search needs
+
+accounted-requires : tie.Need-accounted-requires Inv-loop μ-loop
+accounted-requires c κs = search needs
+
+returns : tie.Need-returns Inv-loop μ-loop
+returns c = let a = c .before .before .before .before .before .before .before .before .before .before .before .before .args in
+    let m = monitorFrom (a .table .now) (a .offsets .now) in
+    let l = c .before .before .before .before .before .loop in
+    ahead-broken m (a .recording .now) (a .witness .now) (l .s) (l .changed) (l .i) (l .inv .2) (c .before .before .before .row-at .result) (c .before .before .accounted .result)
+    (omega (arith, l .inv .0, (c .before .before .before .before .loop-test .taken))) (c .before .before .before .row-at .ensures) (c .before .before .accounted .ensures) (not-true _ (c .if1 .taken))
+
+change-by-requires : tie.Need-change-by-requires Inv-loop μ-loop
+change-by-requires c κs = search needs
+
+add-changed : tie.Need-add-changed Inv-loop μ-loop
+add-changed c = let l = c .before .before .before .before .before .before .loop in
+    omega (arith, l .inv .2 .few, (c .before .before .before .before .before .loop-test .taken), (c .change-by .ensures .1), (c .before .before .before .before .before .before .before .before .word .ok))
+
+add-i : tie.Need-add-i Inv-loop μ-loop
+add-i c = search needs
+
+loop-less : tie.Need-loop-less Inv-loop μ-loop
+loop-less c = search needs
+
+loop-again : tie.Need-loop-again Inv-loop μ-loop
+loop-again c = let a = c .before .before .before .before .before .before .before .before .before .before .before .before .before .before .args in
+    let m = monitorFrom (a .table .now) (a .offsets .now) in
+    let l = c .before .before .before .before .before .before .before .loop in
+    let g = (c .before .before .before .before .accounted .ensures) in
+    let t = not-false _ (c .before .before .if1 .left) in (
+      l .inv .0,
+      g .bounded t,
+      ahead-more m (a .recording .now) (a .witness .now) (l .s) (l .changed) (l .i) (l .inv .2) (c .before .before .before .before .before .row-at .result) (c .before .before .before .before .accounted .result) (omega (arith, l .inv .0, (c .before .before .before .before .before .before .loop-test .taken))) (c .before .before .before .before .before .row-at .ensures) g (c .before .change-by .result) (c .before .change-by .ensures .0) t (c .before .change-by .ensures .1),
+    )
+
+word-requires-2 : tie.Need-word-requires-2 Inv-loop μ-loop
+word-requires-2 c κs = search needs
+
+returns-2 : tie.Need-returns-2 Inv-loop μ-loop
+returns-2 c = let a = c .before .before .before .before .before .before .before .before .before .before .before .args in
+    let m = monitorFrom (a .table .now) (a .offsets .now) in
+    let l = c .before .before .before .before .loop in
+    ahead-left m (a .recording .now) (a .witness .now) (l .s) (l .changed) (l .i) (l .inv .2) (omega (arith, l .inv .0, (c .before .before .before .loop-test .left))) (omega (arith, (c .before .before .word2 .ensures .0), c .if2 .taken))
+
+returns-3 : tie.Need-returns-3 Inv-loop μ-loop
+returns-3 c = let a = c .before .before .before .before .before .before .before .before .before .before .before .args in
+    let m = monitorFrom (a .table .now) (a .offsets .now) in
+    let l = c .before .before .before .before .loop in
+    ahead-done m (a .recording .now) (a .witness .now) (l .s) (l .changed) (l .i) (l .inv .2) (omega (arith, l .inv .0, (c .before .before .before .loop-test .left))) (omega (arith, (c .before .before .word2 .ensures .0), c .if2 .left))
+
+pub check-rows-spec : {M : Type 1} → statement M
+check-rows-spec =
+    tie.close
+    (tie.spec
+    Inv-loop
+    μ-loop
+    word-requires
+    cast-count
+    begun-requires
+    loop-holds
+    row-at-requires
+    accounted-requires
+    returns
+    change-by-requires
+    add-changed
+    add-i
+    loop-less
+    loop-again
+    word-requires-2
+    returns-2
+    returns-3)

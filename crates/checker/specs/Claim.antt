@@ -1,0 +1,18 @@
+-- Demand 2's words on the checker: a sound witness is permitted exactly when it explains the recording.
+use mathlib.Core.List.{List}
+use mathlib.Core.Logic.{_↔_}
+use Prim.Native.Nat.{ℕ}
+use Rattle.model.specs.Table.{monitorAt}
+use Rattle.model.specs.Recording.{packetsAt, SoundRecording}
+use Rattle.model.specs.Witness.{rowsAt, SoundForm}
+use Rattle.model.specs.Claims.{Explains}
+use Rattle.model.specs.declared.Checking.{Checking}
+use Rattle.model.specs.declared.Checking.the-variants.{Permitted, Unchecked}
+
+abbrev pub IsPermitted : Checking → Type 0
+IsPermitted (Permitted changed rows) = Unit {0}
+IsPermitted (Unchecked r) = ⊥
+
+abbrev pub Faithful : (table recording witness : List ℕ) → Checking → Type 0
+Faithful table recording witness r =
+    SoundRecording table recording → SoundForm witness → IsPermitted r ↔ Explains (monitorAt table) (packetsAt recording) (rowsAt witness)

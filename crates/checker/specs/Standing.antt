@@ -1,0 +1,63 @@
+-- What the code's small state stands for among the model's rows and progress.
+use Prim.Native.Nat.{_≤_}
+use mathlib.Core.Path.{_≡_}
+use mathlib.Core.List.{List}
+use mathlib.Core.Bool.{true, cond}
+use mathlib.Core.Option.{Option, none, some}
+use lib.ListN.{length, getD, drop}
+use lib.Dec.{eqb}
+use Rattle.model.specs.Trace.{Packet}
+use Rattle.model.specs.Recording.{lastTime}
+use Rattle.model.specs.Monitor.{Monitor}
+use Rattle.model.specs.Witness.{Row, badRow}
+use Rattle.model.specs.Rules.{Progress, begin, broken, checked}
+use Rattle.model.specs.declared.Checking.{Checking}
+use Rattle.checker.specs.declared.Entry.{Entry}
+use Rattle.checker.specs.declared.Standing.{Standing}
+use Rattle.checker.specs.declared.Step.{Step}
+
+abbrev pub rowOf : Entry → Row
+rowOf e = record { mark = e .mark; time = e .time; kind = e .kind; transition = e .transition }
+
+-- the row before, where there is one: times are from 1 up
+abbrev pub beforeOf : Entry → Option Row
+beforeOf e = cond (eqb (e .time) 0) none (some (rowOf e))
+
+-- the recorded packets from the next one on are not accounted for
+abbrev pub progressOf : List Packet → Standing → Progress
+progressOf recording s =
+    record {
+      before = beforeOf (s .before);
+      left = drop (s .next) recording;
+      now = s .now;
+      config = s .config;
+      free = s .free;
+    }
+
+abbrev pub stepOf : List Packet → Step → Option Progress
+stepOf recording s = cond (s .sound) (some (progressOf recording (s .to))) none
+
+-- the clocks read at most the ticks until the monitor last fired, and no time is past the last
+pub record Bounded (s : Standing) : Type 0 where
+  pub fired : s .now ≤ s .before .time
+  pub last : s .before .time ≤ lastTime
+  pub free : s .free ≤ 4352
+  pub clocks : length (s .config .clocks) ≡ 2
+  pub first : getD (s .config .clocks) 0 0 ≤ s .now
+  pub second : getD (s .config .clocks) 1 0 ≤ s .now
+
+-- a row that is in place behind a state in its bounds
+pub record Ready (s : Standing) (e : Entry) : Type 0 where
+  pub bounded : Bounded s
+  pub behind : s .before .time ≤ e .time
+  pub last : e .time ≤ lastTime
+  pub first : 1 ≤ e .time
+
+-- a step is the model's, and leaves the state in its bounds
+pub record Stepped (recording : List Packet) (next : Option Progress) (s : Step) : Type 0 where
+  pub is : stepOf recording s ≡ next
+  pub bounded : s .sound ≡ true → Bounded (s .to)
+
+-- the answer by the rows alone
+unfoldable pub checkedRows : Monitor → List Packet → List Row → Checking
+checkedRows m recording rows = checked (badRow (broken m (begin recording) 0 rows)) rows

@@ -1,0 +1,371 @@
+// The witness checker: one pass over a witness's rows against a table and a recording, none of which is copied.
+use codec::recording::recording_answer;
+use codec::witness::witness_frame;
+use model::Checking;
+use model::Config;
+use model::Reading;
+use model::Refusal;
+use monitor::airtime_of;
+use monitor::fire;
+use monitor::offsets;
+use monitor::to_unit;
+use wire::byte;
+use wire::word;
+ghost use mathlib.Core.Path.{_≡_};
+ghost use mathlib.Core.List.{List};
+ghost use mathlib.Core.Bool.{true, cond};
+ghost use mathlib.Core.Option.{none};
+ghost use Prim.Native.Nat.{_+_, _<_, _≤_};
+ghost use lib.Dec.{eqb};
+ghost use lib.ListN.{length, getD, drop};
+ghost use Rattle.model.specs.Monitor.{wait};
+ghost use Rattle.model.specs.Trace.{Packet};
+ghost use Rattle.model.specs.Recording.{recordingAnswer, packetsAt};
+ghost use Rattle.model.specs.Witness.{kept, inForm, follows, inPlace, rowAt, rowsAt, witnessFrame};
+ghost use Rattle.model.specs.Rules.{begin, noneBefore, isNext, noneAt, sends, removes, keeps, adds, account, checkAnswer};
+ghost use Rattle.monitor.specs.From.{monitorFrom};
+ghost use Rattle.checker.specs.Claim.{Faithful};
+ghost use Rattle.checker.specs.Standing.{rowOf, beforeOf, progressOf, Bounded, Ready, Stepped, checkedRows};
+
+// A row of a witness.
+struct Entry {
+    mark: u8,
+    time: u16,
+    kind: u8,
+    transition: u8,
+}
+
+// What the rows so far have come to. While there is no row before, its time is 0.
+struct Standing {
+    before: Entry,
+    next: u16,
+    now: u16,
+    free: u16,
+    config: Config,
+}
+
+// Whether a row breaks no rule, and where it leads.
+struct Step {
+    sound: bool,
+    to: Standing,
+}
+
+fn row_at(witness: &[u8], i: usize) -> Entry
+    requires { ⌜ i < 65536 ⌝ }
+    ensures { λ r. ⌜ rowOf r ≡ rowAt (now (witness .entry)) i ⌝ }
+{
+    Entry {
+        mark: byte(witness, 5 + 5 * i),
+        time: word(witness, 6 + 5 * i),
+        kind: byte(witness, 8 + 5 * i),
+        transition: byte(witness, 9 + 5 * i),
+    }
+}
+
+// The row by itself.
+fn in_form(e: Entry) -> bool
+    ensures { λ r. ⌜ r ≡ inForm (rowOf e) ⌝ }
+{
+    if 2 < e.mark {
+        return false;
+    }
+    if e.time < 1 {
+        return false;
+    }
+    if 4096 < e.time {
+        return false;
+    }
+    if e.mark == 1 {
+        return e.transition == 255;
+    }
+    true
+}
+
+fn follows_row(p: Entry, e: Entry) -> bool
+    ensures { λ r. ⌜ r ≡ follows (rowOf p) (rowOf e) ⌝ }
+{
+    if p.time < e.time {
+        return true;
+    }
+    if p.time != e.time {
+        return false;
+    }
+    if p.mark != 1 {
+        return false;
+    }
+    if e.mark != 2 {
+        return false;
+    }
+    p.kind != e.kind
+}
+
+fn in_place(p: Entry, e: Entry) -> bool
+    ensures { λ r. ⌜ r ≡ inPlace (beforeOf p) (rowOf e) ⌝ }
+{
+    if !in_form(e) {
+        return false;
+    }
+    if p.time == 0 {
+        return true;
+    }
+    follows_row(p, e)
+}
+
+// No recorded row of an earlier time is unaccounted for.
+fn none_before(recording: &[u8], next: u16, time: u16) -> bool
+    ensures { λ r. ⌜ r ≡ noneBefore (drop next (packetsAt (now (recording .entry)))) time ⌝ }
+{
+    if word(recording, 3) <= next {
+        return true;
+    }
+    time <= word(recording, 5 + 3 * (next as usize))
+}
+
+fn is_next(recording: &[u8], next: u16, e: Entry) -> bool
+    ensures { λ r. ⌜ (r ≡ isNext (drop next (packetsAt (now (recording .entry)))) (rowOf e)) × (r ≡ true → next < 65535) ⌝ }
+{
+    if word(recording, 3) <= next {
+        return false;
+    }
+    if word(recording, 5 + 3 * (next as usize)) != e.time {
+        return false;
+    }
+    byte(recording, 7 + 3 * (next as usize)) == e.kind
+}
+
+// No recorded row of this time is unaccounted for.
+fn none_at(recording: &[u8], next: u16, time: u16) -> bool
+    ensures { λ r. ⌜ r ≡ noneAt (drop next (packetsAt (now (recording .entry)))) time ⌝ }
+{
+    if word(recording, 3) <= next {
+        return true;
+    }
+    word(recording, 5 + 3 * (next as usize)) != time
+}
+
+fn waited(c: Config, ticks: u16) -> Config
+    requires { ⌜ (length (c .clocks) ≡ 2) × (getD (c .clocks) 0 0 + ticks < 65536) × (getD (c .clocks) 1 0 + ticks < 65536) ⌝ }
+    ensures { λ r. ⌜ r ≡ wait ticks c ⌝ }
+{
+    let clocks = c.clocks;
+    Config {
+        state: c.state,
+        variables: c.variables,
+        clocks: [clocks[0] + ticks, clocks[1] + ticks],
+    }
+}
+
+fn refused(s: Standing) -> Step
+    ensures { λ r. ⌜ ((recording : List Packet) → Stepped recording none r) ⌝ }
+{
+    Step {
+        sound: false,
+        to: s,
+    }
+}
+
+// A kept or added row: the air is free, and its transition has its kind and fires.
+fn sent<'a>(table: &'a [u8], offsets: &'a [u16], s: Standing, e: Entry, next: u16) -> Step
+    requires { ⌜ Ready s e ⌝ }
+    ensures { λ r. ⌜ ((recording : List Packet) → Stepped recording (sends (monitorFrom (now (table .entry)) (now (offsets .entry))) (progressOf recording s) (rowOf e) (drop next recording)) r) ⌝ }
+{
+    if e.time < s.free {
+        return refused(s);
+    }
+    let c = s.config;
+    let then = fire(
+        table,
+        offsets,
+        e.transition as usize,
+        e.kind,
+        waited(c, e.time - s.now),
+    );
+    if !then.fired {
+        return refused(s);
+    }
+    let config = then.to;
+    let free = e.time + airtime_of(table, e.kind) as u16 + 1;
+    Step {
+        sound: true,
+        to: Standing {
+            before: e,
+            next,
+            now: e.time,
+            free,
+            config,
+        },
+    }
+}
+
+fn keep_row<'a>(
+    table: &'a [u8],
+    offsets: &'a [u16],
+    recording: &[u8],
+    s: Standing,
+    e: Entry,
+) -> Step
+    requires { ⌜ Ready s e ⌝ }
+    ensures { λ r. ⌜ Stepped (packetsAt (now (recording .entry))) (keeps (monitorFrom (now (table .entry)) (now (offsets .entry))) (progressOf (packetsAt (now (recording .entry))) s) (rowOf e)) r ⌝ }
+{
+    let next = s.next;
+    if !is_next(recording, next, e) {
+        return refused(s);
+    }
+    sent(table, offsets, s, e, next + 1)
+}
+
+// A removed row is to the unit, and takes no air.
+fn remove_row<'a>(
+    table: &'a [u8],
+    offsets: &'a [u16],
+    recording: &[u8],
+    s: Standing,
+    e: Entry,
+) -> Step
+    requires { ⌜ Ready s e ⌝ }
+    ensures { λ r. ⌜ Stepped (packetsAt (now (recording .entry))) (removes (monitorFrom (now (table .entry)) (now (offsets .entry))) (progressOf (packetsAt (now (recording .entry))) s) (rowOf e)) r ⌝ }
+{
+    let next = s.next;
+    if !is_next(recording, next, e) {
+        return refused(s);
+    }
+    if !to_unit(table, e.kind) {
+        return refused(s);
+    }
+    let config = s.config;
+    let following = next + 1;
+    Step {
+        sound: true,
+        to: Standing {
+            before: e,
+            next: following,
+            now: s.now,
+            free: s.free,
+            config,
+        },
+    }
+}
+
+fn add_row<'a>(table: &'a [u8], offsets: &'a [u16], recording: &[u8], s: Standing, e: Entry) -> Step
+    requires { ⌜ Ready s e ⌝ }
+    ensures { λ r. ⌜ Stepped (packetsAt (now (recording .entry))) (adds (monitorFrom (now (table .entry)) (now (offsets .entry))) (progressOf (packetsAt (now (recording .entry))) s) (rowOf e)) r ⌝ }
+{
+    let next = s.next;
+    if !none_at(recording, next, e.time) {
+        return refused(s);
+    }
+    sent(table, offsets, s, e, next)
+}
+
+// The next row: its form, and the rule for its mark.
+fn accounted<'a>(
+    table: &'a [u8],
+    offsets: &'a [u16],
+    recording: &[u8],
+    s: Standing,
+    e: Entry,
+) -> Step
+    requires { ⌜ Bounded s ⌝ }
+    ensures { λ r. ⌜ Stepped (packetsAt (now (recording .entry))) (account (monitorFrom (now (table .entry)) (now (offsets .entry))) (progressOf (packetsAt (now (recording .entry))) s) (rowOf e)) r ⌝ }
+{
+    let before = s.before;
+    let next = s.next;
+    if !in_place(before, e) {
+        return refused(s);
+    }
+    if !none_before(recording, next, e.time) {
+        return refused(s);
+    }
+    if e.mark == 0 {
+        return keep_row(table, offsets, recording, s, e);
+    }
+    if e.mark == 1 {
+        return remove_row(table, offsets, recording, s, e);
+    }
+    add_row(table, offsets, recording, s, e)
+}
+
+fn begun() -> Standing
+    ensures { λ r. ⌜ Bounded r × ((recording : List Packet) → progressOf recording r ≡ begin recording) ⌝ }
+{
+    Standing {
+        before: Entry {
+            mark: 0,
+            time: 0,
+            kind: 0,
+            transition: 0,
+        },
+        next: 0,
+        now: 0,
+        free: 0,
+        config: Config {
+            state: 0,
+            variables: 0,
+            clocks: [0, 0],
+        },
+    }
+}
+
+fn change_by(e: Entry) -> u64
+    ensures { λ r. ⌜ (r ≡ cond (eqb (e .mark) kept) 0 1) × (r ≤ 1) ⌝ }
+{
+    if e.mark == 0 { 0 } else { 1 }
+}
+
+// The rows in turn, for the table's records at the offsets.
+fn check_rows<'a>(table: &'a [u8], offsets: &'a [u16], recording: &[u8], witness: &[u8]) -> Checking
+    ensures { λ r. ⌜ r ≡ checkedRows (monitorFrom (now (table .entry)) (now (offsets .entry))) (packetsAt (now (recording .entry))) (rowsAt (now (witness .entry))) ⌝ }
+{
+    let count = word(witness, 3) as usize;
+    let mut s = begun();
+    let mut changed: u64 = 0;
+    let mut i = 0;
+    while i < count {
+        let e = row_at(witness, i);
+        let step = accounted(table, offsets, recording, s, e);
+        if !step.sound {
+            return Checking::Unchecked(Refusal::WitnessRow { row: i as u64 });
+        }
+        changed += change_by(e);
+        s = step.to;
+        i += 1;
+    }
+    if s.next < word(recording, 3) {
+        return Checking::Unchecked(Refusal::WitnessRow { row: i as u64 });
+    }
+    Checking::Permitted {
+        changed,
+        rows: i as u64,
+    }
+}
+
+// The answers on the recording and on the witness's frame come first.
+fn answered(
+    read: Reading,
+    frame: Reading,
+    table: &[u8],
+    recording: &[u8],
+    witness: &[u8],
+) -> Checking
+    requires { ⌜ (read ≡ recordingAnswer (now table) (now recording)) × (frame ≡ witnessFrame (now witness)) ⌝ }
+    ensures { λ r. ⌜ r ≡ checkAnswer (now (table .entry)) (now (recording .entry)) (now (witness .entry)) ⌝ }
+{
+    if let Reading::Unsound(r) = read {
+        return Checking::Unchecked(r);
+    }
+    if let Reading::Unsound(r) = frame {
+        return Checking::Unchecked(r);
+    }
+    let starts = offsets(table);
+    check_rows(table, &starts, recording, witness)
+}
+
+// The answer on a witness: 0, or the first number that applies.
+pub fn check_witness(table: &[u8], recording: &[u8], witness: &[u8]) -> Checking
+    ensures { λ r. ⌜ r ≡ checkAnswer (now (table .entry)) (now (recording .entry)) (now (witness .entry)) ⌝ }
+    ensures { λ r. ⌜ Faithful (now (table .entry)) (now (recording .entry)) (now (witness .entry)) r ⌝ }
+{
+    let read = recording_answer(table, recording);
+    let frame = witness_frame(witness);
+    answered(read, frame, table, recording, witness)
+}

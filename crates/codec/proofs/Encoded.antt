@@ -1,0 +1,170 @@
+-- The bytes of a table, as they are placed record by record.
+use Prim.Native.Nat.{ℕ, _+_, _-_, _*_, _≤_, _<_, min}
+use native.Mathlib.Omega.{arith}
+use native.Mathlib.Nat.{min-eq-left, min-eq-right}
+use native.Mathlib.Decide.{decLe}
+use mathlib.Core.Path.{_≡_, refl, sym, ap, _∙_}
+use mathlib.Core.List.{List, [], _∷_, _++_, append-assoc}
+use lib.ListN.{length, getD, take, drop, length-append, length-take, length-drop, take-append-drop}
+use lib.Dec.{leb}
+use mathlib.Core.Bool.{true, false}
+use borrow.Author.Tests.{le-leb, eq-eqb}
+use lib.Seq.{take-take, take-all, length-take-le}
+use Rattle.model.specs.Bytes.{byteAt, wordAt, wordBytes, joined}
+use Rattle.model.specs.First.{unless, isSound}
+use Rattle.model.specs.Room.{write, over}
+use Rattle.model.specs.Size.{size, sizeLimit}
+use Rattle.model.specs.Table.{kindBytes, transitionBytes, tableBody, tableBytes, tableCounts, tableParts, tableAnswer, monitorOf, writeTable}
+use Rattle.model.specs.declared.Refusal.the-variants.{TableFrame, TableVersion, TableSize}
+use Rattle.model.specs.declared.Reading.{Reading}
+use Rattle.model.specs.declared.Reading.the-variants.{Sound}
+use Rattle.model.specs.declared.TableParts.{TableParts}
+use Rattle.wire.specs.Placed.{placed}
+use Rattle.wire.proofs.Room.{placed-behind}
+use Rattle.codec.specs.Steps.{framed, countsOf, tableScan, guardBytesIn, headBytes}
+use Rattle.codec.proofs.Columns.{joined-long, joined-most}
+use Rattle.codec.proofs.Written.{placed-first, write-none}
+use Rattle.codec.proofs.Steps.{stops, sound-is}
+use Rattle.codec.proofs.Tables.{scan-all, counts-bound}
+
+-- a guard's bytes, cut at its places
+
+take-within : (l : List ℕ) (n : ℕ) → take n (take 32 l) ≡ take (min n 32) l
+take-within l n = go (decLe n 32)
+  where
+    go : Dec (n ≤ 32) → take n (take 32 l) ≡ take (min n 32) l
+    go (yes h) = take-take n 32 l h ∙ ap (λ m. take m l) (sym (min-eq-left h))
+    go (no h) =
+        let k : 32 ≤ n = omega arith in
+        take-all n (take 32 l) (omega (arith, length-take 32 l)) ∙ ap (λ m. take m l) (sym (min-eq-right k))
+
+module _ (guards : List ℕ) (j count w : ℕ) (is : w ≡ min count 32) where
+  pub guard-part : take (32 * j + w - 32 * j) (drop (32 * j) guards) ≡ guardBytesIn guards count j
+  guard-part =
+      let all : 32 * j + w - 32 * j ≡ min count 32 = omega arith in
+      ap (λ m. take m (drop (32 * j) guards)) all ∙ sym (take-within (drop (32 * j) guards) count)
+
+  pub guard-count : j < 64 → 2048 ≤ length guards → 32 * j + w - 32 * j ≡ length (guardBytesIn guards count j)
+  guard-count h k =
+      ap (λ (n : ℕ). n) (count-is h k) ∙ ap length guard-part
+    where
+      count-is : j < 64 → 2048 ≤ length guards → 32 * j + w - 32 * j ≡ length (take (32 * j + w - 32 * j) (drop (32 * j) guards))
+      count-is h k = sym (length-take (32 * j + w - 32 * j) (drop (32 * j) guards) ∙ omega (arith, length-drop (32 * j) guards))
+
+pub kinds-long : (t : TableParts) (head : List ℕ) (i : ℕ) → length head ≡ 8 → length (head ++ joined (kindBytes t) i) ≡ 8 + 2 * i
+kinds-long t head i h = length-append head (joined (kindBytes t) i) ∙ omega (arith, joined-long (kindBytes t) 2 i (λ j k. refl))
+
+-- a record of two parts, the first of seven bytes
+module _ (head room x y : List ℕ) (at : ℕ) (long : length head ≡ at) (seven : length x ≡ 7) where
+  pub two-long : (r : ℕ) → r ≡ length y → at + 7 + r ≡ length (head ++ (x ++ y))
+  two-long r e = sym (length-append head (x ++ y) ∙ omega (arith, length-append x y))
+
+  pub two-placed : at + 7 + length y ≤ length room → (out one two : List ℕ) → out ≡ over head room → one ≡ placed x at out → two ≡ placed y (at + 7) one → two ≡ over (head ++ (x ++ y)) room
+  two-placed fits out one two e f g =
+      let first : one ≡ over (head ++ x) room = f ∙ ap (placed x at) e ∙ placed-behind head x room at long (omega arith) in
+      g
+      ∙ ap (placed y (at + 7)) first
+      ∙ placed-behind (head ++ x) y room (at + 7) (length-append head x ∙ omega arith) fits
+      ∙ ap (λ (l : List ℕ). over l room) (append-assoc head x y)
+
+-- the whole table
+
+module _ (t : TableParts) where
+  abbrev kinds : List ℕ
+  kinds = joined (kindBytes t) (t .kinds)
+
+  abbrev transitions : List ℕ
+  transitions = joined (transitionBytes t) (t .transitions)
+
+  pub body-long : (z : List ℕ) → length z ≡ 8 → length (tableBody t) + 2 ≡ length ((z ++ kinds) ++ transitions)
+  unfolding tableBody
+  body-long z e = sym (length-append (z ++ kinds) transitions ∙ omega (arith, length-append z kinds, length-append kinds transitions))
+
+  pub table-is : (n : ℕ) → n ≡ length (tableBody t) → (headBytes t n ++ kinds) ++ transitions ≡ tableBytes t
+  unfolding tableBytes tableBody
+  table-is n e = ap (λ m. wordBytes m ++ ((1 ∷ t .states ∷ t .variables ∷ t .clocks ∷ t .kinds ∷ t .transitions ∷ []) ++ kinds ++ transitions)) e
+
+  pub table-long : length (tableBytes t) ≡ length (tableBody t) + 2
+  unfolding tableBytes
+  table-long = omega arith
+
+  start : (out : List ℕ) → 8 ≤ length out → out ≡ over (take 8 out) out
+  start out h = sym (ap (λ n. take 8 out ++ drop n out) (length-take-le 8 out h) ∙ take-append-drop 8 out)
+
+  -- the records, and then what stands before them
+  pub encoded : (out one two three head : List ℕ) (end : ℕ) → length out ≡ 2568
+      → ((z room : List ℕ) → length z ≡ 8 → 72 ≤ length room → out ≡ over z room → one ≡ over (z ++ kinds) room)
+      → ((z room : List ℕ) → length z ≡ 8 + 2 * t .kinds → 2568 ≤ length room → one ≡ over z room → (two ≡ over (z ++ transitions) room) × (end ≡ length (z ++ transitions)))
+      → end ≤ 2568
+      → head ≡ headBytes t (end - 2)
+      → three ≡ placed head 0 two
+      → (three ≡ over (tableBytes t) out) × (end ≡ length (tableBytes t))
+  encoded out one two three head end l f g most h e =
+      let z : List ℕ = take 8 out in
+      let eight : length z ≡ 8 = length-take-le 8 out (omega arith) in
+      let p = f z out eight (omega arith) (start out (omega arith)) in
+      let q = g (z ++ kinds) out (kinds-long t z (t .kinds) eight) (omega arith) p in
+      let body = body-long z eight in
+      let total : end - 2 ≡ length (tableBody t) = omega (arith, body, q .1) in
+      let flat = append-assoc z kinds transitions in
+      let first = placed-first z (headBytes t (end - 2)) (kinds ++ transitions) out eight (omega (arith, ap length flat, q .1)) in (
+        e ∙ ap (λ (b : List ℕ). placed b 0 two) h ∙ ap (placed (headBytes t (end - 2)) 0) (q .0 ∙ ap (λ (b : List ℕ). over b out) flat) ∙ first ∙ ap (λ (b : List ℕ). over b out) (table-is (end - 2) total),
+        q .1 ∙ sym body ∙ sym table-long,
+      )
+
+  -- what reading these bytes gives, where a count is outside its limits
+
+  transition-most : (j : ℕ) → length (transitionBytes t j) ≤ 39
+  transition-most j =
+      let places : List ℕ = take 32 (drop (32 * j) (t .guards)) in
+      let count : ℕ = getD (t .lengths) j 0 in
+      omega (arith, length-take count places, length-take 32 (drop (32 * j) (t .guards)))
+
+  body-most : t .kinds ≤ 255 → t .transitions ≤ 255 → length (tableBody t) < 65536
+  body-most h k =
+      let z : List ℕ = 0 ∷ 0 ∷ 0 ∷ 0 ∷ 0 ∷ 0 ∷ 0 ∷ 0 ∷ [] in
+      omega (arith, body-long z refl, length-append (z ++ kinds) transitions, length-append z kinds, joined-long (kindBytes t) 2 (t .kinds) (λ j q. refl), joined-most (transitionBytes t) 39 (t .transitions) transition-most)
+
+  word-is : length (tableBody t) < 65536 → wordAt (tableBytes t) 0 ≡ length (tableBody t)
+  unfolding tableBytes
+  word-is h = omega arith
+
+  version-is : byteAt (tableBytes t) 2 ≡ 1
+  unfolding tableBytes tableBody
+  version-is = refl
+
+  counts-same : tableCounts (tableBytes t) ≡ countsOf (t .states) (t .variables) (t .clocks) (t .kinds) (t .transitions)
+  unfolding tableCounts countsOf tableBytes tableBody
+  counts-same = refl
+
+  body-least : 6 ≤ length (tableBody t)
+  unfolding tableBody
+  body-least = omega arith
+
+  frame-sound : length (tableBody t) < 65536 → framed (tableBytes t) 8 TableFrame TableVersion ≡ Sound
+  unfolding framed
+  frame-sound h =
+      let all : wordAt (tableBytes t) 0 + 2 ≡ length (tableBytes t) = omega (arith, word-is h, table-long) in
+      let least : 8 ≤ length (tableBytes t) = omega (arith, body-least, table-long) in
+      rw (le-leb 8 (length (tableBytes t)) least, eq-eqb (wordAt (tableBytes t) 0 + 2) (length (tableBytes t)) all, eq-eqb (byteAt (tableBytes t) 2) 1 version-is)
+
+  module _ (counts : Reading) (is : counts ≡ countsOf (t .states) (t .variables) (t .clocks) (t .kinds) (t .transitions)) where
+    early : length (tableBody t) < 65536 → isSound counts ≡ false → tableAnswer (tableBytes t) ≡ counts
+    unfolding tableScan
+    early h e =
+        let same : tableCounts (tableBytes t) ≡ counts = counts-same ∙ sym is in
+        let b = tableBytes t in
+        let scan : tableScan b ≡ counts = rw (frame-sound h, same) (stops counts _ e) in
+        scan-all b ∙ rw scan (stops counts (unless (leb (size (monitorOf (tableParts b))) sizeLimit) TableSize) e)
+
+    pub write-early : (room bytes : List ℕ) → t .kinds ≤ 255 → t .transitions ≤ 255 → isSound counts ≡ false → write counts bytes room ≡ writeTable t room
+    unfolding writeTable
+    write-early room bytes h k e =
+        write-none counts bytes (tableBytes t) room e ∙ ap (λ a. write a (tableBytes t) room) (sym (early (body-most h k) e))
+
+    pub counts-within : isSound counts ≡ true → (t .kinds ≤ 32) × (t .transitions ≤ 64)
+    counts-within e = counts-bound (t .states) (t .variables) (t .clocks) (t .kinds) (t .transitions) (sym is ∙ sound-is counts e)
+
+  pub write-late : (room bytes : List ℕ) (answer : Reading) → bytes ≡ tableBytes t → answer ≡ tableAnswer bytes → write answer bytes room ≡ writeTable t room
+  unfolding writeTable
+  write-late room bytes answer e g = rw (g, e)

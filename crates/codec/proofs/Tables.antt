@@ -1,0 +1,160 @@
+-- What a sound scan of a table ensures, and guards in their places.
+use Prim.Native.Nat.{ℕ, zero, suc, _+_, _-_, _*_, _≤_, _<_, min}
+use native.Mathlib.Omega.{arith}
+use native.Mathlib.Nat.{sub-zero}
+use native.Mathlib.Numerals.{add-one}
+use mathlib.Core.Path.{_≡_, refl, sym, _∙_}
+use mathlib.Core.List.{List, [], _∷_}
+use mathlib.Core.Bool.{true, false}
+use lib.Dec.{leb, eqb}
+use lib.ListN.{length, take, drop, length-take}
+use borrow.Author.Tests.{leb-true, le-leb, lt-leb}
+use Rattle.model.specs.Bytes.{byteAt, wordAt, joined, padded}
+use Rattle.model.specs.First.{unless, andThen, firstOf, isSound}
+use Rattle.model.specs.Guard.{guardAt, endsAt}
+use Rattle.model.specs.Size.{size, sizeLimit}
+use Rattle.model.specs.Table.{tableCounts, kindRecords, transitionFields, transitionRecord, transitionRecords, statesAt, variablesAt, clocksAt, kindsAt, transitionsAt, kindAt, transitionAt, guardLengthAt, guardPlace, tableAnswer, tableParts, noTable, readTable, monitorOf}
+use Rattle.model.specs.declared.TableParts.{TableParts}
+use Rattle.model.specs.declared.TableReading.{TableReading}
+use Rattle.model.specs.declared.Refusal.the-variants.{TableSize, TableFrame, TableVersion, TableCount, TableLength, TableGuard}
+use Rattle.model.specs.declared.Reading.{Reading}
+use Rattle.model.specs.declared.Reading.the-variants.{Sound}
+use Rattle.model.proofs.Basics.{andThen-left, andThen-right, unless-sound}
+use Rattle.codec.specs.Steps.{framed, countsOf, tableScan}
+use Rattle.wire.specs.Placed.{placed}
+use Rattle.codec.proofs.Columns.{joined-long, padded-long, place-more}
+use Rattle.codec.proofs.Steps.{then-assoc, then-sound, transitions-turn}
+
+-- the last of a row of sound answers
+module _ (a b c d e f : Reading) where
+  scan-row : (s : Reading) → firstOf (a ∷ b ∷ c ∷ d ∷ e ∷ f ∷ s ∷ []) ≡ andThen (firstOf (firstOf (a ∷ b ∷ c ∷ []) ∷ d ∷ e ∷ f ∷ [])) s
+  scan-row s = simp (then-assoc, then-sound)
+
+  sixth : (s : Reading) → firstOf (a ∷ b ∷ c ∷ d ∷ e ∷ f ∷ s ∷ []) ≡ Sound → firstOf (f ∷ s ∷ []) ≡ Sound
+  sixth s h =
+      andThen-right e (firstOf (f ∷ s ∷ []))
+      (andThen-right d _ (andThen-right c (firstOf (d ∷ e ∷ f ∷ s ∷ [])) (andThen-right b _ (andThen-right a (firstOf (b ∷ c ∷ d ∷ e ∷ f ∷ s ∷ [])) h))))
+
+  fourth : firstOf (a ∷ b ∷ c ∷ d ∷ e ∷ f ∷ []) ≡ Sound → firstOf (d ∷ e ∷ f ∷ []) ≡ Sound
+  fourth h = andThen-right c (firstOf (d ∷ e ∷ f ∷ [])) (andThen-right b _ (andThen-right a (firstOf (b ∷ c ∷ d ∷ e ∷ f ∷ [])) h))
+
+pub counts-are : (b : List ℕ) (s v c k t : ℕ) → s ≡ statesAt b → v ≡ variablesAt b → c ≡ clocksAt b → k ≡ kindsAt b → t ≡ transitionsAt b → countsOf s v c k t ≡ tableCounts b
+unfolding countsOf tableCounts
+counts-are b s v c k t es ev ec ek et = rw (es, ev, ec, ek, et)
+
+pub counts-bound : (s v c k t : ℕ) → countsOf s v c k t ≡ Sound → (k ≤ 32) × (t ≤ 64)
+unfolding countsOf
+counts-bound s v c k t h =
+    let kinds = unless (leb k 32) (TableCount 6) in
+    let transitions = unless (leb t 64) (TableCount 7) in
+    let last =
+    sixth
+    (unless (leb 1 s) (TableCount 3))
+    (unless (leb s 16) (TableCount 3))
+    (unless (leb v 4) (TableCount 4))
+    (unless (leb c 2) (TableCount 5))
+    (unless (leb 1 k) (TableCount 6))
+    kinds
+    transitions
+    h in (
+      leb-true k 32 (unless-sound (leb k 32) (TableCount 6) (andThen-left kinds (andThen transitions Sound) last)),
+      leb-true t 64 (unless-sound (leb t 64) (TableCount 7) (andThen-left transitions Sound (andThen-right kinds (andThen transitions Sound) last))),
+    )
+
+module _ (b : List ℕ) where
+  -- 16 comes after the scan
+  pub scan-all : tableAnswer b ≡ andThen (tableScan b) (unless (leb (size (monitorOf (tableParts b))) sizeLimit) TableSize)
+  unfolding tableAnswer tableScan framed
+  scan-all =
+      scan-row
+      (unless (leb 8 (length b)) TableFrame)
+      (unless (eqb (wordAt b 0 + 2) (length b)) TableFrame)
+      (unless (eqb (byteAt b 2) 1) TableVersion)
+      (tableCounts b)
+      (kindRecords (kindsAt b) b (kindAt 0))
+      (transitionRecords (transitionsAt b) b (kindAt (kindsAt b)))
+      (unless (leb (size (monitorOf (tableParts b))) sizeLimit) TableSize)
+
+  pub record-bound : (at : ℕ) → transitionRecord b at ≡ Sound → (guardLengthAt b at ≤ 32) × (at + 7 + guardLengthAt b at ≤ length b)
+  unfolding transitionRecord
+  record-bound at h =
+      let form = endsAt (guardAt 32 (variablesAt b) (clocksAt b) b (at + 7) (at + 7 + guardLengthAt b at)) (at + 7 + guardLengthAt b at) in
+      let short = unless (leb (guardLengthAt b at) 32) (TableGuard at) in
+      let there = unless (leb (at + 7 + guardLengthAt b at) (length b)) (TableLength at) in
+      let last = fourth (unless (leb (at + 7) (length b)) (TableLength at)) (transitionFields b at) (unless (leb 1 (guardLengthAt b at)) (TableGuard at)) short there (unless form (TableGuard at)) h in
+      let rest = andThen-right short (firstOf (there ∷ unless form (TableGuard at) ∷ [])) last in (
+        leb-true _ _ (unless-sound (leb (guardLengthAt b at) 32) (TableGuard at) (andThen-left short (firstOf (there ∷ unless form (TableGuard at) ∷ [])) last)),
+        leb-true _ _ (unless-sound (leb (at + 7 + guardLengthAt b at) (length b)) (TableLength at) (andThen-left there (firstOf (unless form (TableGuard at) ∷ [])) rest)),
+      )
+
+  module _ (sound : tableScan b ≡ Sound) where
+    scan-rest : firstOf (tableCounts b ∷ kindRecords (kindsAt b) b (kindAt 0) ∷ transitionRecords (transitionsAt b) b (kindAt (kindsAt b)) ∷ []) ≡ Sound
+    unfolding tableScan
+    scan-rest = andThen-right (framed b 8 TableFrame TableVersion) _ sound
+
+    pub scan-bounds : (kindsAt b ≤ 32) × (transitionsAt b ≤ 64)
+    scan-bounds = counts-bound (statesAt b) (variablesAt b) (clocksAt b) (kindsAt b) (transitionsAt b) (counts-are b _ _ _ _ _ refl refl refl refl refl ∙ andThen-left (tableCounts b) (firstOf (kindRecords (kindsAt b) b (kindAt 0) ∷ transitionRecords (transitionsAt b) b (kindAt (kindsAt b)) ∷ [])) scan-rest)
+
+    scan-transitions : transitionRecords (transitionsAt b) b (kindAt (kindsAt b)) ≡ Sound
+    scan-transitions =
+        sym (then-sound (transitionRecords (transitionsAt b) b (kindAt (kindsAt b))))
+        ∙ andThen-right (kindRecords (kindsAt b) b (kindAt 0)) (andThen (transitionRecords (transitionsAt b) b (kindAt (kindsAt b))) Sound)
+        (andThen-right (tableCounts b) (firstOf (kindRecords (kindsAt b) b (kindAt 0) ∷ transitionRecords (transitionsAt b) b (kindAt (kindsAt b)) ∷ [])) scan-rest)
+
+    -- from each record on, what is left is sound
+    scan-from : (j : ℕ) → j ≤ transitionsAt b → transitionRecords (transitionsAt b - j) b (transitionAt b j) ≡ Sound
+    unfolding transitionAt
+    scan-from zero h = rw sub-zero scan-transitions
+    scan-from (suc j) h =
+        let rest = transitionRecords (transitionsAt b - (j + 1)) b (transitionAt b j + 7 + guardLengthAt b (transitionAt b j)) in
+        let e : suc j ≡ j + 1 = sym (add-one j) in
+        rw e (andThen-right (transitionRecord b (transitionAt b j)) rest (sym (transitions-turn b (transitionsAt b) j (transitionAt b j) (omega arith)) ∙ scan-from j (omega arith)))
+
+    pub scan-guard : (j : ℕ) → j < transitionsAt b → (guardLengthAt b (transitionAt b j) ≤ 32) × (transitionAt b j + 7 + guardLengthAt b (transitionAt b j) ≤ length b)
+    scan-guard j h =
+        let at = transitionAt b j in
+        let rest = transitionRecords (transitionsAt b - (j + 1)) b (at + 7 + guardLengthAt b at) in
+        record-bound at (andThen-left (transitionRecord b at) rest (sym (transitions-turn b (transitionsAt b) j at h) ∙ scan-from j (omega arith)))
+
+-- where the next record starts
+pub next-at : (b : List ℕ) (at i l : ℕ) → at ≡ transitionAt b i → l ≡ guardLengthAt b at → at + 7 + l ≡ transitionAt b (i + 1)
+unfolding transitionAt
+next-at b at i l e h = rw (h, e, add-one)
+
+place-is : (b : List ℕ) (i at l : ℕ) → at ≡ transitionAt b i → l ≡ guardLengthAt b at → guardPlace b i ≡ padded 32 (take l (drop (at + 7) b))
+unfolding guardPlace
+place-is b i at l starts long = rw (long, starts)
+
+place-long : (b : List ℕ) → tableScan b ≡ Sound → (j : ℕ) → j < transitionsAt b → length (guardPlace b j) ≡ 32
+unfolding guardPlace
+place-long b sound j h =
+    let part = drop (transitionAt b j + 7) b in
+    padded-long 32 (take (guardLengthAt b (transitionAt b j)) part) (omega (arith, scan-guard b sound j h .0, length-take (guardLengthAt b (transitionAt b j)) part))
+
+-- the guard of record i, which starts at an offset and has a length
+module _ (b : List ℕ) (sound : tableScan b ≡ Sound) (i at l : ℕ) (within : i < transitionsAt b) (starts : at ≡ transitionAt b i) (long : l ≡ guardLengthAt b at) where
+  pub guard-inside : (l ≤ 32) × (at + 7 + l ≤ length b)
+  guard-inside = rw (long, starts) (scan-guard b sound i within)
+
+  pub guard-turn : (guards : List ℕ) → guards ≡ padded 2048 (joined (guardPlace b) i)
+      → placed (take (at + 7 + l - (at + 7)) (drop (at + 7) b)) (32 * i) guards ≡ padded 2048 (joined (guardPlace b) (i + 1))
+  guard-turn guards e =
+      let all : at + 7 + l - (at + 7) ≡ l = omega arith in
+      let few : transitionsAt b ≤ 64 = scan-bounds b sound .1 in
+      let short : length (take l (drop (at + 7) b)) ≤ 32 = omega (arith, guard-inside .0, length-take l (drop (at + 7) b)) in
+      rw (all, e) (place-more 2048 32 (guardPlace b) (take l (drop (at + 7) b)) i (omega arith) short (joined-long (guardPlace b) 32 i (λ j h. place-long b sound j (omega arith))) (place-is b i at l starts long))
+
+pub read-refused : (b : List ℕ) (r : Reading) (p : TableParts) → r ≡ tableAnswer b → isSound r ≡ false → p ≡ noTable → _≡_ {A = TableReading} (record { answer = r; parts = p }) (readTable b)
+unfolding readTable
+read-refused b r p e h q = rw (← e, h, q)
+
+pub read-sound : (b : List ℕ) (p : TableParts) → tableAnswer b ≡ Sound → p ≡ tableParts b → _≡_ {A = TableReading} (record { answer = Sound; parts = p }) (readTable b)
+unfolding readTable
+read-sound b p e q = rw (e, q)
+
+-- N that was cut at one above the limit
+pub size-over : (n r : ℕ) → r ≡ min n 65537 → 65536 < r → leb n 65536 ≡ false
+size-over n r e h = lt-leb n 65536 (omega arith)
+
+pub size-within : (n r : ℕ) → r ≡ min n 65537 → r ≤ 65536 → leb n 65536 ≡ true
+size-within n r e h = le-leb n 65536 (omega arith)

@@ -1,0 +1,68 @@
+use Prim.Native.Nat.{ℕ, _+_}
+use native.Mathlib.Omega.{arith}
+use mathlib.Core.Path.{_≡_, refl, ap, _∙_}
+use mathlib.Core.List.{List}
+use lib.ListN.{length, getD}
+use Rattle.wire.specs.Placed.{placed}
+use Rattle.codec.specs.Steps.{fieldBytes, guardBytesIn}
+use Rattle.codec.proofs.Encoded.{two-long, two-placed}
+use borrow.Author.Needs.{needs}
+use Rattle.codec.proofs.table.put_transition.Statement.{statement}
+use Rattle.codec.proofs.table.put_transition.Tie as tie
+
+field-bytes-requires : tie.Need-field-bytes-requires
+field-bytes-requires c κs = search needs
+
+slice-aggregate-place : tie.Need-slice-aggregate-place
+slice-aggregate-place c = search needs
+
+place-requires : tie.Need-place-requires
+place-requires c κs = search needs
+
+byte-requires : tie.Need-byte-requires
+byte-requires c κs = search needs
+
+add-result : tie.Need-add-result
+add-result c = search needs
+
+add-put-guard : tie.Need-add-put-guard
+add-put-guard c = search needs
+
+put-guard-requires : tie.Need-put-guard-requires
+put-guard-requires c κs = search needs
+
+add-result-2 : tie.Need-add-result-2
+add-result-2 c = search needs
+
+same-length : tie.Need-same-length
+same-length c = search needs
+
+returns : tie.Need-returns
+returns c = let a = c .before .before .before .before .before .before .before .before .before .before .before .before .before .before .before .before .before .before .args in
+    let x = fieldBytes (a .t1) (a .j) in
+    let y = guardBytesIn (a .t1 .guards) (getD (a .t1 .lengths) (a .j) 0) (a .j) in
+    let count = c .before .before .before .before .before .before .before .byte .ensures .0 in
+    let part : c .before .before .put-guard .result ≡ length y = c .before .before .put-guard .ensures .1 ∙ ap (λ n. length (guardBytesIn (a .t1 .guards) n (a .j))) count in (
+      λ head room h k e. (
+        two-placed head room x y (a .at) h refl (omega (arith, c .before .before .put-guard .ensures .2)) _ _ _ e
+            (c .before .before .before .before .before .before .before .before .before .before .before .before .before .place .ensures ∙ ap (λ (l : List ℕ). placed l (a .at) (a .out .now)) (c .before .before .before .before .before .before .before .before .before .before .before .before .before .before .before .before .field-bytes .ensures))
+            (c .before .before .put-guard .ensures .0 ∙ ap (λ n. placed (guardBytesIn (a .t1 .guards) n (a .j)) (a .at + 7) (c .before .before .before .before .before .before .before .before .before .before .before .before .before .place .last .1 .0)) count),
+        two-long head room x y (a .at) h refl (c .before .before .put-guard .result) part,
+      ),
+      omega (arith, c .before .before .put-guard .ensures .2),
+    )
+
+pub put-transition-spec : {M : Type 1} → statement M
+put-transition-spec =
+    tie.close
+    (tie.spec
+    field-bytes-requires
+    slice-aggregate-place
+    place-requires
+    byte-requires
+    add-result
+    add-put-guard
+    put-guard-requires
+    add-result-2
+    same-length
+    returns)

@@ -1,0 +1,59 @@
+use mathlib.Core.Path.{_≡_, sym, _∙_, refl}
+use Prim.Native.Nat.{min}
+use Rattle.model.specs.Size.{size}
+use Rattle.model.specs.Table.{monitorOf, tableParts}
+use Rattle.codec.proofs.Steps.{turn-stops, turn-goes, sound-is}
+use Rattle.codec.proofs.Tables.{scan-all, read-refused, read-sound, size-over, size-within}
+use borrow.Author.Tests.{not-true, not-false}
+use borrow.Author.Needs.{needs}
+use Rattle.codec.proofs.table.read_table.Statement.{statement}
+use Rattle.codec.proofs.table.read_table.Tie as tie
+
+table-scan-requires : tie.Need-table-scan-requires
+table-scan-requires c κs = search needs
+
+sound-requires : tie.Need-sound-requires
+sound-requires c κs = search needs
+
+no-table-requires : tie.Need-no-table-requires
+no-table-requires c κs = search needs
+
+returns : tie.Need-returns
+returns c = let b = c .before .before .before .before .before .args .b .now in
+    let is = turn-stops _ _ _ _ _ (scan-all b) (c .before .before .before .table-scan .ensures) (c .before .before .sound .ensures) (c .before .if1 .taken) in
+    read-refused b _ _ is (sym (c .before .before .sound .ensures) ∙ not-true (c .before .before .sound .result) (c .before .if1 .taken)) (c .no-table .ensures)
+
+table-parts-requires : tie.Need-table-parts-requires
+table-parts-requires c κs = sym (c .before .before .table-scan .ensures) ∙ sound-is _ (sym (c .before .sound .ensures) ∙ not-false (c .before .sound .result) (c .if1 .left))
+
+table-size-requires : tie.Need-table-size-requires
+table-size-requires c κs = search needs
+
+no-table-requires-2 : tie.Need-no-table-requires-2
+no-table-requires-2 c κs = search needs
+
+returns-2 : tie.Need-returns-2
+returns-2 c = let b = c .before .before .before .before .before .before .before .before .args .b .now in
+    let all = turn-goes _ _ _ _ _ (scan-all b) (c .before .before .before .before .before .before .table-scan .ensures) (c .before .before .before .before .before .sound .ensures) (c .before .before .before .before .if1 .left) in
+    let n : c .before .before .table-size .result ≡ min (size (monitorOf (tableParts b))) 65537 = c .before .before .table-size .ensures ∙ rw (c .before .before .before .table-parts .ensures) in
+    read-refused b _ _ (sym (all ∙ rw (size-over _ _ n (c .before .if2 .taken)))) refl (c .no-table2 .ensures)
+
+returns-3 : tie.Need-returns-3
+returns-3 c = let b = c .before .before .before .before .before .before .before .args .b .now in
+    let all = turn-goes _ _ _ _ _ (scan-all b) (c .before .before .before .before .before .table-scan .ensures) (c .before .before .before .before .sound .ensures) (c .before .before .before .if1 .left) in
+    let n : c .before .table-size .result ≡ min (size (monitorOf (tableParts b))) 65537 = c .before .table-size .ensures ∙ rw (c .before .before .table-parts .ensures) in
+    read-sound b _ (all ∙ rw (size-within _ _ n (c .if2 .left))) (c .before .before .table-parts .ensures)
+
+pub read-table-spec : {M : Type 1} → statement M
+read-table-spec =
+    tie.close
+    (tie.spec
+    table-scan-requires
+    sound-requires
+    no-table-requires
+    returns
+    table-parts-requires
+    table-size-requires
+    no-table-requires-2
+    returns-2
+    returns-3)

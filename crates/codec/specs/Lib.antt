@@ -1,0 +1,3 @@
+pub mod Guards
+pub mod Steps
+pub mod WitnessRows

@@ -1,0 +1,222 @@
+// The recording, read and written against a table, whose numbers come first.
+use crate::column::bytes_column;
+use crate::column::words_column;
+use crate::frame::frame_bytes;
+use crate::frame::framed_answer;
+use crate::frame::put;
+use crate::frame::sound;
+use crate::table::table_answer;
+use model::Reading;
+use model::RecordingParts;
+use model::RecordingReading;
+use model::Refusal;
+use model::Writing;
+use wire::byte;
+use wire::place;
+use wire::short;
+use wire::word;
+ghost use mathlib.Core.Path.{_≡_};
+ghost use mathlib.Core.List.{_++_};
+ghost use Prim.Native.Nat.{_+_, _*_, _<_, _≤_};
+ghost use lib.ListN.{length};
+ghost use Rattle.model.specs.Bytes.{joined};
+ghost use Rattle.model.specs.Room.{over};
+ghost use Rattle.wire.specs.Placed.{placed};
+ghost use Rattle.model.specs.Monitor.{airtime};
+ghost use Rattle.model.specs.Table.{monitorAt};
+ghost use Rattle.model.specs.Recording.{countAt, clearOfBefore, recordedRow, recordedRows, recordingAnswer, recordingParts, noRecording, readRecording, writeRecording};
+ghost use Rattle.codec.specs.Steps.{recordingFrame, recordingEarly, rowsFrame, recordedBytes};
+
+// The airtime of a kind, 0 for one that the table does not have.
+pub fn airtime_of(table: &[u8], kind: u8) -> u8
+    ensures { λ r. ⌜ (r ≡ airtime (monitorAt (now (table .entry))) kind) × (r < 256) ⌝ }
+{
+    if byte(table, 6) <= kind {
+        return 0;
+    }
+    byte(table, 9 + 2 * (kind as usize))
+}
+
+// Row i does not overlap or precede the row before it.
+fn clear_of_before(table: &[u8], b: &[u8], i: usize) -> bool
+    requires { ⌜ i < 65536 ⌝ }
+    ensures { λ r. ⌜ r ≡ clearOfBefore (now (table .entry)) (now (b .entry)) i ⌝ }
+{
+    if i == 0 {
+        return true;
+    }
+    let before = i - 1;
+    let air = airtime_of(table, byte(b, 7 + 3 * before)) as usize;
+    (word(b, 5 + 3 * before) as usize) + air < word(b, 5 + 3 * i) as usize
+}
+
+fn recorded_row(table: &[u8], b: &[u8], i: usize) -> Reading
+    requires { ⌜ i < 65536 ⌝ }
+    ensures { λ r. ⌜ r ≡ recordedRow (now (table .entry)) (now (b .entry)) i ⌝ }
+{
+    let time = word(b, 5 + 3 * i);
+    if time < 1 {
+        return Reading::Unsound(Refusal::RecordingRange { row: i as u64 });
+    }
+    if 4096 < time {
+        return Reading::Unsound(Refusal::RecordingRange { row: i as u64 });
+    }
+    if byte(table, 6) <= byte(b, 7 + 3 * i) {
+        return Reading::Unsound(Refusal::RecordingRange { row: i as u64 });
+    }
+    if !clear_of_before(table, b, i) {
+        return Reading::Unsound(Refusal::RecordingOrder { row: i as u64 });
+    }
+    Reading::Sound
+}
+
+fn recorded_rows(table: &[u8], b: &[u8]) -> Reading
+    ensures { λ r. ⌜ r ≡ recordedRows (countAt (now (b .entry))) (now (table .entry)) (now (b .entry)) 0 ⌝ }
+{
+    let n = word(b, 3) as usize;
+    let mut i = 0;
+    while i < n {
+        let r = recorded_row(table, b, i);
+        if !sound(r) {
+            return r;
+        }
+        i += 1;
+    }
+    Reading::Sound
+}
+
+// 20, 21 and 22.
+pub fn recording_frame(b: &[u8]) -> Reading
+    ensures { λ r. ⌜ r ≡ recordingFrame (now (b .entry)) ⌝ }
+{
+    let frame = framed_answer(b, 5, Refusal::RecordingFrame, Refusal::RecordingVersion);
+    if !sound(frame) {
+        return frame;
+    }
+    let count = word(b, 3) as usize;
+    if 512 < count {
+        return Reading::Unsound(Refusal::RecordingCount);
+    }
+    if word(b, 0) as usize != 3 + 3 * count {
+        return Reading::Unsound(Refusal::RecordingCount);
+    }
+    Reading::Sound
+}
+
+// The numbers of the table and of the recording alone.
+pub fn recording_answer(table: &[u8], b: &[u8]) -> Reading
+    ensures { λ r. ⌜ r ≡ recordingAnswer (now (table .entry)) (now (b .entry)) ⌝ }
+{
+    let first = table_answer(table);
+    if !sound(first) {
+        return first;
+    }
+    let frame = recording_frame(b);
+    if !sound(frame) {
+        return frame;
+    }
+    recorded_rows(table, b)
+}
+
+fn time_column(b: &[u8]) -> [u16; 512]
+    requires { ⌜ countAt (now b) ≤ 512 ⌝ }
+    ensures { λ r. ⌜ r ≡ recordingParts (now (b .entry)) .times ⌝ }
+{
+    let n = word(b, 3) as usize;
+    let mut times = [0u16; 512];
+    words_column(b, 5, 3, n, &mut times);
+    times
+}
+
+fn kind_column(b: &[u8]) -> [u8; 512]
+    requires { ⌜ countAt (now b) ≤ 512 ⌝ }
+    ensures { λ r. ⌜ r ≡ recordingParts (now (b .entry)) .kinds ⌝ }
+{
+    let n = word(b, 3) as usize;
+    let mut kinds = [0u8; 512];
+    bytes_column(b, 7, 3, n, &mut kinds);
+    kinds
+}
+
+fn no_recording() -> RecordingParts
+    ensures { λ r. ⌜ r ≡ noRecording ⌝ }
+{
+    RecordingParts {
+        count: 0,
+        times: [0; 512],
+        kinds: [0; 512],
+    }
+}
+
+pub fn read_recording(table: &[u8], b: &[u8]) -> RecordingReading
+    ensures { λ r. ⌜ r ≡ readRecording (now (table .entry)) (now (b .entry)) ⌝ }
+{
+    let answer = recording_answer(table, b);
+    if !sound(answer) {
+        return RecordingReading {
+            answer,
+            parts: no_recording(),
+        };
+    }
+    let times = time_column(b);
+    let kinds = kind_column(b);
+    RecordingReading {
+        answer,
+        parts: RecordingParts {
+            count: word(b, 3),
+            times,
+            kinds,
+        },
+    }
+}
+
+fn put_row<'a>(times: &'a [u16], kinds: &'a [u8], i: usize, out: &mut [u8])
+    requires { ⌜ i < 512 ⌝ }
+    ensures { λ _. ⌜ now (out .exit) ≡ placed (recordedBytes (now (times .entry)) (now (kinds .entry)) i) (5 + 3 * i) (now (out .entry)) ⌝ }
+{
+    let time = short(times, i);
+    let row = [(time / 256) as u8, (time % 256) as u8, byte(kinds, i)];
+    place(&row, out, 5 + 3 * i);
+}
+
+fn encode<'a>(times: &'a [u16], kinds: &'a [u8], count: usize, out: &mut [u8])
+    requires { ⌜ (count ≤ 512) × (5 + 3 * count ≤ length (now out)) ⌝ }
+    ensures { λ _. ⌜ now (out .exit) ≡ over (rowsFrame (3 + 3 * count) count ++ joined (recordedBytes (now (times .entry)) (now (kinds .entry))) count) (now (out .entry)) ⌝ }
+{
+    let frame = frame_bytes(3 + 3 * count, count);
+    place(&frame, out, 0);
+    let mut i = 0;
+    while i < count {
+        put_row(times, kinds, i, out);
+        i += 1;
+    }
+}
+
+// The table's numbers, then 22 for a count outside its limits.
+fn early_answer(table: &[u8], count: usize) -> Reading
+    ensures { λ r. ⌜ r ≡ recordingEarly (now (table .entry)) count ⌝ }
+{
+    let first = table_answer(table);
+    if !sound(first) {
+        return first;
+    }
+    if 512 < count {
+        return Reading::Unsound(Refusal::RecordingCount);
+    }
+    Reading::Sound
+}
+
+pub fn write_recording(table: &[u8], r: RecordingParts, room: &mut [u8]) -> Writing
+    ensures { λ w. ⌜ (w ≡ (writeRecording (now (table .entry)) r (now (room .entry))) .answer) × (now (room .exit) ≡ (writeRecording (now (table .entry)) r (now (room .entry))) .room) ⌝ }
+{
+    let count = r.count as usize;
+    let early = early_answer(table, count);
+    // made apart: a refusal leaves the room as it was, and 512 rows are 1,541 bytes
+    let mut bytes = [0u8; 1541];
+    if !sound(early) {
+        return put(early, &bytes[0..0], room);
+    }
+    encode(&r.times, &r.kinds, count, &mut bytes);
+    let encoded = &bytes[0..5 + 3 * count];
+    put(recording_answer(table, encoded), encoded, room)
+}

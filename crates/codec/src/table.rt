@@ -1,0 +1,473 @@
+// The table: its scan, which tests and touches no arrays, its fill, and what reading gives.
+use crate::column::bytes_column;
+use crate::frame::framed_answer;
+use crate::frame::put;
+use crate::frame::sound;
+use crate::guard::guard_fills;
+use crate::size::table_size;
+use model::Reading;
+use model::Refusal;
+use model::TableParts;
+use model::TableReading;
+use model::Writing;
+use wire::byte;
+use wire::place;
+ghost use mathlib.Core.Path.{_≡_};
+ghost use Prim.Native.Nat.{ℕ, _+_, _-_, _*_, _%_, _<_, _≤_, _^_, min};
+ghost use mathlib.Core.Bool.{_&&_};
+ghost use mathlib.Core.List.{List, _++_};
+ghost use lib.ListN.{length};
+ghost use lib.Dec.{ltb, eqb};
+ghost use Rattle.model.specs.Bytes.{joined, padded};
+ghost use Rattle.model.specs.Room.{over};
+ghost use Rattle.wire.specs.Placed.{placed};
+ghost use Rattle.model.specs.declared.Reading.the-variants.{Sound};
+ghost use Rattle.model.specs.Table.{kindRecord, kindRecords, apart, transitionFields, transitionRecord, transitionRecords, kindsAt, kindAt, transitionsAt, kindColumn, transitionColumn, guardPlace, tableParts, noTable, tableAnswer, readTable, kindBytes, transitionBytes, tableBytes, writeTable};
+ghost use Rattle.codec.specs.Steps.{countsOf, tableScan, fieldBytes, guardBytesIn, headBytes};
+
+// The first count outside its limits.
+fn counts_answer(states: u8, variables: u8, clocks: u8, kinds: u8, transitions: u8) -> Reading
+    ensures { λ r. ⌜ r ≡ countsOf states variables clocks kinds transitions ⌝ }
+{
+    if states < 1 {
+        return Reading::Unsound(Refusal::TableCount { offset: 3 });
+    }
+    if 16 < states {
+        return Reading::Unsound(Refusal::TableCount { offset: 3 });
+    }
+    if 4 < variables {
+        return Reading::Unsound(Refusal::TableCount { offset: 4 });
+    }
+    if 2 < clocks {
+        return Reading::Unsound(Refusal::TableCount { offset: 5 });
+    }
+    if kinds < 1 {
+        return Reading::Unsound(Refusal::TableCount { offset: 6 });
+    }
+    if 32 < kinds {
+        return Reading::Unsound(Refusal::TableCount { offset: 6 });
+    }
+    if 64 < transitions {
+        return Reading::Unsound(Refusal::TableCount { offset: 7 });
+    }
+    Reading::Sound
+}
+
+fn kind_record(b: &[u8], at: usize) -> Reading
+    requires { ⌜ at < 131072 ⌝ }
+    ensures { λ r. ⌜ r ≡ kindRecord (now (b .entry)) at ⌝ }
+{
+    if b.len() < at + 2 {
+        return Reading::Unsound(Refusal::TableLength { offset: at as u64 });
+    }
+    if 1 < byte(b, at) {
+        return Reading::Unsound(Refusal::TableField { offset: at as u64 });
+    }
+    if 15 < byte(b, at + 1) {
+        return Reading::Unsound(Refusal::TableField { offset: at as u64 });
+    }
+    Reading::Sound
+}
+
+fn kind_records(b: &[u8]) -> Reading
+    ensures { λ r. ⌜ r ≡ kindRecords (kindsAt (now (b .entry))) (now (b .entry)) (kindAt 0) ⌝ }
+{
+    let n = byte(b, 6) as usize;
+    let mut i = 0;
+    while i < n {
+        let r = kind_record(b, 8 + 2 * i);
+        if !sound(r) {
+            return r;
+        }
+        i += 1;
+    }
+    Reading::Sound
+}
+
+// A mask has no bit for an absent variable or clock.
+fn fits_mask(mask: u8, count: u8) -> bool
+    ensures { λ r. ⌜ r ≡ ltb mask (2 ^ count) ⌝ }
+{
+    if count < 8 { (mask >> count) < 1 } else { true }
+}
+
+// Variable 0 is in both masks.
+fn meet(sets: u8, clears: u8) -> bool
+    ensures { λ r. ⌜ r ≡ (eqb (sets % 2) 1 && eqb (clears % 2) 1) ⌝ }
+{
+    if sets % 2 == 1 {
+        clears % 2 == 1
+    } else {
+        false
+    }
+}
+
+// None of the first n variables is both set and cleared.
+fn apart_masks(n: u8, sets: u8, clears: u8) -> bool
+    ensures { λ r. ⌜ r ≡ apart n sets clears ⌝ }
+{
+    let mut i = 0;
+    let mut s = sets;
+    let mut c = clears;
+    while i < n {
+        if meet(s, c) {
+            return false;
+        }
+        s = s / 2;
+        c = c / 2;
+        i += 1;
+    }
+    true
+}
+
+fn transition_fields(b: &[u8], at: usize) -> Reading
+    requires { ⌜ at < 131072 ⌝ }
+    ensures { λ r. ⌜ r ≡ transitionFields (now (b .entry)) at ⌝ }
+{
+    let states = byte(b, 3);
+    let variables = byte(b, 4);
+    let refused = Reading::Unsound(Refusal::TableField { offset: at as u64 });
+    if states <= byte(b, at) {
+        return refused;
+    }
+    if states <= byte(b, at + 1) {
+        return refused;
+    }
+    if byte(b, 6) <= byte(b, at + 2) {
+        return refused;
+    }
+    let sets = byte(b, at + 3);
+    if !fits_mask(sets, variables) {
+        return refused;
+    }
+    let clears = byte(b, at + 4);
+    if !fits_mask(clears, variables) {
+        return refused;
+    }
+    if !fits_mask(byte(b, at + 5), byte(b, 5)) {
+        return refused;
+    }
+    if !apart_masks(variables, sets, clears) {
+        return refused;
+    }
+    Reading::Sound
+}
+
+fn transition_record(b: &[u8], at: usize) -> Reading
+    requires { ⌜ at < 131072 ⌝ }
+    ensures { λ r. ⌜ r ≡ transitionRecord (now (b .entry)) at ⌝ }
+{
+    if b.len() < at + 7 {
+        return Reading::Unsound(Refusal::TableLength { offset: at as u64 });
+    }
+    let fields = transition_fields(b, at);
+    if !sound(fields) {
+        return fields;
+    }
+    let length = byte(b, at + 6);
+    if length < 1 {
+        return Reading::Unsound(Refusal::TableGuard { offset: at as u64 });
+    }
+    if 32 < length {
+        return Reading::Unsound(Refusal::TableGuard { offset: at as u64 });
+    }
+    let end = at + 7 + length as usize;
+    if b.len() < end {
+        return Reading::Unsound(Refusal::TableLength { offset: at as u64 });
+    }
+    if !guard_fills(b, at + 7, end, byte(b, 4), byte(b, 5)) {
+        return Reading::Unsound(Refusal::TableGuard { offset: at as u64 });
+    }
+    Reading::Sound
+}
+
+fn transition_records(b: &[u8]) -> Reading
+    ensures { λ r. ⌜ r ≡ transitionRecords (transitionsAt (now (b .entry))) (now (b .entry)) (kindAt (kindsAt (now (b .entry)))) ⌝ }
+{
+    let n = byte(b, 7);
+    let mut at = 8 + 2 * (byte(b, 6) as usize);
+    let mut i = 0;
+    while i < n {
+        let r = transition_record(b, at);
+        if !sound(r) {
+            return r;
+        }
+        at = at + 7 + byte(b, at + 6) as usize;
+        i += 1;
+    }
+    if at != b.len() {
+        return Reading::Unsound(Refusal::TableLength { offset: at as u64 });
+    }
+    Reading::Sound
+}
+
+// All of the table's numbers but 16.
+fn table_scan(b: &[u8]) -> Reading
+    ensures { λ r. ⌜ r ≡ tableScan (now (b .entry)) ⌝ }
+{
+    let frame = framed_answer(b, 8, Refusal::TableFrame, Refusal::TableVersion);
+    if !sound(frame) {
+        return frame;
+    }
+    let counts = counts_answer(byte(b, 3), byte(b, 4), byte(b, 5), byte(b, 6), byte(b, 7));
+    if !sound(counts) {
+        return counts;
+    }
+    let kinds = kind_records(b);
+    if !sound(kinds) {
+        return kinds;
+    }
+    transition_records(b)
+}
+
+// The fill, which writes arrays and tests nothing: a byte of each kind, and of each transition, by its place in the record.
+fn kind_column(b: &[u8], field: usize) -> [u8; 32]
+    requires { ⌜ (kindsAt (now b) ≤ 32) × (field ≤ 1) ⌝ }
+    ensures { λ r. ⌜ r ≡ kindColumn (now (b .entry)) field ⌝ }
+{
+    let n = byte(b, 6) as usize;
+    let mut column = [0u8; 32];
+    bytes_column(b, 8 + field, 2, n, &mut column);
+    column
+}
+
+fn transition_column(b: &[u8], field: usize) -> [u8; 64]
+    requires { ⌜ (transitionsAt (now b) ≤ 64) × (field ≤ 6) ⌝ }
+    ensures { λ r. ⌜ r ≡ transitionColumn (now (b .entry)) field ⌝ }
+{
+    let n = byte(b, 7) as usize;
+    let mut column = [0u8; 64];
+    let mut at = 8 + 2 * (byte(b, 6) as usize);
+    let mut i = 0;
+    while i < n {
+        column[i] = byte(b, at + field);
+        at = at + 7 + byte(b, at + 6) as usize;
+        i += 1;
+    }
+    column
+}
+
+// Each guard in its 32 places.
+fn guard_places(b: &[u8]) -> [u8; 2048]
+    requires { ⌜ tableScan (now b) ≡ Sound ⌝ }
+    ensures { λ r. ⌜ r ≡ padded 2048 (joined (guardPlace (now (b .entry))) (transitionsAt (now (b .entry)))) ⌝ }
+{
+    let n = byte(b, 7) as usize;
+    let mut guards = [0u8; 2048];
+    let mut at = 8 + 2 * (byte(b, 6) as usize);
+    let mut i = 0;
+    while i < n {
+        let from = at + 7;
+        let to = from + byte(b, at + 6) as usize;
+        place(&b[from..to], &mut guards, 32 * i);
+        at = to;
+        i += 1;
+    }
+    guards
+}
+
+fn table_parts(b: &[u8]) -> TableParts
+    requires { ⌜ tableScan (now b) ≡ Sound ⌝ }
+    ensures { λ r. ⌜ r ≡ tableParts (now (b .entry)) ⌝ }
+{
+    let directions = kind_column(b, 0);
+    let airtimes = kind_column(b, 1);
+    let sources = transition_column(b, 0);
+    let targets = transition_column(b, 1);
+    let triggers = transition_column(b, 2);
+    let sets = transition_column(b, 3);
+    let clears = transition_column(b, 4);
+    let resets = transition_column(b, 5);
+    let lengths = transition_column(b, 6);
+    let guards = guard_places(b);
+    TableParts {
+        states: byte(b, 3),
+        variables: byte(b, 4),
+        clocks: byte(b, 5),
+        kinds: byte(b, 6),
+        transitions: byte(b, 7),
+        directions,
+        airtimes,
+        sources,
+        targets,
+        triggers,
+        sets,
+        clears,
+        resets,
+        lengths,
+        guards,
+    }
+}
+
+fn no_table() -> TableParts
+    ensures { λ r. ⌜ r ≡ noTable ⌝ }
+{
+    TableParts {
+        states: 0,
+        variables: 0,
+        clocks: 0,
+        kinds: 0,
+        transitions: 0,
+        directions: [0; 32],
+        airtimes: [0; 32],
+        sources: [0; 64],
+        targets: [0; 64],
+        triggers: [0; 64],
+        sets: [0; 64],
+        clears: [0; 64],
+        resets: [0; 64],
+        lengths: [0; 64],
+        guards: [0; 2048],
+    }
+}
+
+pub fn read_table(b: &[u8]) -> TableReading
+    ensures { λ r. ⌜ r ≡ readTable (now (b .entry)) ⌝ }
+{
+    let scan = table_scan(b);
+    if !sound(scan) {
+        return TableReading {
+            answer: scan,
+            parts: no_table(),
+        };
+    }
+    let parts = table_parts(b);
+    if 65536 < table_size(parts) {
+        return TableReading {
+            answer: Reading::Unsound(Refusal::TableSize),
+            parts: no_table(),
+        };
+    }
+    TableReading {
+        answer: Reading::Sound,
+        parts,
+    }
+}
+
+// The table's numbers alone.
+pub fn table_answer(b: &[u8]) -> Reading
+    ensures { λ r. ⌜ r ≡ tableAnswer (now (b .entry)) ⌝ }
+{
+    let reading = read_table(b);
+    reading.answer
+}
+
+// Writing. Each record goes behind what stands in the room already, which a contract calls head.
+fn encode_kinds(t: TableParts, out: &mut [u8])
+    requires { ⌜ t .kinds ≤ 32 ⌝ }
+    ensures { λ _. ⌜ ((head room : List ℕ) → length head ≡ 8 → 72 ≤ length room → now (out .entry) ≡ over head room → now (out .exit) ≡ over (head ++ joined (kindBytes t) (t .kinds)) room) ⌝ }
+{
+    let n = t.kinds as usize;
+    let mut i = 0;
+    while i < n {
+        let record = [byte(&t.directions, i), byte(&t.airtimes, i)];
+        place(&record, out, 8 + 2 * i);
+        i += 1;
+    }
+}
+
+fn field_bytes(t: TableParts, j: usize) -> [u8; 7]
+    ensures { λ r. ⌜ r ≡ fieldBytes t j ⌝ }
+{
+    [
+        byte(&t.sources, j),
+        byte(&t.targets, j),
+        byte(&t.triggers, j),
+        byte(&t.sets, j),
+        byte(&t.clears, j),
+        byte(&t.resets, j),
+        byte(&t.lengths, j),
+    ]
+}
+
+// A guard's length, and 32 for one that is longer than its places.
+fn within_place(length: u8) -> usize
+    ensures { λ r. ⌜ r ≡ min length 32 ⌝ }
+{
+    if 32 < length { 32 } else { length as usize }
+}
+
+// The bytes of guard j that its length covers, and how many they are.
+fn put_guard<'a>(guards: &'a [u8], j: usize, count: u8, out: &mut [u8], at: usize) -> usize
+    requires { ⌜ (j < 64) × (2048 ≤ length (now guards)) ⌝ }
+    ensures { λ r. ⌜ (now (out .exit) ≡ placed (guardBytesIn (now (guards .entry)) count j) at (now (out .entry))) × (r ≡ length (guardBytesIn (now (guards .entry)) count j)) × (r ≤ 32) ⌝ }
+{
+    let from = 32 * j;
+    let to = from + within_place(count);
+    place(&guards[from..to], out, at);
+    to - from
+}
+
+fn put_transition(t: TableParts, j: usize, at: usize, out: &mut [u8]) -> usize
+    requires { ⌜ (j < 64) × (at ≤ 4096) ⌝ }
+    ensures { λ r. ⌜ ((head room : List ℕ) → length head ≡ at → at + 39 ≤ length room → now (out .entry) ≡ over head room → (now (out .exit) ≡ over (head ++ transitionBytes t j) room) × (r ≡ length (head ++ transitionBytes t j))) × (r ≤ at + 39) ⌝ }
+{
+    let fields = field_bytes(t, j);
+    place(&fields, out, at);
+    let length = byte(&t.lengths, j);
+    at + 7 + put_guard(&t.guards, j, length, out, at + 7)
+}
+
+fn encode_transitions(t: TableParts, out: &mut [u8]) -> usize
+    requires { ⌜ (t .kinds ≤ 32) × (t .transitions ≤ 64) ⌝ }
+    ensures { λ r. ⌜ ((head room : List ℕ) → length head ≡ 8 + 2 * t .kinds → 2568 ≤ length room → now (out .entry) ≡ over head room → (now (out .exit) ≡ over (head ++ joined (transitionBytes t) (t .transitions)) room) × (r ≡ length (head ++ joined (transitionBytes t) (t .transitions)))) × (r ≤ 2568) ⌝ }
+{
+    let n = t.transitions as usize;
+    let mut at = 8 + 2 * (t.kinds as usize);
+    let mut i = 0;
+    while i < n {
+        at = put_transition(t, i, at, out);
+        i += 1;
+    }
+    at
+}
+
+// The records first, since their length stands in front of them.
+fn encode(t: TableParts, out: &mut [u8]) -> usize
+    requires { ⌜ (t .kinds ≤ 32) × (t .transitions ≤ 64) × (length (now out) ≡ 2568) ⌝ }
+    ensures { λ r. ⌜ (now (out .exit) ≡ over (tableBytes t) (now (out .entry))) × (r ≡ length (tableBytes t)) × (r ≤ 2568) ⌝ }
+{
+    encode_kinds(t, out);
+    let end = encode_transitions(t, out);
+    let head = head_bytes(t, end);
+    place(&head, out, 0);
+    end
+}
+
+// What stands before the records of a table that ends at an offset.
+fn head_bytes(t: TableParts, end: usize) -> [u8; 8]
+    requires { ⌜ end ≤ 2568 ⌝ }
+    ensures { λ r. ⌜ r ≡ headBytes t (end - 2) ⌝ }
+{
+    let total = after_length(end);
+    [
+        (total / 256) as u8,
+        (total % 256) as u8,
+        1,
+        t.states,
+        t.variables,
+        t.clocks,
+        t.kinds,
+        t.transitions,
+    ]
+}
+
+fn after_length(end: usize) -> usize
+    ensures { λ r. ⌜ r ≡ end - 2 ⌝ }
+{
+    if end < 2 { 0 } else { end - 2 }
+}
+
+pub fn write_table(t: TableParts, room: &mut [u8]) -> Writing
+    ensures { λ w. ⌜ (w ≡ (writeTable t (now (room .entry))) .answer) × (now (room .exit) ≡ (writeTable t (now (room .entry))) .room) ⌝ }
+{
+    let counts = counts_answer(t.states, t.variables, t.clocks, t.kinds, t.transitions);
+    // made apart: a refusal leaves the room as it was, and counts within their limits give at most 2,568 bytes
+    let mut bytes = [0u8; 2568];
+    if !sound(counts) {
+        return put(counts, &bytes[0..0], room);
+    }
+    let end = encode(t, &mut bytes);
+    let encoded = &bytes[0..end];
+    put(table_answer(encoded), encoded, room)
+}

@@ -1,0 +1,194 @@
+-- The forward pass, from the first row to the verdict.
+use Prim.Native.Nat.{ℕ, zero, suc, _+_, _*_, _<_, _≤_}
+use native.Mathlib.Nat.{not-suc-le-zero}
+use native.Mathlib.Numerals.{add-one}
+use native.Mathlib.Omega.{arith}
+use native.Mathlib.Decide.{decLt, ℕ-discrete}
+use mathlib.Core.Path.{_≡_, refl, sym, ap, ap₂, subst, _∙_}
+use mathlib.Core.List.{List}
+use mathlib.Core.Bool.{Bool, true, false}
+use mir.Syntax.{w64}
+use mir.Val.{Fits}
+use lib.ListN.{length, getD, set, replicate, length-replicate}
+use lib.Seq.{getD-set-same, getD-set-other}
+use Rattle.model.specs.Size
+use Rattle.model.specs.Table.{monitorAt}
+use Rattle.model.specs.Recording.{packetsAt, endOf}
+use Rattle.model.specs.Situation.{moveLimit, stepNumber, firstNumber}
+use Rattle.model.specs.Layers.{count, layer, total}
+use Rattle.model.specs.Validation.{totalOf, verdict, preferred}
+use Rattle.model.specs.declared.Verdict.{Verdict}
+use Rattle.model.specs.declared.Verdict.the-variants.{Accepted, Rejected, Exhausted}
+use Rattle.model.proofs.LayerLaws.{total-le}
+use Rattle.model.proofs.Numbering.{first-number-below}
+use Rattle.model.proofs.VerdictLaws.{LeftUpTo, exhausted-at, rejected-at, accepted-at}
+use Rattle.bits.specs.Member.{mem, PutIn}
+use Rattle.situation.specs.Rows.{passedBy}
+use Rattle.situation.specs.declared.Shape.{Shape}
+use Rattle.situation.proofs.Cursors.{first-cursor}
+use Rattle.engine.specs.Forwarding.{Filled, Turn, Turned, Forwarding, Through}
+use Rattle.engine.proofs.ForwardRows.{next-row, row-before, product, possible}
+
+-- a set of none, and a set of one
+
+none-at : (n k : ℕ) → getD (replicate n false) k false ≡ false
+none-at zero k = refl
+none-at (suc n) zero = refl
+none-at (suc n) (suc k) = none-at n k
+
+count-none : (n : ℕ) → count (replicate n false) ≡ 0
+unfolding count
+count-none zero = refl
+count-none (suc n) = omega (arith, count-none n)
+
+count-one : (n k : ℕ) → k < n → count (set (replicate n false) k true) ≡ 1
+unfolding count
+count-one zero k h = absurd (not-suc-le-zero h)
+count-one (suc n) zero h = omega (arith, count-none n)
+count-one (suc n) (suc k) h = omega (arith, count-one n k (omega arith))
+
+-- the works of the instants 1 to t, added up, and the verdict
+
+abbrev totalTo : (table recording : List ℕ) → ℕ → ℕ
+totalTo table recording = totalOf (monitorAt table) (packetsAt recording)
+
+abbrev verdictOn : (table recording : List ℕ) → (budget : ℕ) → Verdict
+verdictOn table recording = verdict (monitorAt table) (packetsAt recording)
+
+-- what is known after t instants, with work ahead: none of them passed the budget or left no situation
+pub record Passing (table recording start scratch : List ℕ) (budget row last t i cost work : ℕ) : Type 0 where
+  pub long : length scratch ≡ length start
+  pub within : t ≤ last
+  pub filled : Filled table recording scratch row t i
+  pub left : LeftUpTo (monitorAt table) (packetsAt recording) t
+  pub spent : cost ≡ totalTo table recording t
+  pub ahead : work ≡ count (possible table recording t)
+  pub fits : cost ≤ budget
+
+module _ {table offsets recording entry : List ℕ} {h : Shape} {row size last first : ℕ}
+    (given : Forwarding table offsets recording entry h row size last first) where
+  first-below : first < size
+  first-below = omega (arith, first-number-below (given .setting .sane))
+
+  first-set : possible table recording 0 ≡ set (replicate size false) first true
+  unfolding layer
+  first-set = ap₂ (λ (n k : ℕ). set (replicate n false) k true) (sym (given .setting .whole)) (sym (given .start))
+
+  first-count : count (possible table recording 0) ≡ 1
+  first-count = ap count first-set ∙ count-one size first first-below
+
+  no-total : totalTo table recording 0 ≡ 0
+  unfolding total
+  no-total = refl
+
+  -- the first situation is put into the empty scratch
+  module _ {scratch : List ℕ} (into : PutIn first entry scratch) where
+    first-holds : (z : ℕ) → mem scratch z ≡ getD (possible table recording 0) z false
+    first-holds z = on (ℕ-discrete z first) ∙ sym (ap (λ (s : List Bool). getD s z false) first-set)
+      where
+        on : Dec (z ≡ first) → mem scratch z ≡ getD (set (replicate size false) first true) z false
+        on (yes e) =
+            rw e
+            (into .there (omega (arith, first-below, next-row row last))
+            ∙ sym (getD-set-same (replicate size false) first true false (omega (arith, first-below, length-replicate size false))))
+        on (no e) = into .others z e ∙ given .empty z ∙ sym (getD-set-other (replicate size false) first z true false e ∙ none-at size z)
+
+    pub started : (budget : ℕ) → Passing table recording scratch scratch budget row last 0 0 0 1
+    started budget =
+        record {
+          long = refl;
+          within = omega arith;
+          filled =
+              record {
+                layers =
+                    λ u l z w.
+                    let e : u ≡ 0 = omega arith in
+                    let q : 8 * row * 0 + z ≡ z = omega arith in
+                    rw e (ap (mem scratch) q ∙ first-holds z);
+                rest = λ k l. into .others k (λ e. omega (arith, first-below)) ∙ given .empty k;
+                cursor = first-cursor (monitorAt table) recording (given .setting .sound .trace);
+              };
+          left = λ j l. let e : j ≡ 0 = omega arith in rw e (omega (arith, first-count));
+          spent = sym no-total;
+          ahead = sym first-count;
+          fits = omega arith;
+        }
+
+  module _ {start scratch : List ℕ} {budget t i cost work : ℕ} (pass : Passing table recording start scratch budget row last t i cost work) where
+    -- the end is reached
+    pub through : last ≤ t → Through table recording scratch budget row last cost
+    through l =
+        let e : last ≡ t = omega arith in
+        let q : t ≡ endOf (packetsAt recording) = omega arith in
+        let whole : totalTo table recording (endOf (packetsAt recording)) ≡ cost = sym (pass .spent ∙ ap (totalTo table recording) q) in
+        record {
+          accepted =
+              accepted-at (monitorAt table) (packetsAt recording) budget
+              (subst (LeftUpTo (monitorAt table) (packetsAt recording)) q (pass .left)) (omega arith)
+              ∙ ap (λ (c : ℕ). Accepted c (length (preferred (monitorAt table) (packetsAt recording)))) whole;
+          layers = rw e (pass .filled .layers);
+          left = rw e (pass .left t (omega arith));
+        }
+
+    -- one instant more
+    module _ (more : t < last) where
+      next-total : totalTo table recording (suc t) ≡ cost + work
+      unfolding total
+      next-total = omega arith
+
+      -- the cost is at most T times N
+      pub cost-fits : Fits w64 (cost + work)
+      cost-fits =
+          let few : Fits w64 (suc t * Size.size (monitorAt table)) = product (suc t) (Size.size (monitorAt table)) (omega arith) (omega arith) in
+          let most = total-le (Size.size (monitorAt table)) moveLimit (stepNumber (monitorAt table) (packetsAt recording)) (firstNumber (monitorAt table)) (suc t) in
+          record { fits = omega (arith, next-total) }
+
+      pub turn : length start ≡ length entry → Turn table offsets recording scratch h row size t i
+      turn e =
+          let s = given .setting in
+          let r = given .rows in
+          record {
+            setting = record { sane = s .sane; sound = s .sound; whole = s .whole; end = refl; stepping = s .stepping };
+            rows =
+                record {
+                  wide = r .wide;
+                  narrow = r .narrow;
+                  short = omega arith;
+                  long = omega (arith, next-row row (t + 1), row-before row (t + 1) (last + 1) (omega arith));
+                };
+            filled = pass .filled;
+          }
+
+      pub spent : budget < cost + work → verdictOn table recording budget ≡ Exhausted budget (t + 1)
+      spent over =
+          exhausted-at (monitorAt table) (packetsAt recording) budget t (omega arith) (pass .left) (omega arith) (omega (arith, next-total))
+          ∙ ap (λ (n : ℕ). Exhausted budget n) (sym (add-one t))
+
+      module _ {after : List ℕ} {found : ℕ} (within : cost + work ≤ budget) (done : Turned table recording scratch after row t i found) where
+        pub emptied : found ≡ 0 → verdictOn table recording budget ≡ Rejected (cost + work) (t + 1)
+        emptied e =
+            let none : count (possible table recording (suc t)) ≡ 0 =
+            ap (λ (n : ℕ). count (possible table recording n)) (sym (add-one t)) ∙ sym (done .counted) ∙ e
+            in
+            rejected-at (monitorAt table) (packetsAt recording) budget t (omega arith) (pass .left) (omega (arith, next-total)) none
+            ∙ ap₂ Rejected next-total (sym (add-one t))
+
+        pub again : {j : ℕ} → j ≡ passedBy recording i (t + 1) → (found ≡ 0 → ⊥)
+            → Passing table recording start after budget row last (t + 1) j (cost + work) found
+        again p some =
+            record {
+              long = done .long ∙ pass .long;
+              within = omega arith;
+              filled = rw p (done .filled);
+              left = left;
+              spent = sym (ap (totalTo table recording) (add-one t) ∙ next-total);
+              ahead = done .counted;
+              fits = within;
+            }
+          where
+            left : LeftUpTo (monitorAt table) (packetsAt recording) (t + 1)
+            left j l = on (decLt j (t + 1))
+              where
+                on : Dec (j < t + 1) → 0 < count (possible table recording j)
+                on (yes b) = pass .left j (omega arith)
+                on (no b) = let q : j ≡ t + 1 = omega arith in rw q (omega arith)

@@ -1,0 +1,197 @@
+-- Rows of the scratch: how many situations a row holds, and the next row, which an instant fills.
+use Prim.Native.Nat.{ℕ, zero, suc, _+_, _-_, _*_, _%_, _^_, _<_, _≤_}
+use native.Mathlib.Nat.{mul-assoc, mul-suc, mul-le-mul-left, mul-le-mul, not-suc-le-zero}
+use native.Mathlib.Numerals.{add-one}
+use native.Mathlib.Omega.{arith}
+use native.Mathlib.Decide.{decLt}
+use mathlib.Core.Path.{_≡_, refl, sym, ap, _∙_}
+use mathlib.Core.Logic.{_⊎_, inl, inr, _↔_}
+use mathlib.Core.List.{List, [], _∷_}
+use mathlib.Core.Bool.{Bool, true, false, cond, false≢true}
+use mathlib.Core.Option.{Option, some}
+use mir.Syntax.{w64}
+use mir.Val.{Fits}
+use lib.ListN.{length, getD, take, drop, length-drop, List·getD-eq-default}
+use lib.Seq.{length-take-le}
+use Rattle.model.specs.Size
+use Rattle.model.specs.Table.{monitorAt}
+use Rattle.model.specs.Recording.{packetsAt}
+use Rattle.model.specs.Situation.{moveLimit, stepNumber, firstNumber, recordedAt}
+use Rattle.model.specs.Layers.{count}
+use Rattle.model.specs.Validation.{possibleAfter}
+use Rattle.model.proofs.LayerLaws.{Given, length-layer, layer-suc}
+use Rattle.bits.specs.Member.{mem, tally, population}
+use Rattle.bits.proofs.Laws.{tally-same, mem-part, population-fits}
+use Rattle.situation.specs.Rows.{heardAt, passedBy}
+use Rattle.situation.specs.declared.Shape.{Shape}
+use Rattle.situation.proofs.Cursors.{passed-cursor, heard-recorded}
+use Rattle.layers.specs.Advance.{Advanced, stepAt}
+use Rattle.engine.specs.Setting.{RowHolds, LayersUpTo}
+use Rattle.engine.specs.Forwarding.{Filled, Turn, Turned}
+
+-- two tests that pass together are the same
+same-test : (a b : Bool) → (a ≡ true → b ≡ true) → (b ≡ true → a ≡ true) → a ≡ b
+same-test true b f g = sym (f refl)
+same-test false true f g = absurd (false≢true (g refl))
+same-test false false f g = refl
+
+-- a set's count is a tally
+
+tally-none : (n : ℕ) → tally (λ z. false) n ≡ 0
+unfolding tally
+tally-none zero = refl
+tally-none (suc n) = omega (arith, tally-none n)
+
+tally-front : (p : ℕ → Bool) (n : ℕ) → tally p (suc n) ≡ cond (p 0) 1 0 + tally (λ k. p (suc k)) n
+unfolding tally
+tally-front p zero = refl
+tally-front p (suc n) = omega (arith, tally-front p n)
+
+pub count-tally : (s : List Bool) (n : ℕ) → length s ≤ n → count s ≡ tally (λ z. getD s z false) n
+unfolding count
+count-tally [] n h = sym (tally-none n)
+count-tally (b ∷ s) zero h = absurd (not-suc-le-zero h)
+count-tally (b ∷ s) (suc n) h = omega (arith, tally-front (λ z. getD (b ∷ s) z false) n, count-tally s n (omega arith))
+
+-- rows of w places, one behind the other
+
+pub next-row : (w t : ℕ) → w * (t + 1) ≡ w * t + w
+next-row w t = ap (λ (n : ℕ). w * n) (add-one t) ∙ mul-suc w t
+
+pub row-before : (w u t : ℕ) → u < t → w * u + w ≤ w * t
+row-before w u t h = let s : u + 1 ≤ t = omega arith in omega (arith, next-row w u, mul-le-mul-left w s)
+
+-- products of numbers up to 65,536 fit
+pub product : (a b : ℕ) → a ≤ 65536 → b ≤ 65536 → Fits w64 (a * b)
+product a b h l = let p : a * b ≤ 65536 * 65536 = mul-le-mul h l in record { fits = omega arith }
+
+-- the bytes of a row, and how many are in it
+
+abbrev rowAt : List ℕ → (row t : ℕ) → List ℕ
+rowAt scratch row t = take row (drop (row * t) scratch)
+
+module _ (scratch : List ℕ) (row t : ℕ) (fits : row * t + row ≤ length scratch) (narrow : row ≤ 8192) where
+  row-length : length (rowAt scratch row t) ≡ row
+  row-length = length-take-le row (drop (row * t) scratch) (omega (arith, length-drop (row * t) scratch))
+
+  pub row-count : (s : List Bool) → RowHolds scratch row t s → length s ≤ 8 * row → population (rowAt scratch row t) % 2 ^ 64 ≡ count s
+  row-count s holds h =
+      population-fits (rowAt scratch row t) (omega (arith, row-length))
+      ∙ ap (λ (n : ℕ). tally (mem (rowAt scratch row t)) (8 * n)) row-length
+      ∙ tally-same (mem (rowAt scratch row t)) (λ z. getD s z false) (8 * row)
+      (λ z l. mem-part scratch (row * t) row z l ∙ ap (λ (n : ℕ). mem scratch (n + z)) (sym (mul-assoc 8 row t)) ∙ holds z l)
+      ∙ sym (count-tally s (8 * row) h)
+
+-- the situations possible after an instant, and the step at one
+
+abbrev pub possible : (table recording : List ℕ) → ℕ → List Bool
+possible table recording = possibleAfter (monitorAt table) (packetsAt recording)
+
+abbrev stepOf : (table recording : List ℕ) → (t n k : ℕ) → Option ℕ
+stepOf table recording = stepNumber (monitorAt table) (packetsAt recording)
+
+-- z is given by the situations possible after instant t
+abbrev GivenNext : (table recording : List ℕ) → (t z : ℕ) → Type 0
+GivenNext table recording t z =
+    Given (Size.size (monitorAt table)) moveLimit (stepOf table recording) (Size.size (monitorAt table)) (suc t) (possible table recording t) z
+
+module _ (table recording : List ℕ) (t : ℕ) where
+  possible-length : length (possible table recording t) ≡ Size.size (monitorAt table)
+  possible-length = length-layer (Size.size (monitorAt table)) moveLimit (stepOf table recording) (firstNumber (monitorAt table)) t
+
+  possible-next : (z : ℕ) → (getD (possible table recording (suc t)) z false ≡ true) ↔ GivenNext table recording t z
+  possible-next = layer-suc (Size.size (monitorAt table)) moveLimit (stepOf table recording) (firstNumber (monitorAt table)) t
+
+-- one instant
+module _ {table offsets recording before : List ℕ} {h : Shape} {row size t i : ℕ} (turn : Turn table offsets recording before h row size t i) where
+  pub next-fits : row * (t + 1) + row ≤ length before
+  next-fits = omega (arith, next-row row (t + 1))
+
+  heard-step : (heard : Option ℕ) → heard ≡ heardAt recording i (t + 1) → (n k : ℕ) → n < size
+      → stepAt table offsets h heard n k ≡ stepOf table recording (suc t) n k
+  heard-step heard e n k l =
+      ap (λ (o : Option ℕ). stepAt table offsets h o n k)
+      (e
+      ∙ heard-recorded (monitorAt table) recording (turn .setting .sound .trace) (turn .filled .cursor)
+      ∙ ap (recordedAt (packetsAt recording)) (add-one t))
+      ∙ turn .setting .stepping (suc t) n k l
+
+  -- by the definition's step, the next row holds the next set, and no other row changes
+  module _ {after : List ℕ} (step : ℕ → ℕ → Option ℕ) (same : (n k : ℕ) → n < size → step n k ≡ stepOf table recording (suc t) n k)
+      (done : Advanced step (8 * row * t) (8 * row * (t + 1)) size before after) where
+    holds-next : (z : ℕ) → z < 8 * row → mem after (8 * row * (t + 1) + z) ≡ getD (possible table recording (suc t)) z false
+    holds-next z w = on (decLt z size)
+      where
+        Reached : Type 0
+        Reached =
+            (mem before (8 * row * (t + 1) + z) ≡ true)
+            ⊎ ((n : ℕ) × (k : ℕ) × (n < size) × (mem before (8 * row * t + n) ≡ true) × (k < moveLimit) × (step n k ≡ some z))
+
+        held : (n : ℕ) → n < size → mem before (8 * row * t + n) ≡ getD (possible table recording t) n false
+        held n l = turn .filled .layers t (omega arith) n (omega arith)
+
+        empty : mem before (8 * row * (t + 1) + z) ≡ false
+        empty = turn .filled .rest (8 * row * (t + 1) + z) (omega arith)
+
+        there : z < size → Reached → GivenNext table recording t z
+        there l (inl e) = absurd (false≢true (sym empty ∙ e))
+        there l (inr (n, k, b, e, f, g)) = (n, k, omega arith, sym (held n b) ∙ e, f, sym (same n k b) ∙ g, omega arith)
+
+        back : GivenNext table recording t z → Reached
+        back (n, k, b, e, f, g, l) = let c : n < size = omega arith in inr (n, k, c, held n c ∙ e, f, same n k c ∙ g)
+
+        on : Dec (z < size) → mem after (8 * row * (t + 1) + z) ≡ getD (possible table recording (suc t)) z false
+        on (yes l) =
+            let fits : 8 * row * (t + 1) + size ≤ 8 * length before = omega (arith, next-fits, mul-assoc 8 row (t + 1)) in
+            let apart : 8 * row * t + size ≤ 8 * row * (t + 1) = omega (arith, next-row (8 * row) t) in
+            let (forth, back-in) = done .inside fits (inl apart) z l in
+            let (from, to) = possible-next table recording t z in
+            same-test (mem after (8 * row * (t + 1) + z)) (getD (possible table recording (suc t)) z false)
+            (λ e. to (there l (forth e))) (λ e. back-in (back (from e)))
+        on (no l) =
+            done .outside (8 * row * (t + 1) + z) (inr (omega arith))
+            ∙ empty
+            ∙ sym (List·getD-eq-default (possible table recording (suc t)) false (omega (arith, possible-length table recording (suc t))))
+
+    layers-next : LayersUpTo table recording after row (t + 1)
+    layers-next u l z w = on (decLt u (t + 1))
+      where
+        on : Dec (u < t + 1) → mem after (8 * row * u + z) ≡ getD (possible table recording u) z false
+        on (yes b) =
+            done .outside (8 * row * u + z) (inl (omega (arith, row-before (8 * row) u (t + 1) b)))
+            ∙ turn .filled .layers u (omega arith) z w
+        on (no b) =
+            let e : u ≡ t + 1 = omega arith in
+            rw e (holds-next z w ∙ ap (λ (n : ℕ). getD (possible table recording n) z false) (sym (add-one t)))
+
+    filled-next : Filled table recording after row (t + 1) (passedBy recording i (t + 1))
+    filled-next =
+        record {
+          layers = layers-next;
+          rest =
+              λ k l.
+              let e = next-row (8 * row) (t + 1) in
+              done .outside k (inr (omega arith)) ∙ turn .filled .rest k (omega arith);
+          cursor = passed-cursor (monitorAt table) recording (turn .setting .sound .trace) (turn .filled .cursor);
+        }
+
+  -- what the code of an instant does: the next row is filled by what is heard, and counted
+  pub turned : {after : List ℕ} {heard : Option ℕ} {work : ℕ} → heard ≡ heardAt recording i (t + 1)
+      → Advanced (stepAt table offsets h heard) (8 * row * t) (8 * row * (t + 1)) size before after
+      → work ≡ population (take (row * (t + 1) + row - row * (t + 1)) (drop (row * (t + 1)) after)) % 2 ^ 64
+      → Turned table recording before after row t i work
+  turned {after} {heard} e done counted =
+      let filled : Filled table recording after row (t + 1) (passedBy recording i (t + 1)) =
+      filled-next (stepAt table offsets h heard) (heard-step heard e) done
+      in
+      let width : row * (t + 1) + row - row * (t + 1) ≡ row = omega arith in
+      record {
+        long = done .long;
+        filled = filled;
+        counted =
+            counted
+            ∙ ap (λ (n : ℕ). population (take n (drop (row * (t + 1)) after)) % 2 ^ 64) width
+            ∙ row-count after row (t + 1) (omega (arith, next-fits)) (turn .rows .narrow) (possible table recording (t + 1))
+            (filled .layers (t + 1) (omega arith))
+            (omega (arith, possible-length table recording (t + 1)));
+      }

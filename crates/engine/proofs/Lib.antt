@@ -1,0 +1,11 @@
+pub mod PruneCursors
+pub mod PruneLaws
+pub mod PruneLayers
+pub mod WalkRoom
+pub mod WalkMoves
+pub mod WalkSteps
+pub mod ForwardPass
+pub mod ForwardRows
+pub mod Grounds
+pub mod JudgeLaws
+pub mod ValidateLaws

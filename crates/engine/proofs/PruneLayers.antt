@@ -1,0 +1,180 @@
+-- What pruning leaves, row by row: the possible situations from which the end can be reached.
+use Prim.Native.Nat.{ℕ, suc, _+_, _-_, _*_, _≤_, _<_}
+use native.Mathlib.Nat.{mul-suc, mul-le-mul, mul-le-mul-left}
+use native.Mathlib.Numerals.{add-one}
+use native.Mathlib.Decide.{decLt}
+use native.Mathlib.Omega.{arith}
+use mathlib.Core.Path.{_≡_, refl, sym, ap, ap₂, subst, _∙_}
+use mathlib.Core.Logic.{inl, inr}
+use mathlib.Core.List.{List}
+use mathlib.Core.Bool.{Bool, true, false, _&&_}
+use mathlib.Core.Option.{Option}
+use lib.ListN.{getD, getD-replicate, List·getD-eq-default}
+use lib.Dec.{ltb}
+use borrow.Author.Tests.{lt-ltb, le-ltb}
+use Rattle.model.specs.Size
+use Rattle.model.specs.Table.{monitorAt}
+use Rattle.model.specs.Recording.{countAt, packetsAt}
+use Rattle.model.specs.Layers.{live, firstFrom}
+use Rattle.model.specs.Situation.{moveLimit, recordedAt, stepNumber, firstNumber}
+use Rattle.model.specs.Validation.{possibleAfter}
+use Rattle.model.proofs.LayerLaws.{length-layer}
+use Rattle.model.proofs.LeastLaws.{alive}
+use Rattle.model.proofs.WalkLaws.{into, firstFrom-same, Pruned, least-alive}
+use Rattle.bits.specs.Member.{mem}
+use Rattle.situation.specs.Rows.{heardAt, Cursor}
+use Rattle.situation.proofs.Cursors.{heard-recorded}
+use Rattle.situation.specs.declared.Shape.{Shape}
+use Rattle.layers.specs.Advance.{stepAt, inRow, leastInto}
+use Rattle.engine.specs.Setting.{Setting, LayersUpTo, RowHolds}
+use Rattle.engine.specs.PruneRows.{backBy, stays, RowCut, PrunedAt, PrunedRow}
+use Rattle.engine.proofs.PruneCursors.{last-cursor, back-cursor}
+
+-- rows do not meet
+pub rows-apart : (w u t : ℕ) → u < t → w * u + w ≤ w * t
+rows-apart w u t l = omega (arith, mul-suc w u, mul-le-mul-left w l)
+
+-- rows of at most 8,192 bytes start below 2 ^ 32
+pub row-start : (row t : ℕ) → row ≤ 8192 → t < 65536 → 8 * row * t < 4294967296
+row-start row t h l =
+    let wide : 8 * row ≤ 65536 = omega arith in
+    let early : t ≤ 65535 = omega arith in
+    omega (arith, mul-le-mul wide early)
+
+and-true : (a : Bool) → a && true ≡ a
+and-true true = refl
+and-true false = refl
+
+-- N, the step and the first number of a table and a recording
+
+abbrev pub sizeOf : List ℕ → ℕ
+sizeOf table = Size.size (monitorAt table)
+
+abbrev pub stepOf : (table recording : List ℕ) → (t n k : ℕ) → Option ℕ
+stepOf table recording = stepNumber (monitorAt table) (packetsAt recording)
+
+abbrev pub possible : (table recording : List ℕ) → ℕ → List Bool
+possible table recording = possibleAfter (monitorAt table) (packetsAt recording)
+
+abbrev pub reaching : (table recording : List ℕ) → (left t : ℕ) → List Bool
+reaching table recording = alive (sizeOf table) moveLimit (stepOf table recording)
+
+abbrev pub PrunedBy : (table recording : List ℕ) → (left t : ℕ) → (ℕ → Bool) → Type 0
+PrunedBy table recording = Pruned (sizeOf table) moveLimit (stepOf table recording) (firstNumber (monitorAt table))
+
+module _ (table offsets recording : List ℕ) (h : Shape) (size last : ℕ) (set : Setting table offsets recording h size last) where
+  -- nothing is in a set past N
+  pub past-size : (t z : ℕ) → size ≤ z → getD (possible table recording t) z false ≡ false
+  past-size t z l =
+      List·getD-eq-default (possible table recording t) false
+      (omega (arith, set .whole, length-layer (sizeOf table) moveLimit (stepOf table recording) (firstNumber (monitorAt table)) t))
+
+  pub in-row-pruned : (scratch : List ℕ) (start left t : ℕ) → PrunedAt table recording scratch start size left t
+      → PrunedBy table recording left t (inRow scratch start size)
+  in-row-pruned scratch start left t pruned z = on (decLt z size)
+    where
+      on : Dec (z < size) → inRow scratch start size z ≡ (getD (possible table recording t) z false && getD (reaching table recording left t) z false)
+      on (yes l) = ap (λ (b : Bool). b && mem scratch (start + z)) (lt-ltb z size l) ∙ pruned z l
+      on (no l) =
+          ap (λ (b : Bool). b && mem scratch (start + z)) (le-ltb z size (omega arith))
+          ∙ sym (ap (λ (b : Bool). b && getD (reaching table recording left t) z false) (past-size t z (omega arith)))
+
+  -- the code's least move is that of the definition's step
+  pub least-step : (heard : Option ℕ) (scratch : List ℕ) (to v t n : ℕ) → heard ≡ recordedAt (packetsAt recording) v → v ≡ suc t → n < size
+      → leastInto (stepAt table offsets h heard) scratch to size n
+      ≡ firstFrom (λ k. into (inRow scratch to size) (stepOf table recording (suc t) n k)) moveLimit 0
+  least-step heard scratch to v t n q e l =
+      firstFrom-same _ _ moveLimit 0
+      (λ k _.
+      ap (into (inRow scratch to size))
+      (ap (λ (o : Option ℕ). stepAt table offsets h o n k) q ∙ set .stepping v n k l ∙ ap (λ (u : ℕ). stepOf table recording u n k) e))
+
+  -- what stays of a row that holds all possible situations is what can reach the end
+  pub stays-reaching : (heard : Option ℕ) (scratch : List ℕ) (from to left v t z : ℕ) → heard ≡ recordedAt (packetsAt recording) v → v ≡ suc t → z < size
+      → mem scratch (from + z) ≡ getD (possible table recording t) z false
+      → PrunedAt table recording scratch to size left v
+      → stays (stepAt table offsets h heard) scratch from to size z
+      ≡ (getD (possible table recording t) z false && getD (reaching table recording (suc left) t) z false)
+  stays-reaching heard scratch from to left v t z q e l holds pruned = on (getD (possible table recording t) z false) refl
+    where
+      least : ℕ
+      least = leastInto (stepAt table offsets h heard) scratch to size z
+
+      at-next : PrunedBy table recording left (suc t) (inRow scratch to size)
+      at-next = subst (λ (u : ℕ). PrunedBy table recording left u (inRow scratch to size)) e (in-row-pruned scratch to left v pruned)
+
+      on : (here : Bool) → getD (possible table recording t) z false ≡ here
+          → (mem scratch (from + z) && ltb least moveLimit)
+          ≡ (getD (possible table recording t) z false && getD (reaching table recording (suc left) t) z false)
+      on true p =
+          ap₂ _&&_ holds
+          (ap (λ (k : ℕ). ltb k moveLimit) (least-step heard scratch to v t z q e l)
+          ∙ least-alive (sizeOf table) moveLimit (stepOf table recording) (firstNumber (monitorAt table)) left t z (inRow scratch to size) at-next (omega (arith, set .whole)) p)
+      on false p =
+          ap (λ (b : Bool). b && ltb least moveLimit) (holds ∙ p)
+          ∙ sym (ap (λ (b : Bool). b && getD (reaching table recording (suc left) t) z false) p)
+
+-- the rows from instant t on are pruned, and those before it are not
+pub record PrunedTo (table recording scratch : List ℕ) (row size last t : ℕ) : Type 0 where
+  pub below : (u : ℕ) → u < t → RowHolds scratch row u (possible table recording u)
+  pub from : (u : ℕ) → t ≤ u → u ≤ last → PrunedRow table recording scratch row size last u
+
+module _ (table offsets recording : List ℕ) (h : Shape) (size last : ℕ) (set : Setting table offsets recording h size last) (row : ℕ) (fits : size ≤ 8 * row) where
+  -- after the last instant the end is reached
+  pub pruned-first : (scratch : List ℕ) → LayersUpTo table recording scratch row last → PrunedTo table recording scratch row size last last
+  unfolding live
+  pruned-first scratch layers = record { below = λ u l. layers u (omega arith); from = λ u g l z i. here u (omega arith) z i }
+    where
+      here : (u : ℕ) → u ≡ last → PrunedRow table recording scratch row size last u
+      here u e z i =
+          let none-left : last - u ≡ 0 = omega arith in
+          layers u (omega arith) z (omega arith)
+          ∙ sym (ap (λ (b : Bool). getD (possible table recording u) z false && b)
+          (ap (λ (n : ℕ). getD (reaching table recording n u) z false) none-left ∙ getD-replicate (sizeOf table) z true false (omega (arith, set .whole)))
+          ∙ and-true _)
+
+  pub pruned-next : (heard : Option ℕ) (t : ℕ) (s r : List ℕ) → t < last → heard ≡ recordedAt (packetsAt recording) (t + 1)
+      → PrunedTo table recording s row size last (t + 1)
+      → RowCut (stepAt table offsets h heard) (8 * row * t) (8 * row * (t + 1)) size size s r
+      → PrunedTo table recording r row size last t
+  pruned-next heard t s r l q done cut = record { below = before; from = behind }
+    where
+      before : (u : ℕ) → u < t → RowHolds r row u (possible table recording u)
+      before u g z i = cut .others (8 * row * u + z) (inl (omega (arith, rows-apart (8 * row) u t g))) ∙ done .below u (omega arith) z i
+
+      here : (z : ℕ) → z < size → mem r (8 * row * t + z) ≡ (getD (possible table recording t) z false && getD (reaching table recording (last - t) t) z false)
+      here z i =
+          let left : suc (last - (t + 1)) ≡ last - t = omega arith in
+          cut .here z i
+          ∙ stays-reaching table offsets recording h size last set heard s (8 * row * t) (8 * row * (t + 1)) (last - (t + 1)) (t + 1) t z q (add-one t) i
+          (done .below t (omega arith) z (omega arith)) (done .from (t + 1) (omega arith) (omega arith))
+          ∙ ap (λ (n : ℕ). getD (possible table recording t) z false && getD (reaching table recording n t) z false) left
+
+      behind : (u : ℕ) → t ≤ u → u ≤ last → PrunedRow table recording r row size last u
+      behind u g o z i = on (decLt t u)
+        where
+          on : Dec (t < u) → mem r (8 * row * u + z) ≡ (getD (possible table recording u) z false && getD (reaching table recording (last - u) u) z false)
+          on (yes d) = cut .others (8 * row * u + z) (inr (omega (arith, rows-apart (8 * row) t u d))) ∙ done .from u (omega arith) o z i
+          on (no d) =
+              let e : t ≡ u = omega arith in
+              subst (λ (x : ℕ). mem r (8 * row * x + z) ≡ (getD (possible table recording x) z false && getD (reaching table recording (last - x) x) z false)) e (here z i)
+
+  -- one turn: the cursor and the rows go back by an instant
+  pub pruned-turn : (j now t : ℕ) (s r : List ℕ) → 0 < t → t ≤ last → Cursor recording j (t + 1) → PrunedTo table recording s row size last t
+      → now ≡ backBy recording j (t - 1 + 1)
+      → RowCut (stepAt table offsets h (heardAt recording now (t - 1 + 1))) (8 * row * (t - 1)) (8 * row * (t - 1 + 1)) size size s r
+      → Cursor recording now (t - 1 + 1) × PrunedTo table recording r row size last (t - 1)
+  pruned-turn j now t s r some l at done e cut =
+      let m = monitorAt table in
+      let trace = set .sound .trace in
+      let same : t ≡ t - 1 + 1 = omega arith in
+      let cursor : Cursor recording now (t - 1 + 1) =
+      subst (λ (n : ℕ). Cursor recording n (t - 1 + 1)) (sym e) (back-cursor m recording trace (subst (λ (u : ℕ). Cursor recording j (u + 1)) same at)) in (
+        cursor,
+        pruned-next (heardAt recording now (t - 1 + 1)) (t - 1) s r (omega arith) (heard-recorded m recording trace cursor)
+            (subst (λ (u : ℕ). PrunedTo table recording s row size last u) same done) cut,
+      )
+
+  pub cursor-first : Cursor recording (countAt recording) (last + 1)
+  cursor-first =
+      subst (λ (t : ℕ). Cursor recording (countAt recording) (t + 1)) (sym (set .end)) (last-cursor (monitorAt table) recording (set .sound .trace))

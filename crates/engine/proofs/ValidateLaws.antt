@@ -1,0 +1,171 @@
+-- Validation by its tests: what each refusal and the judgement come to.
+use Prim.Native.Nat.{ℕ, _+_, _-_, _*_, _/_, _<_, _≤_, min}
+use native.Mathlib.Nat.{mul-comm}
+use native.Mathlib.Omega.{arith}
+use mathlib.Core.Path.{_≡_, refl, sym, ap, subst, _∙_}
+use mathlib.Core.List.{List, [], _∷_, _++_}
+use mathlib.Core.Bool.{true, false}
+use lib.ListN.{length, take, drop, replicate}
+use lib.Seq.{length-take-le}
+use lib.Dec.{leb}
+use borrow.Author.Tests.{le-leb, lt-leb}
+use Rattle.model.specs.Bytes.{tab}
+use Rattle.model.specs.Size
+use Rattle.model.specs.Table.{readTable, monitorOf, monitorAt, tableParts}
+use Rattle.model.specs.Recording.{recordingAnswer, countAt, packetsAt, endOf}
+use Rattle.model.specs.Witness.{witnessBytes}
+use Rattle.model.specs.Validation.{refusal, validation, verdict, preferred, scratchWanted, roomWanted, scratchBy, roomBy, scratchAfter, roomAfter}
+use Rattle.model.specs.Claims.{ValuesOf, Judged}
+use Rattle.model.specs.declared.Reading.{Reading}
+use Rattle.model.specs.declared.Reading.the-variants.{Sound, Unsound}
+use Rattle.model.specs.declared.Refusal.{Refusal}
+use Rattle.model.specs.declared.Refusal.the-variants.{Scratch, WitnessRoom}
+use Rattle.model.specs.declared.Verdict.{Verdict}
+use Rattle.model.specs.declared.Verdict.the-variants.{Accepted, Rejected, Exhausted, Refused}
+use Rattle.model.specs.declared.TableParts.{TableParts}
+use Rattle.model.specs.declared.TableReading.{TableReading}
+use Rattle.model.proofs.Basics.{length-tab}
+use Rattle.model.proofs.TableForm.{table-facts}
+use Rattle.model.proofs.RecordingForm.{sound-table, packetAt, packets-tab}
+use Rattle.model.proofs.Judgement.{sound-judged}
+use Rattle.situation.specs.Numbering.{shapeOf}
+use Rattle.situation.specs.declared.Shape.{Shape}
+use Rattle.engine.specs.Validates.{Validates}
+use Rattle.engine.specs.Judging.{Judging, Settled}
+
+module _ (table recording : List ℕ) (budget : ℕ) (scratch room : List ℕ) where
+  validation-refused : (why : Refusal) → refusal table recording (length scratch) (length room) ≡ Unsound why
+      → validation table recording budget (length scratch) (length room) ≡ Refused why
+  unfolding validation
+  validation-refused why e = rw (e, validation)
+
+  -- a refusal answers itself and touches nothing
+  refused : (why : Refusal) → refusal table recording (length scratch) (length room) ≡ Unsound why
+      → Validates table recording budget scratch room scratch room (Refused why)
+  unfolding scratchAfter roomAfter
+  refused why e =
+      record {
+        answered = sym (validation-refused why e);
+        cleared = ap (λ (v : Verdict). scratchBy v (scratchWanted table recording) scratch) (sym (validation-refused why e));
+        written = ap (λ (v : Verdict). roomBy v (witnessBytes (preferred (monitorAt table) (packetsAt recording))) room) (sym (validation-refused why e));
+        judged = λ s. absurd (never (sym s ∙ e));
+      }
+    where
+      never : Sound ≡ Unsound why → ⊥
+      never q = let z : _≡_ {A = ℕ} 0 1 = cc in omega arith
+
+  pub unread : (why : Refusal) → recordingAnswer table recording ≡ Unsound why → Validates table recording budget scratch room scratch room (Refused why)
+  unfolding refusal
+  unread why e = refused why (rw (refusal, e))
+
+  pub scratch-short : (wanted : ℕ) → recordingAnswer table recording ≡ Sound → wanted ≡ scratchWanted table recording → length scratch < wanted
+      → Validates table recording budget scratch room scratch room (Refused (Scratch wanted))
+  unfolding refusal
+  scratch-short wanted e w short = subst (λ (n : ℕ). Validates table recording budget scratch room scratch room (Refused (Scratch n))) (sym w)
+      (refused (Scratch (scratchWanted table recording))
+      (rw (refusal, e, lt-leb (scratchWanted table recording) (length scratch) (subst (λ (n : ℕ). length scratch < n) w short))))
+
+  pub room-short : (wanted : ℕ) → recordingAnswer table recording ≡ Sound → scratchWanted table recording ≤ length scratch → wanted ≡ roomWanted recording
+      → length room < wanted → Validates table recording budget scratch room scratch room (Refused (WitnessRoom wanted))
+  unfolding refusal
+  room-short wanted e fits w short = subst (λ (n : ℕ). Validates table recording budget scratch room scratch room (Refused (WitnessRoom n))) (sym w)
+      (refused (WitnessRoom (roomWanted recording))
+      (rw
+      (refusal, e, le-leb (scratchWanted table recording) (length scratch) fits, lt-leb (roomWanted recording) (length room) (subst (λ (n : ℕ). length room < n) w short))))
+
+  -- a verdict leaves the wanted part of the scratch zero
+  zeroed : (v : Verdict) → ValuesOf (monitorAt table) (packetsAt recording) budget v → (wanted : ℕ)
+      → replicate wanted 0 ++ drop wanted scratch ≡ scratchBy v wanted scratch
+  zeroed (Accepted cost rows) h wanted = refl
+  zeroed (Rejected cost instant) h wanted = refl
+  zeroed (Exhausted limit instant) h wanted = refl
+  zeroed (Refused why) h wanted = absurd h
+
+  module _ (e : recordingAnswer table recording ≡ Sound) (fits : scratchWanted table recording ≤ length scratch) (roomy : roomWanted recording ≤ length room) where
+    sound : refusal table recording (length scratch) (length room) ≡ Sound
+    unfolding refusal
+    sound =
+        rw
+        (refusal, e, le-leb (scratchWanted table recording) (length scratch) fits, le-leb (roomWanted recording) (length room) roomy)
+
+    valid : validation table recording budget (length scratch) (length room) ≡ verdict (monitorAt table) (packetsAt recording) budget
+    unfolding validation
+    valid = rw (sound, validation)
+
+    pub judged-whole : (v : Verdict) (part partThen roomThen : List ℕ) → length part ≡ scratchWanted table recording
+        → Settled table recording budget part room partThen roomThen v
+        → Validates table recording budget scratch room (partThen ++ drop (scratchWanted table recording) scratch) roomThen v
+    unfolding scratchAfter roomAfter
+    judged-whole v part partThen roomThen long s =
+        let right : Judged (monitorAt table) (packetsAt recording) budget v =
+        subst (Judged (monitorAt table) (packetsAt recording) budget) (sym (s .answered)) (sound-judged table recording e budget)
+        in
+        let same : v ≡ validation table recording budget (length scratch) (length room) = s .answered ∙ sym valid in
+        record {
+          answered = same;
+          cleared =
+              ap (λ (l : List ℕ). l ++ drop (scratchWanted table recording) scratch) (s .cleared ∙ ap (λ (n : ℕ). replicate n 0) long)
+              ∙ zeroed v (right .valued) (scratchWanted table recording)
+              ∙ ap (λ (w : Verdict). scratchBy w (scratchWanted table recording) scratch) same;
+          written = s .written ∙ ap (λ (w : Verdict). roomBy w (witnessBytes (preferred (monitorAt table) (packetsAt recording))) room) same;
+          judged = λ _. right;
+        }
+
+-- what is read of a sound table and recording
+module _ (table recording : List ℕ) (e : recordingAnswer table recording ≡ Sound) (reading : TableReading) (r : reading ≡ readTable table) where
+  parts-are : reading .parts ≡ tableParts table
+  unfolding readTable
+  parts-are = ap (λ (x : TableReading). x .parts) r ∙ rw (sound-table table recording e)
+
+  pub shape-is : (h : Shape) → h ≡ shapeOf (reading .parts) → h ≡ shapeOf (tableParts table)
+  shape-is h s = s ∙ ap shapeOf parts-are
+
+  pub size-is : (n : ℕ) → n ≡ min (Size.size (monitorOf (reading .parts))) 65537 → n ≡ Size.size (monitorAt table)
+  size-is n s =
+      let small = table-facts table (sound-table table recording e) .small in
+      let same : Size.size (monitorOf (reading .parts)) ≡ Size.size (monitorAt table) = ap (λ (t : TableParts). Size.size (monitorOf t)) parts-are in
+      omega arith
+
+  pub scratch-is : (n last : ℕ) → n ≡ min (Size.size (monitorOf (reading .parts))) 65537 → last ≡ endOf (packetsAt recording)
+      → (n + 7) / 8 * (last + 1) ≡ scratchWanted table recording
+  scratch-is n last s l =
+      mul-comm ((n + 7) / 8) (last + 1) ∙ ap (λ (m : ℕ). (last + 1) * ((m + 7) / 8)) (size-is n s) ∙ ap (λ (m : ℕ). (m + 1) * Size.rowBytes (Size.size (monitorAt table))) l
+
+pub count-is : (recording : List ℕ) → length (packetsAt recording) ≡ countAt recording
+count-is recording = ap length (packets-tab recording) ∙ length-tab (packetAt recording) (countAt recording)
+
+pub room-is : (recording : List ℕ) (last n : ℕ) → last ≡ endOf (packetsAt recording) → n ≡ countAt recording → 5 + 5 * (last + n) ≡ roomWanted recording
+room-is recording last n l c = let h = count-is recording in omega arith
+
+pub no-end : (recording : List ℕ) → countAt recording ≡ 0 → 0 ≡ endOf (packetsAt recording)
+unfolding tab endOf
+no-end recording c = sym (ap endOf (packets-tab recording ∙ ap (tab (packetAt recording)) c))
+
+pub le-by : (a b n : ℕ) → a ≡ b → a ≤ n → b ≤ n
+le-by a b n e h = omega arith
+
+pub judging : (table recording : List ℕ) (e : recordingAnswer table recording ≡ Sound) (reading : TableReading) (r : reading ≡ readTable table) (scratch room : List ℕ)
+    (h : Shape) (n last count : ℕ) → h ≡ shapeOf (reading .parts) → n ≡ min (Size.size (monitorOf (reading .parts))) 65537 → last ≡ endOf (packetsAt recording)
+    → count ≡ countAt recording → (n + 7) / 8 * (last + 1) ≤ length scratch → 5 + 5 * (last + count) ≤ length room
+    → Judging table recording (take ((n + 7) / 8 * (last + 1) - 0) scratch) room h ((n + 7) / 8) n last
+judging table recording e reading r scratch room h n last count shape size end counted fits roomy =
+    record {
+      sound = e;
+      shape = shape-is table recording e reading r h shape;
+      whole = size-is table recording e reading r n size;
+      bytes = refl;
+      end = end;
+      rows = let l = length-take-le ((n + 7) / 8 * (last + 1) - 0) scratch (omega arith) in omega arith;
+      roomy = let l = count-is recording in omega arith;
+    }
+
+-- the judged part comes back to the front of the scratch
+pub judged-part : (table recording : List ℕ) (budget : ℕ) (scratch room : List ℕ) (e : recordingAnswer table recording ≡ Sound) (n : ℕ) → n ≡ scratchWanted table recording
+    → n ≤ length scratch → roomWanted recording ≤ length room → (v : Verdict) (partThen roomThen : List ℕ)
+    → Settled table recording budget (take (n - 0) scratch) room partThen roomThen v
+    → Validates table recording budget scratch room (partThen ++ drop (n - 0) scratch) roomThen v
+judged-part table recording budget scratch room e n wanted fits roomy v partThen roomThen s =
+    let whole : n - 0 ≡ scratchWanted table recording = omega arith in
+    let long = length-take-le (n - 0) scratch (omega arith) in
+    subst (λ (k : ℕ). Validates table recording budget scratch room (partThen ++ drop k scratch) roomThen v) (sym whole)
+    (judged-whole table recording budget scratch room e (omega arith) roomy v (take (n - 0) scratch) partThen roomThen (omega arith) s)

@@ -1,0 +1,106 @@
+-- Rows written into a room one behind the other, and the header before them.
+use Prim.Native.Nat.{ℕ, _+_, _*_, _≤_}
+use native.Mathlib.Omega.{arith}
+use mathlib.Core.Path.{_≡_, refl, sym, ap, ap₂, subst, _∙_}
+use mathlib.Core.List.{List, [], _∷_, _++_, append-assoc, append-nil}
+use lib.ListN.{length, take, drop, length-append, length-take, length-drop, take-append-drop}
+use lib.Seq.{take-at, drop-at, drop-drop, length-take-le}
+use Rattle.model.specs.Room.{over}
+use Rattle.model.specs.Witness.{Row, rowBytes, rowsBytes, witnessBytes}
+use Rattle.wire.specs.Placed.{placed}
+use Rattle.wire.proofs.Room.{placed-fits}
+use Rattle.engine.specs.WalkRows.{Wrote, Room, header}
+
+-- the bytes of rows
+
+pub rows-bytes-append : (a b : List Row) → rowsBytes (a ++ b) ≡ rowsBytes a ++ rowsBytes b
+unfolding rowsBytes
+rows-bytes-append [] b = refl
+rows-bytes-append (r ∷ a) b = ap (λ (l : List ℕ). rowBytes r ++ l) (rows-bytes-append a b) ∙ sym (append-assoc (rowBytes r) (rowsBytes a) (rowsBytes b))
+
+pub rows-bytes-length : (a : List Row) → length (rowsBytes a) ≡ 5 * length a
+unfolding rowsBytes
+rows-bytes-length [] = refl
+rows-bytes-length (r ∷ a) = let again : length (rowsBytes a) ≡ 5 * length a = rows-bytes-length a in omega arith
+
+-- places in a room
+
+pub placed-length : (a : List ℕ) (at : ℕ) (room : List ℕ) → at + length a ≤ length room → length (placed a at room) ≡ length room
+placed-length a at room h =
+    ap length (placed-fits a at room h)
+    ∙ simp (length-append, length-take, length-drop) (omega arith)
+
+pub placed-none : (at : ℕ) (room : List ℕ) → at ≤ length room → placed [] at room ≡ room
+placed-none at room h =
+    let e : at + 0 ≡ at = omega arith in
+    placed-fits [] at room (omega arith)
+    ∙ ap₂ (λ (l : List ℕ) (n : ℕ). l ++ drop n room) (append-nil (take at room)) e
+    ∙ take-append-drop at room
+
+-- bytes placed behind bytes
+pub placed-more : (a b : List ℕ) (at : ℕ) (room : List ℕ) → at + length a + length b ≤ length room
+    → placed b (at + length a) (placed a at room) ≡ placed (a ++ b) at room
+placed-more a b at room h =
+    let front : List ℕ = take at room ++ a in
+    let rest : List ℕ = drop (at + length a) room in
+    let long : length front ≡ at + length a = length-append (take at room) a ∙ ap (λ (n : ℕ). n + length a) (length-take-le at room (omega arith)) in
+    let end : at + length a + length b ≡ at + length (a ++ b) = omega (arith, length-append a b) in
+    let behind : drop (at + length a + length b) (front ++ rest) ≡ drop (at + length (a ++ b)) room =
+    sym (drop-drop (length b) (at + length a) (front ++ rest))
+    ∙ ap (drop (length b)) (drop-at front rest (at + length a) long)
+    ∙ drop-drop (length b) (at + length a) room
+    ∙ ap (λ (n : ℕ). drop n room) end in
+    placed-fits b (at + length a) (placed a at room) (omega (arith, placed-length a at room (omega arith)))
+    ∙ ap (λ (l : List ℕ). take (at + length a) l ++ b ++ drop (at + length a + length b) l) (placed-fits a at room (omega arith))
+    ∙ ap₂ (λ (x y : List ℕ). x ++ b ++ y) (take-at front rest (at + length a) long) behind
+    ∙ ap (λ (l : List ℕ). l ++ drop (at + length (a ++ b)) room) (append-assoc (take at room) a b)
+    ∙ sym (placed-fits (a ++ b) at room (omega (arith, length-append a b)))
+
+-- bytes placed before bytes
+pub placed-before : (a b : List ℕ) (room : List ℕ) → length a + length b ≤ length room → placed a 0 (placed b (length a) room) ≡ over (a ++ b) room
+placed-before a b room h =
+    let front : List ℕ = take (length a) room in
+    let rest : List ℕ = drop (length a + length b) room in
+    placed-fits a 0 (placed b (length a) room) (omega (arith, placed-length b (length a) room h))
+    ∙ ap (λ (l : List ℕ). a ++ drop (0 + length a) l) (placed-fits b (length a) room h ∙ append-assoc front b rest)
+    ∙ ap (λ (l : List ℕ). a ++ l) (drop-at front (b ++ rest) (0 + length a) (length-take-le (length a) room (omega arith) ∙ omega arith))
+    ∙ sym (append-assoc a b rest)
+    ∙ ap (λ (n : ℕ). a ++ b ++ drop n room) (sym (length-append a b))
+
+-- rows
+
+pub wrote-none : (r : ℕ) (room : List ℕ) → 5 + 5 * r ≤ length room → Wrote [] r r room room
+unfolding rowsBytes
+wrote-none r room h = record { bytes = sym (placed-none (5 + 5 * r) room h); count = omega arith }
+
+pub wrote-more : {a b : List Row} {r n k : ℕ} {x y z : List ℕ} → Room (a ++ b) r x → Wrote a r n x y → Wrote b n k y z → Wrote (a ++ b) r k x z
+wrote-more {a} {b} {r} {n} {k} {x} {y} {z} h first then =
+    let place : 5 + 5 * n ≡ 5 + 5 * r + length (rowsBytes a) = omega (arith, rows-bytes-length a, first .count) in
+    record {
+      bytes =
+          then .bytes
+          ∙ ap₂ (λ (p : ℕ) (l : List ℕ). placed (rowsBytes b) p l) place (first .bytes)
+          ∙ placed-more (rowsBytes a) (rowsBytes b) (5 + 5 * r) x (omega (arith, rows-bytes-length a, rows-bytes-length b, length-append a b))
+          ∙ ap (λ (l : List ℕ). placed l (5 + 5 * r) x) (sym (rows-bytes-append a b));
+      count = omega (arith, first .count, then .count, length-append a b);
+    }
+
+pub wrote-same : {a b : List Row} {r n : ℕ} {x y : List ℕ} → a ≡ b → Wrote a r n x y → Wrote b r n x y
+wrote-same {a} {b} {r} {n} {x} {y} e w = subst (λ (l : List Row). Wrote l r n x y) e w
+
+pub wrote-length : {a : List Row} {r n : ℕ} {x y : List ℕ} → Wrote a r n x y → Room a r x → length y ≡ length x
+wrote-length {a} {r} {n} {x} {y} w h =
+    ap length (w .bytes) ∙ placed-length (rowsBytes a) (5 + 5 * r) x (omega (arith, rows-bytes-length a))
+
+-- behind the rows that are written there is room for the others
+pub room-behind : {a : List Row} (b : List Row) {r n : ℕ} {x y : List ℕ} → Wrote a r n x y → Room (a ++ b) r x → Room b n y
+room-behind {a} b {r} {n} {x} {y} w h =
+    omega (arith, length-append a b, w .count, wrote-length w (omega (arith, length-append a b)))
+
+-- all rows and the header
+pub wrote-headed : {a : List Row} {n : ℕ} {x y : List ℕ} → Wrote a 0 n x y → Room a 0 x → placed (header n) 0 y ≡ over (witnessBytes a) x
+unfolding witnessBytes
+wrote-headed {a} {n} {x} {y} w h =
+    let all : n ≡ length a = omega (arith, w .count) in
+    ap₂ (λ (k : ℕ) (l : List ℕ). placed (header k) 0 l) all (w .bytes)
+    ∙ placed-before (header (length a)) (rowsBytes a) x (omega (arith, rows-bytes-length a))

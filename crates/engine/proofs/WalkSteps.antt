@@ -1,0 +1,258 @@
+-- The walk, instant by instant: the least move into a pruned row leads on, and the rows of the least moves are the preferred witness.
+use Prim.Native.Nat.{ℕ, suc, _+_, _-_, _*_, _≤_, _<_}
+use native.Mathlib.Numerals.{add-one}
+use native.Mathlib.Omega.{arith}
+use mathlib.Core.Path.{_≡_, sym, ap, ap₂, subst, _∙_}
+use mathlib.Core.List.{List, [], _∷_, _++_, append-nil, append-assoc}
+use mathlib.Core.Bool.{Bool, true, false}
+use mathlib.Core.Option.{Option, none, some, Option·none-ne-some, Option·some-injective}
+use lib.ListN.{length, getD, replicate, length-replicate, length-append}
+use lib.Seq.{getD-set-same}
+use Rattle.model.specs.Monitor.{Monitor}
+use Rattle.model.specs.Table.{monitorAt}
+use Rattle.model.specs.Recording.{packetsAt, endOf}
+use Rattle.model.specs.Layers.{count, layer, arrived}
+use Rattle.model.specs.Situation.{moveOf, moveLimit, recordedAt, firstNumber}
+use Rattle.model.specs.Validation.{rowsBy, rowsOf, movesOf, preferred}
+use Rattle.model.specs.Witness.{Row}
+use Rattle.model.specs.declared.Situation.{Situation}
+use Rattle.model.proofs.SetLaws.{member-within, leadsInto-member, count-some}
+use Rattle.model.proofs.LayerLaws.{length-layer, layer-suc, layer-leads}
+use Rattle.model.proofs.LeastLaws.{alive-suc, length-alive, alive-carries, leads-enters, leastInto-leads, leastFrom, leastFrom-zero, leastFrom-suc, leastMoves-from, length-least}
+use Rattle.model.proofs.LeastLaws as least
+use Rattle.model.proofs.WalkLaws.{least-same}
+use Rattle.model.proofs.MoveRows.{Fits, rows-short}
+use Rattle.model.proofs.Numbering.{first-number-below}
+use Rattle.situation.specs.Rows.{Cursor}
+use Rattle.situation.specs.Stepping.{arriveFrom, situationBy}
+use Rattle.situation.specs.declared.Shape.{Shape}
+use Rattle.situation.proofs.Cursors.{first-cursor}
+use Rattle.layers.specs.Advance.{stepAt, inRow, leastInto}
+use Rattle.engine.specs.Setting.{Setting}
+use Rattle.engine.specs.PruneRows.{PrunedRows}
+use Rattle.engine.specs.WalkRows.{Wrote, Room, Stands, rowsFrom, WalkedOn}
+use Rattle.engine.proofs.PruneLayers.{sizeOf, stepOf, possible, reaching, PrunedBy, in-row-pruned, least-step}
+use Rattle.engine.proofs.WalkRoom.{wrote-none, wrote-same, wrote-more, wrote-length, room-behind}
+use Rattle.engine.proofs.WalkMoves.{fits-number}
+
+-- arriving from the situation of a number is the step
+pub step-arrives : (table offsets : List ℕ) (h : Shape) (heard : Option ℕ) (n k : ℕ) (s : Situation) (o : Option ℕ) → s ≡ situationBy h n
+    → o ≡ arriveFrom table offsets h heard s k → stepAt table offsets h heard n k ≡ o
+step-arrives table offsets h heard n k s o e q = ap (λ (x : Situation). arriveFrom table offsets h heard x k) (sym e) ∙ sym q
+
+pub not-nowhere : (step : ℕ → Option ℕ) (k l x : ℕ) → step k ≡ none → k ≡ l → step l ≡ some x → ⊥
+not-nowhere step k l x e same q = Option·none-ne-some x (sym e ∙ ap step same ∙ q)
+
+-- where the end can be reached from a possible situation, the least move leads to another
+module _ (N K : ℕ) (step : ℕ → ℕ → ℕ → Option ℕ) (first : ℕ) where
+  pub record Next (left t n k : ℕ) : Type 0 where
+    pub number : ℕ
+    pub few : k < K
+    pub arrives : step (suc t) n k ≡ some number
+    pub here : getD (layer N K step first (suc t)) number false ≡ true
+    pub alive : getD (least.alive N K step left (suc t)) number false ≡ true
+    pub moves : leastFrom N K step (suc left) t n ≡ k ∷ leastFrom N K step left (suc t) number
+
+  pub inside : (t n : ℕ) → getD (layer N K step first t) n false ≡ true → n < N
+  inside t n e = omega (arith, member-within (layer N K step first t) n e, length-layer N K step first t)
+
+  moves-on : (left t n x : ℕ) → step (suc t) n (least.leastInto N K step (least.alive N K step left (suc t)) t n) ≡ some x
+      → leastFrom N K step (suc left) t n ≡ least.leastInto N K step (least.alive N K step left (suc t)) t n ∷ leastFrom N K step left (suc t) x
+  moves-on left t n x e =
+      leastFrom-suc N K step left t n
+      ∙ ap (λ (o : Option ℕ). least.leastInto N K step (least.alive N K step left (suc t)) t n ∷ leastFrom N K step left (suc t) (arrived N K step o)) e
+
+  pub next : (left t n : ℕ) → getD (layer N K step first t) n false ≡ true → getD (least.alive N K step (suc left) t) n false ≡ true
+      → Next left t n (least.leastInto N K step (least.alive N K step left (suc t)) t n)
+  next left t n here alive =
+      let s : List Bool = least.alive N K step left (suc t) in
+      let k : ℕ = least.leastInto N K step s t n in
+      let (j, y, few, q, r) = leads-enters N K step s (suc t) n K .0 (sym (alive-suc N K step left t n (inside t n here)) ∙ alive) in
+      let (x, le, p, g) = leastInto-leads N K step s t n j few (leadsInto-member s (step (suc t) n j) .1 (y, q, r)) in
+      let below : x < N = omega (arith, member-within s x g, length-alive N K step left (suc t)) in
+      let little : k < K = omega arith in
+      record {
+        number = x;
+        few = little;
+        arrives = p;
+        here = layer-suc N K step first t x .1 (n, k, inside t n here, here, little, p, below);
+        alive = g;
+        moves = moves-on left t n x p;
+      }
+
+-- what the code's least move k from n after instant t comes to
+pub record Leading (table recording : List ℕ) (last t n k : ℕ) (heard : Option ℕ) (to : Option ℕ) : Type 0 where
+  pub number : ℕ
+  pub arrives : to ≡ some number
+  pub few : k < moveLimit
+  pub fits : Fits (monitorAt table) heard (moveOf k)
+  pub here : getD (possible table recording (t + 1)) number false ≡ true
+  pub alive : getD (reaching table recording (last - (t + 1)) (t + 1)) number false ≡ true
+  pub split : rowsFrom table recording last t n ≡ rowsBy (monitorAt table) heard (t + 1) (moveOf k) ++ rowsFrom table recording last (t + 1) number
+
+module _ (table recording : List ℕ) (last : ℕ) where
+  -- the rows of the first of the least moves, and the rows of the others
+  rows-split : (t n k x : ℕ) → t < last
+      → leastFrom (sizeOf table) moveLimit (stepOf table recording) (suc (last - (t + 1))) t n
+      ≡ k ∷ leastFrom (sizeOf table) moveLimit (stepOf table recording) (last - (t + 1)) (suc t) x
+      → rowsFrom table recording last t n
+      ≡ rowsBy (monitorAt table) (recordedAt (packetsAt recording) (t + 1)) (t + 1) (moveOf k) ++ rowsFrom table recording last (t + 1) x
+  unfolding rowsOf
+  rows-split t n k x l e =
+      let m = monitorAt table in
+      let left : last - t ≡ suc (last - (t + 1)) = omega arith in
+      ap (λ (u : ℕ). rowsOf m (packetsAt recording) (t + 1) (leastFrom (sizeOf table) moveLimit (stepOf table recording) u t n)) left
+      ∙ ap (rowsOf m (packetsAt recording) (t + 1)) e
+      ∙ ap₂
+      (λ (u v : ℕ). rowsBy m (recordedAt (packetsAt recording) (t + 1)) (t + 1) (moveOf k) ++ rowsOf m (packetsAt recording) u (leastFrom (sizeOf table) moveLimit (stepOf table recording) (last - (t + 1)) v x))
+      (sym (add-one (t + 1))) (sym (add-one t))
+
+module _
+    (table offsets recording : List ℕ) (h : Shape) (size last : ℕ) (set : Setting table offsets recording h size last)
+    (scratch : List ℕ) (row : ℕ) (rows : PrunedRows table recording scratch row size last)
+  where
+    -- the code's least move into the next row is that of the definition
+    least-move : (t n : ℕ) (heard : Option ℕ) → t < last → heard ≡ recordedAt (packetsAt recording) (t + 1) → getD (possible table recording t) n false ≡ true → n < size
+        → leastInto (stepAt table offsets h heard) scratch (8 * row * (t + 1)) size n
+        ≡ least.leastInto (sizeOf table) moveLimit (stepOf table recording) (reaching table recording (last - (t + 1)) (suc t)) t n
+    least-move t n heard early q here l =
+        least-step table offsets recording h size last set heard scratch (8 * row * (t + 1)) (t + 1) t n q (add-one t) l
+        ∙ least-same (sizeOf table) moveLimit (stepOf table recording) (firstNumber (monitorAt table)) (last - (t + 1)) t n (inRow scratch (8 * row * (t + 1)) size)
+        (subst (λ (u : ℕ). PrunedBy table recording (last - (t + 1)) u (inRow scratch (8 * row * (t + 1)) size)) (add-one t)
+        (in-row-pruned table offsets recording h size last set scratch (8 * row * (t + 1)) (last - (t + 1)) (t + 1) (rows (t + 1) (omega arith))))
+        (omega (arith, set .whole)) here
+
+    pub leading : (t n j : ℕ) (heard : Option ℕ) (k : ℕ) → t < last → heard ≡ recordedAt (packetsAt recording) (t + 1)
+        → k ≡ leastInto (stepAt table offsets h heard) scratch (8 * row * (t + 1)) size n → Stands table recording last t n j
+        → Leading table recording last t n k heard (stepAt table offsets h heard n k)
+    leading t n j heard k early q e stands =
+        record {
+          number = on .number;
+          arrives = ap (λ (o : Option ℕ). stepAt table offsets h o n k) q ∙ set .stepping (t + 1) n k below ∙ arrives;
+          few = omega (arith, same, on .few);
+          fits = subst (λ (o : Option ℕ). Fits m o (moveOf k)) (sym q) (fits-number m (packetsAt recording) (t + 1) n k (on .number) arrives);
+          here = subst (λ (u : ℕ). getD (possible table recording u) (on .number) false ≡ true) (sym (add-one t)) (on .here);
+          alive = subst (λ (u : ℕ). getD (reaching table recording left u) (on .number) false ≡ true) (sym (add-one t)) (on .alive);
+          split =
+              rows-split table recording last t n k (on .number) early (on .moves ∙ ap (λ (i : ℕ). i ∷ leastFrom (sizeOf table) moveLimit (stepOf table recording) left (suc t) (on .number)) (sym same))
+              ∙ ap (λ (o : Option ℕ). rowsBy m o (t + 1) (moveOf k) ++ rowsFrom table recording last (t + 1) (on .number)) (sym q);
+        }
+      where
+        m : Monitor
+        m = monitorAt table
+
+        left : ℕ
+        left = last - (t + 1)
+
+        below : n < size
+        below = omega (arith, set .whole, inside (sizeOf table) moveLimit (stepOf table recording) (firstNumber m) t n (stands .here))
+
+        on : Next (sizeOf table) moveLimit (stepOf table recording) (firstNumber m) left t n (least.leastInto (sizeOf table) moveLimit (stepOf table recording) (reaching table recording left (suc t)) t n)
+        on =
+            let more : last - t ≡ suc left = omega arith in
+            next (sizeOf table) moveLimit (stepOf table recording) (firstNumber m) left t n (stands .here)
+            (subst (λ (u : ℕ). getD (reaching table recording u t) n false ≡ true) more (stands .alive))
+
+        same : k ≡ least.leastInto (sizeOf table) moveLimit (stepOf table recording) (reaching table recording left (suc t)) t n
+        same = e ∙ least-move t n heard early q (stands .here) below
+
+        arrives : stepOf table recording (t + 1) n k ≡ some (on .number)
+        arrives = ap₂ (λ (u i : ℕ). stepOf table recording u n i) (add-one t) same ∙ on .arrives
+
+pub onward : {table recording : List ℕ} {last t n k : ℕ} {heard to : Option ℕ} → Leading table recording last t n k heard to
+    → {x j r next : ℕ} {before after : List ℕ} → to ≡ some x → Cursor recording j (t + 1 + 1)
+    → Wrote (rowsBy (monitorAt table) heard (t + 1) (moveOf k)) r next before after
+    → WalkedOn table recording last t n r x j next before after
+onward {table} {recording} {last} {t} {n} {k} {heard} {to} on {x} {j} {r} {next} {before} {after} e cursor wrote =
+    let same : on .number ≡ x = Option·some-injective (on .number) x (sym (on .arrives) ∙ e) in
+    record {
+      rows = rowsBy (monitorAt table) heard (t + 1) (moveOf k);
+      stands =
+          record {
+            here = subst (λ (z : ℕ). getD (possible table recording (t + 1)) z false ≡ true) same (on .here);
+            alive = subst (λ (z : ℕ). getD (reaching table recording (last - (t + 1)) (t + 1)) z false ≡ true) same (on .alive);
+            cursor = cursor;
+          };
+      wrote = wrote;
+      split = on .split ∙ ap (λ (z : ℕ). rowsBy (monitorAt table) heard (t + 1) (moveOf k) ++ rowsFrom table recording last (t + 1) z) same;
+    }
+
+-- the rows written up to instant t, and those to come from number n, are the preferred witness
+pub record Walked (table recording : List ℕ) (last t n r : ℕ) (before after : List ℕ) : Type 0 where
+  pub rows : List Row
+  pub wrote : Wrote rows 0 r before after
+  pub whole : rows ++ rowsFrom table recording last t n ≡ preferred (monitorAt table) (packetsAt recording)
+
+module _ {table recording : List ℕ} {last t n r : ℕ} {before after : List ℕ} (walked : Walked table recording last t n r before after)
+    (room : Room (preferred (monitorAt table) (packetsAt recording)) 0 before)
+  where
+    pub room-left : Room (rowsFrom table recording last t n) r after
+    room-left = room-behind (rowsFrom table recording last t n) (walked .wrote) (omega (arith, ap length (walked .whole)))
+
+    pub walked-length : length after ≡ length before
+    walked-length = wrote-length (walked .wrote) (omega (arith, ap length (walked .whole), length-append (walked .rows) (rowsFrom table recording last t n)))
+
+    pub walked-on : {x j next : ℕ} {then : List ℕ} → WalkedOn table recording last t n r x j next after then → Walked table recording last (t + 1) x next before then
+    walked-on {x} on =
+        let all : (walked .rows ++ on .rows) ++ rowsFrom table recording last (t + 1) x ≡ preferred (monitorAt table) (packetsAt recording) =
+        append-assoc (walked .rows) (on .rows) (rowsFrom table recording last (t + 1) x)
+        ∙ ap (λ (l : List Row). walked .rows ++ l) (sym (on .split))
+        ∙ walked .whole in
+        record {
+          rows = walked .rows ++ on .rows;
+          wrote = wrote-more (omega (arith, ap length all, length-append (walked .rows ++ on .rows) (rowsFrom table recording last (t + 1) x))) (walked .wrote) (on .wrote);
+          whole = all;
+        }
+
+-- where the walk begins and ends
+module _ (table offsets recording : List ℕ) (h : Shape) (size last : ℕ) (set : Setting table offsets recording h size last) where
+  pub stands-first : 0 < count (possible table recording last) → Stands table recording last 0 (firstNumber (monitorAt table)) 0
+  unfolding layer
+  stands-first some-left =
+      let m = monitorAt table in
+      let step = stepOf table recording in
+      let below : firstNumber m < sizeOf table = first-number-below (set .sane) in
+      let (z, l, member) = count-some (possible table recording last) some-left in
+      let (ks, long, leads) = layer-leads (sizeOf table) moveLimit step (firstNumber m) last z member in
+      let whole : last ≡ last - 0 = omega arith in
+      record {
+        here = getD-set-same (replicate (sizeOf table) false) (firstNumber m) true false (omega (arith, length-replicate (sizeOf table) false));
+        alive = alive-carries (sizeOf table) moveLimit step (last - 0) 0 (firstNumber m) below .1 (ks, z, long ∙ whole, leads);
+        cursor = first-cursor m recording (set .sound .trace);
+      }
+
+  pub rows-all : rowsFrom table recording last 0 (firstNumber (monitorAt table)) ≡ preferred (monitorAt table) (packetsAt recording)
+  unfolding preferred
+  rows-all =
+      let whole : last - 0 ≡ endOf (packetsAt recording) = omega (arith, set .end) in
+      ap (λ (u : ℕ). rowsOf (monitorAt table) (packetsAt recording) 1 (leastFrom (sizeOf table) moveLimit (stepOf table recording) u 0 (firstNumber (monitorAt table)))) whole
+      ∙ ap (rowsOf (monitorAt table) (packetsAt recording) 1) (sym (leastMoves-from (sizeOf table) moveLimit (stepOf table recording) (firstNumber (monitorAt table)) (endOf (packetsAt recording))))
+
+  pub rows-end : (n : ℕ) → rowsFrom table recording last last n ≡ []
+  unfolding rowsOf
+  rows-end n =
+      let none-left : last - last ≡ 0 = omega arith in
+      ap (λ (u : ℕ). rowsOf (monitorAt table) (packetsAt recording) (last + 1) (leastFrom (sizeOf table) moveLimit (stepOf table recording) u last n)) none-left
+      ∙ ap (rowsOf (monitorAt table) (packetsAt recording) (last + 1)) (leastFrom-zero (sizeOf table) moveLimit (stepOf table recording) last n)
+
+  pub rows-fit : length (preferred (monitorAt table) (packetsAt recording)) ≤ last + length (packetsAt recording)
+  unfolding preferred
+  rows-fit =
+      omega (
+        arith,
+        set .end,
+        rows-short (monitorAt table) (packetsAt recording) (set .sound) (movesOf (monitorAt table) (packetsAt recording)),
+        length-least (sizeOf table) moveLimit (stepOf table recording) (firstNumber (monitorAt table)) (endOf (packetsAt recording)),
+      )
+
+  pub walked-first : (room : List ℕ) → 5 ≤ length room → Walked table recording last 0 (firstNumber (monitorAt table)) 0 room room
+  walked-first room l = record { rows = []; wrote = wrote-none 0 room (omega arith); whole = rows-all }
+
+  pub walked-all : {t n r : ℕ} {before after : List ℕ} → Walked table recording last t n r before after → t ≡ last
+      → Wrote (preferred (monitorAt table) (packetsAt recording)) 0 r before after
+  walked-all {t} {n} walked e =
+      wrote-same
+      (sym (append-nil (walked .rows))
+      ∙ ap (λ (l : List Row). walked .rows ++ l) (sym (ap (λ (u : ℕ). rowsFrom table recording last u n) e ∙ rows-end n))
+      ∙ walked .whole)
+      (walked .wrote)

@@ -1,0 +1,63 @@
+-- `engine::walk::put_added` meets its contract. Assumes nothing.
+use Prim.Native.Nat.{ℕ, _+_}
+use native.Mathlib.Omega.{arith}
+use mathlib.Core.Path.{_≡_, sym, ap, _∙_}
+use mathlib.Core.List.{[], _∷_}
+use lib.ListN.{length}
+use Rattle.model.specs.Bytes.{byteAt}
+use Rattle.model.specs.Witness.{added}
+use Rattle.model.proofs.MoveRows.{marked}
+use Rattle.engine.proofs.WalkRoom.{wrote-same}
+use Rattle.engine.proofs.WalkMoves.{trigger-byte, added-one}
+use borrow.Author.Needs.{needs}
+use Rattle.engine.proofs.walk.put_added.Statement.{statement}
+use Rattle.engine.proofs.walk.put_added.Tie as tie
+
+short-requires : tie.Need-short-requires
+short-requires c κs = search needs
+
+cast-byte : tie.Need-cast-byte
+cast-byte c = search needs
+
+add-byte : tie.Need-add-byte
+add-byte c = search needs
+
+byte-requires : tie.Need-byte-requires
+byte-requires c κs = search needs
+
+cast-put-row : tie.Need-cast-put-row
+cast-put-row c = search needs
+
+put-row-requires : tie.Need-put-row-requires
+put-row-requires c κs =
+    let start = c .before .before .before .before .before .before in
+    omega (arith, start .pre .3, ap length (added-one (start .args .t) (start .args .j) (start .pre .2 .0) _ (start .pre .2 .1)))
+
+same-length : tie.Need-same-length
+same-length c = search needs
+
+returns : tie.Need-returns
+returns c =
+    let called = c .before .before in
+    let read = called .before .before in
+    let start = read .before .before .before .before .before in
+    let a = start .args in
+    let (kind, known) = start .pre .2 in
+    let told : read .byte .result ≡ kind =
+    read .byte .ensures .0
+    ∙ ap (λ (x : ℕ). byteAt (a .table .now) (x + 2)) (read .before .short .ensures .0)
+    ∙ trigger-byte (a .table .now) (a .offsets .now) (start .pre .0) (a .j) kind known in
+    wrote-same (ap (λ (k : ℕ). marked added (a .t) k (a .j) ∷ []) told ∙ sym (added-one (a .t) (a .j) kind _ known)) (called .put-row .ensures)
+
+pub put-added-spec : {M : Type 1} → statement M
+put-added-spec =
+    tie.close
+    (tie.spec
+    short-requires
+    cast-byte
+    add-byte
+    byte-requires
+    cast-put-row
+    put-row-requires
+    same-length
+    returns)

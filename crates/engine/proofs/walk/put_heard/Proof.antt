@@ -1,0 +1,39 @@
+-- `engine::walk::put_heard` meets its contract. Assumes nothing.
+use native.Mathlib.Omega.{arith}
+use mathlib.Core.Path.{sym, ap}
+use lib.ListN.{length}
+use Rattle.situation.specs.Rows.{heardOf}
+use Rattle.engine.proofs.WalkRoom.{wrote-none, wrote-same}
+use Rattle.engine.proofs.WalkMoves.{heard-one, heard-none}
+use borrow.Author.Needs.{needs}
+use Rattle.engine.proofs.walk.put_heard.Statement.{statement}
+use Rattle.engine.proofs.walk.put_heard.Tie as tie
+
+enum-known-heard : tie.Need-enum-known-heard
+enum-known-heard c = search needs
+
+put-row-requires : tie.Need-put-row-requires
+put-row-requires c κs =
+    let start = c .before .before .before .before .before in
+    omega (arith, start .pre, ap length (heard-one (start .args .mark) (start .args .t) (start .args .transition) _ _ (ap heardOf (c .before .before .heard .given .1))))
+
+enum-told : tie.Need-enum-told
+enum-told c = search needs
+
+same-length : tie.Need-same-length
+same-length c = search needs
+
+returns : tie.Need-returns
+returns c =
+    let called = c .before .before in
+    let known = called .before .before .before in
+    wrote-same (sym (heard-one _ _ _ _ _ (ap heardOf (known .heard .given .1)))) (called .put-row .ensures)
+
+returns-2 : tie.Need-returns-2
+returns-2 c =
+    let start = c .before .before .before in
+    wrote-same (sym (heard-none _ _ _ _ (ap heardOf (c .enum-told .given .1)))) (wrote-none (start .args .r) (start .args .room .now) (omega (arith, start .pre)))
+
+pub put-heard-spec : {M : Type 1} → statement M
+put-heard-spec =
+    tie.close (tie.spec enum-known-heard put-row-requires enum-told same-length returns returns-2)

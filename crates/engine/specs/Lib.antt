@@ -1,0 +1,6 @@
+pub mod Setting
+pub mod PruneRows
+pub mod WalkRows
+pub mod Forwarding
+pub mod Judging
+pub mod Validates

@@ -1,0 +1,53 @@
+-- Cutting the situations from which the end cannot be reached, row by row, from the last to the first.
+use Prim.Native.Nat.{ℕ, _+_, _-_, _*_, _<_, _≤_}
+use mathlib.Core.Path.{_≡_}
+use mathlib.Core.Logic.{_⊎_}
+use mathlib.Core.List.{List}
+use mathlib.Core.Bool.{Bool, false, cond, _&&_}
+use mathlib.Core.Option.{Option}
+use lib.ListN.{length, getD}
+use lib.Dec.{ltb}
+use Rattle.model.specs.Size
+use Rattle.model.specs.Table.{monitorAt}
+use Rattle.model.specs.Recording.{packetsAt}
+use Rattle.model.specs.Situation.{moveLimit, stepNumber}
+use Rattle.model.specs.Validation.{possibleAfter}
+use Rattle.model.proofs.LeastLaws.{alive}
+use Rattle.bits.specs.Member.{mem}
+use Rattle.situation.specs.Rows.{isAt}
+use Rattle.layers.specs.Advance.{leastInto}
+
+-- the cursor before row j - 1 where that is at instant t
+unfoldable pub backBy : List ℕ → (j t : ℕ) → ℕ
+backBy b j t = cond (isAt b (j - 1) t) (j - 1) j
+
+-- what stays of situation n of one row: it is there, and some move leads from it into another row
+abbrev pub stays : (step : ℕ → ℕ → Option ℕ) → List ℕ → (from to size n : ℕ) → Bool
+stays step scratch from to size n = mem scratch (from + n) && ltb (leastInto step scratch to size n) moveLimit
+
+pub record CutIn (step : ℕ → ℕ → Option ℕ) (from to size n : ℕ) (before after : List ℕ) : Type 0 where
+  pub long : length after ≡ length before
+  pub others : (i : ℕ) → (i ≡ from + n → ⊥) → mem after i ≡ mem before i
+  pub here : mem after (from + n) ≡ stays step before from to size n
+
+-- the first n situations of a row are done
+pub record RowCut (step : ℕ → ℕ → Option ℕ) (from to size n : ℕ) (before after : List ℕ) : Type 0 where
+  pub long : length after ≡ length before
+  pub others : (i : ℕ) → (i < from) ⊎ (from + n ≤ i) → mem after i ≡ mem before i
+  pub here : (z : ℕ) → z < n → mem after (from + z) ≡ stays step before from to size z
+
+-- the row that starts at a bit holds the situations that are possible after instant t and from which the end can be reached, with left instants to go
+abbrev pub PrunedAt : (table recording scratch : List ℕ) → (start size left t : ℕ) → Type 0
+PrunedAt table recording scratch start size left t =
+    let m = monitorAt table in
+    let packets = packetsAt recording in
+    (z : ℕ) → z < size
+    → mem scratch (start + z)
+    ≡ (getD (possibleAfter m packets t) z false && getD (alive (Size.size m) moveLimit (stepNumber m packets) left t) z false)
+
+-- the row of instant t, where the end is the instant last
+abbrev pub PrunedRow : (table recording scratch : List ℕ) → (row size last t : ℕ) → Type 0
+PrunedRow table recording scratch row size last t = PrunedAt table recording scratch (8 * row * t) size (last - t) t
+
+abbrev pub PrunedRows : (table recording scratch : List ℕ) → (row size last : ℕ) → Type 0
+PrunedRows table recording scratch row size last = (t : ℕ) → t ≤ last → PrunedRow table recording scratch row size last t

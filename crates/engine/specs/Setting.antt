@@ -1,0 +1,33 @@
+-- What the engine's passes go by: a sound table and recording, and rows of the scratch that hold sets of situations.
+use Prim.Native.Nat.{ℕ, _+_, _*_, _<_, _≤_}
+use mathlib.Core.Path.{_≡_}
+use mathlib.Core.List.{List}
+use mathlib.Core.Bool.{Bool, false}
+use lib.ListN.{getD}
+use Rattle.model.specs.Size
+use Rattle.model.specs.Table.{monitorAt}
+use Rattle.model.specs.Recording.{packetsAt, endOf}
+use Rattle.model.specs.Situation.{recordedAt, stepNumber}
+use Rattle.model.specs.Validation.{possibleAfter}
+use Rattle.model.proofs.Chains.{Sane, SaneRecording}
+use Rattle.bits.specs.Member.{mem}
+use Rattle.situation.specs.declared.Shape.{Shape}
+use Rattle.layers.specs.Advance.{stepAt}
+
+-- the code's step is the definition's, at every instant; size is N and last is T
+pub record Setting (table offsets recording : List ℕ) (h : Shape) (size last : ℕ) : Type 0 where
+  pub sane : Sane (monitorAt table)
+  pub sound : SaneRecording (monitorAt table) (packetsAt recording)
+  pub whole : size ≡ Size.size (monitorAt table)
+  pub end : last ≡ endOf (packetsAt recording)
+  pub stepping : (t n k : ℕ) → n < size
+      → stepAt table offsets h (recordedAt (packetsAt recording) t) n k ≡ stepNumber (monitorAt table) (packetsAt recording) t n k
+
+-- the row of instant t, of so many bytes, holds a set
+abbrev pub RowHolds : List ℕ → (row t : ℕ) → List Bool → Type 0
+RowHolds scratch row t set = (z : ℕ) → z < 8 * row → mem scratch (8 * row * t + z) ≡ getD set z false
+
+-- the rows of the instants 0 to t hold the situations possible after them
+abbrev pub LayersUpTo : (table recording scratch : List ℕ) → (row t : ℕ) → Type 0
+LayersUpTo table recording scratch row t =
+    (u : ℕ) → u ≤ t → RowHolds scratch row u (possibleAfter (monitorAt table) (packetsAt recording) u)

@@ -1,0 +1,88 @@
+// The forward pass: the situations possible after each instant, each set in its row of the scratch, and what they cost.
+use bits::count;
+use bits::put;
+use layers::advance;
+use situation::Shape;
+use situation::rows::heard_at;
+use situation::rows::passed;
+ghost use mathlib.Core.Path.{_≡_};
+ghost use lib.ListN.{length};
+ghost use Rattle.engine.specs.Forwarding.{Turn, Turned, Forwarding, Ended};
+
+// How the pass ends: a situation is left after the last instant, none is after some instant, or the budget is passed.
+pub enum Outcome {
+    Passed { cost: u64 },
+    Emptied { cost: u64, instant: u64 },
+    Spent { instant: u64 },
+}
+
+// Fills the row of instant t + 1 from that of t. The result is how many situations it has, the work of instant t + 2.
+fn instant<'a>(
+    table: &'a [u8],
+    offsets: &'a [u16],
+    recording: &'a [u8],
+    h: Shape,
+    scratch: &mut [u8],
+    row: usize,
+    size: usize,
+    t: usize,
+    i: usize,
+) -> u64
+    requires { ⌜ Turn (now table) (now offsets) (now recording) (now scratch) h row size t i ⌝ }
+    ensures { λ r. ⌜ Turned (now (table .entry)) (now (recording .entry)) (now (scratch .entry)) (now (scratch .exit)) row t i r ⌝ }
+{
+    let heard = heard_at(recording, i, t as u64 + 1);
+    advance(
+        table,
+        offsets,
+        h,
+        heard,
+        scratch,
+        8 * row * t,
+        8 * row * (t + 1),
+        size,
+    );
+    let from = row * (t + 1);
+    let to = from + row;
+    count(&scratch[from..to])
+}
+
+// Fills the rows of a zeroed scratch, instant by instant, to the end or to where none is left or the budget is passed.
+pub fn forward<'a>(
+    table: &'a [u8],
+    offsets: &'a [u16],
+    recording: &'a [u8],
+    h: Shape,
+    budget: u64,
+    scratch: &mut [u8],
+    row: usize,
+    size: usize,
+    last: usize,
+    first: usize,
+) -> Outcome
+    requires { ⌜ Forwarding (now table) (now offsets) (now recording) (now scratch) h row size last first ⌝ }
+    ensures { λ r. ⌜ (length (now (scratch .exit)) ≡ length (now (scratch .entry))) × Ended (now (table .entry)) (now (recording .entry)) (now (scratch .exit)) budget row last r ⌝ }
+{
+    put(scratch, first);
+    let mut cost: u64 = 0;
+    let mut work: u64 = 1;
+    let mut i = 0;
+    let mut t = 0;
+    while t < last {
+        let next = t as u64 + 1;
+        cost += work;
+        if budget < cost {
+            return Outcome::Spent { instant: next };
+        }
+        work = instant(table, offsets, recording, h, scratch, row, size, t, i);
+        if work == 0 {
+            return Outcome::Emptied {
+                cost,
+                instant: next,
+            };
+        }
+        i = passed(recording, i, next);
+        t += 1;
+    }
+    Outcome::Passed { cost }
+}

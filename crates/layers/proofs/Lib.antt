@@ -1,0 +1,4 @@
+mod Places
+mod Growing
+mod Moves
+mod Reaching

@@ -1,0 +1,26 @@
+// A row of bits that starts anywhere in lent bytes. The sum of its start and a number need not fit a usize, since bytes can have more than 2 ^ 64 bits:
+// so what is tested or put is counted from a byte near it.
+ghost use mathlib.Core.Path.{_≡_};
+ghost use Prim.Native.Nat.{_+_};
+ghost use Rattle.bits.specs.Member.{mem, PutIn};
+
+// Is z in the row? Nothing is past the end.
+pub fn has(s: &[u8], start: usize, z: usize) -> bool
+    ensures { λ r. ⌜ r ≡ mem (now (s .entry)) (start + z) ⌝ }
+{
+    let at = start / 8 + z / 8;
+    if s.len() < at {
+        return false;
+    }
+    bits::test(&s[at..], start % 8 + z % 8)
+}
+
+// Puts z into the row, where there is a place for it.
+pub fn put(s: &mut [u8], start: usize, z: usize)
+    ensures { λ r. ⌜ PutIn (start + z) (now (s .entry)) (now (s .exit)) ⌝ }
+{
+    let at = start / 8 + z / 8;
+    if at <= s.len() {
+        bits::put(&mut s[at..], start % 8 + z % 8);
+    }
+}

@@ -1,0 +1,69 @@
+-- Of a sound table, the monitor read straight from its bytes is the monitor that the table describes.
+use Prim.Native.Nat.{ℕ, zero, suc, _+_, _<_, _≤_, min}
+use native.Mathlib.Omega.{arith}
+use mathlib.Core.Path.{_≡_, refl, sym, ap, ap₂, _∙_}
+use mathlib.Core.List.{List, [], _∷_, _++_}
+use lib.ListN.{getD}
+use lib.Dec.{eqb}
+use Rattle.model.specs.Bytes.{byteAt, tab, padded}
+use Rattle.model.specs.Table.{guardIn, transitionIn, monitorOf, kindsAt, transitionsAt, kindAt, transitionAt, tableParts, SoundTable, monitorAt}
+use Rattle.model.proofs.Places.{getD-column}
+use Rattle.model.proofs.TableForm.{TableFacts, table-facts, guard-again}
+use Rattle.monitor.specs.From.{guardFrom, transitionFrom, monitorFrom, offsetsOf}
+
+tab-same : {A : Type 0} (f g : ℕ → A) (n : ℕ) → ((i : ℕ) → i < n → f i ≡ g i) → tab f n ≡ tab g n
+unfolding tab
+tab-same f g zero h = refl
+tab-same f g (suc n) h = ap₂ (λ l x. l ++ (x ∷ [])) (tab-same f g n (λ i p. h i (omega arith))) (h n (omega arith))
+
+module _ (b : List ℕ) (facts : TableFacts b) where
+  few : transitionsAt b ≤ 64
+  few = facts .counts .transitions
+
+  offset : (j : ℕ) → j < transitionsAt b → getD (offsetsOf b) j 0 ≡ transitionAt b j
+  unfolding offsetsOf
+  offset j h = getD-column 64 (transitionAt b) (min (transitionsAt b) 64) j (omega (arith, few))
+
+  column : (field j : ℕ) → j < transitionsAt b → byteAt b (transitionAt b j + field) ≡ byteAt (padded 64 (tab (λ i. byteAt b (transitionAt b i + field)) (transitionsAt b))) j
+  column field j h = sym (getD-column 64 (λ i. byteAt b (transitionAt b i + field)) (transitionsAt b) j h)
+
+  same : (j : ℕ) → j < transitionsAt b → transitionFrom b (transitionAt b j) ≡ transitionIn (tableParts b) j
+  unfolding transitionFrom transitionIn tableParts guardFrom
+  same j h =
+      let source : byteAt b (transitionAt b j) ≡ byteAt (padded 64 (tab (λ i. byteAt b (transitionAt b i + 0)) (transitionsAt b))) j =
+      ap (byteAt b) (omega arith) ∙ column 0 j h in
+      let guard : guardFrom b (transitionAt b j) ≡ guardIn (tableParts b) j = sym (guard-again b facts j h) in
+      λ i.
+      record {
+        source = source i;
+        target = column 1 j h i;
+        trigger = column 2 j h i;
+        sets = column 3 j h i;
+        clears = column 4 j h i;
+        resets = column 5 j h i;
+        guard = guard i;
+      }
+
+  kind-column : (field k : ℕ) → k < kindsAt b → byteAt b (kindAt k + field) ≡ byteAt (padded 32 (tab (λ i. byteAt b (kindAt i + field)) (kindsAt b))) k
+  kind-column field k h = sym (getD-column 32 (λ i. byteAt b (kindAt i + field)) (kindsAt b) k h)
+
+  described : monitorFrom b (offsetsOf b) ≡ monitorAt b
+  unfolding monitorFrom monitorOf tableParts
+  described =
+      let inbound = tab-same (λ k. eqb (byteAt b (kindAt k)) 1) (λ k. eqb (byteAt (tableParts b .directions) k) 1) (kindsAt b)
+      (λ k h. ap (λ (x : ℕ). eqb x 1) (ap (byteAt b) (omega arith) ∙ kind-column 0 k h)) in
+      let airtimes = tab-same (λ k. byteAt b (kindAt k + 1)) (λ k. byteAt (tableParts b .airtimes) k) (kindsAt b) (kind-column 1) in
+      let transitions = tab-same (λ j. transitionFrom b (getD (offsetsOf b) j 0)) (transitionIn (tableParts b)) (transitionsAt b)
+      (λ j h. ap (transitionFrom b) (offset j h) ∙ same j h) in
+      λ i.
+      record {
+        states = byteAt b 3;
+        variables = byteAt b 4;
+        clocks = byteAt b 5;
+        inbound = inbound i;
+        airtimes = airtimes i;
+        transitions = transitions i;
+      }
+
+pub monitor-from : (b : List ℕ) → SoundTable b → monitorFrom b (offsetsOf b) ≡ monitorAt b
+monitor-from b s = described b (table-facts b s)

@@ -1,0 +1,130 @@
+use mathlib.Core.List.{List}
+use Rattle.monitor.specs.From.{offsetsOf}
+use Prim.Native.Nat.{ℕ, suc, _+_, _*_, _-_, _≤_, min}
+use native.Mathlib.Omega.{arith}
+use native.Mathlib.Numerals.{add-one}
+use mathlib.Core.Path.{_≡_, refl, sym, ap, _∙_}
+use Rattle.model.specs.Bytes.{byteAt, tab, padded}
+use Rattle.model.specs.Table.{transitionsAt, transitionAt}
+use Rattle.codec.proofs.Filled.{padded-more}
+use borrow.Author.Needs.{needs}
+use Rattle.monitor.proofs.offsets.Statement.{statement}
+use Rattle.monitor.proofs.offsets.Tie as tie
+
+next-record : (b : List ℕ) (j at length : ℕ) → at ≡ transitionAt b j → length ≡ byteAt b (at + 6) → at + (7 + length) ≡ transitionAt b (j + 1)
+unfolding transitionAt
+next-record b j at length e g =
+    let h : length ≡ byteAt b (transitionAt b j + 6) = g ∙ ap (λ (k : ℕ). byteAt b (k + 6)) e in
+    let s : at + (7 + length) ≡ transitionAt b (suc j) = omega arith in
+    s ∙ ap (transitionAt b) (sym (add-one j))
+
+abbrev Inv-loop : tie.InvT-loop
+Inv-loop table found₀ count at₀ j₀ found at j = (j ≤ count) × (count ≡ min (transitionsAt table) 64) × (at ≡ transitionAt table j) × (at ≤ 518 + 262 * j) × (found ≡ padded 64 (tab (transitionAt table) j))
+
+abbrev μ-loop : tie.MeasureT-loop
+μ-loop table found₀ count at₀ j₀ found at j = count - j
+
+byte-requires : tie.Need-byte-requires Inv-loop μ-loop
+byte-requires c κs = search needs
+
+at-most-64-requires : tie.Need-at-most-64-requires Inv-loop μ-loop
+at-most-64-requires c κs = search needs
+
+byte-requires-2 : tie.Need-byte-requires-2 Inv-loop μ-loop
+byte-requires-2 c κs = search needs
+
+cast-at : tie.Need-cast-at Inv-loop μ-loop
+cast-at c = search needs
+
+mul-at : tie.Need-mul-at Inv-loop μ-loop
+mul-at c = search needs
+
+add-at : tie.Need-add-at Inv-loop μ-loop
+add-at c = search needs
+
+loop-holds : tie.Need-loop-holds Inv-loop μ-loop
+unfolding transitionAt tab padded
+loop-holds c = (
+  omega arith,
+  c .before .at-most-64 .ensures ∙ ap (λ (n : ℕ). min n 64) (c .before .before .byte .ensures .0),
+  ap (λ (n : ℕ). 8 + 2 * n) (c .byte2 .ensures .0),
+  omega arith,
+  refl,
+)
+
+mul-found : tie.Need-mul-found Inv-loop μ-loop
+mul-found c = search needs
+
+array-write-found : tie.Need-array-write-found Inv-loop μ-loop
+array-write-found c = search needs
+
+cast-byte : tie.Need-cast-byte Inv-loop μ-loop
+cast-byte c = search needs
+
+add-byte : tie.Need-add-byte Inv-loop μ-loop
+add-byte c = search needs
+
+byte-requires-3 : tie.Need-byte-requires-3 Inv-loop μ-loop
+byte-requires-3 c κs = search needs
+
+cast-at-2 : tie.Need-cast-at-2 Inv-loop μ-loop
+cast-at-2 c = search needs
+
+add-at-2 : tie.Need-add-at-2 Inv-loop μ-loop
+add-at-2 c = search needs
+
+add-at-3 : tie.Need-add-at-3 Inv-loop μ-loop
+add-at-3 c = search needs
+
+add-j : tie.Need-add-j Inv-loop μ-loop
+add-j c = search needs
+
+loop-less : tie.Need-loop-less Inv-loop μ-loop
+loop-less c = search needs
+
+loop-again : tie.Need-loop-again Inv-loop μ-loop
+loop-again c =
+    let l = c .before .before .loop in
+    let table = c .before .before .before .before .before .before .before .args .table .now in
+    let next : l .at + (7 + c .byte3 .result) ≡ transitionAt table (l .j + 1) =
+    next-record table (l .j) (l .at) (c .byte3 .result) (l .inv .2) (c .byte3 .ensures .0) in (
+      omega arith,
+      l .inv .1,
+      next,
+      omega arith,
+      padded-more 64 (transitionAt table) (l .j) (omega arith) (l .found) (l .at) (l .inv .4) (l .inv .2),
+    )
+
+returns : tie.Need-returns Inv-loop μ-loop
+unfolding offsetsOf
+returns c =
+    let l = c .before .loop in
+    let table = c .before .before .before .before .before .before .args .table .now in
+    let full : l .j ≡ min (transitionsAt table) 64 = omega arith in
+    l .inv .4 ∙ ap (λ (n : ℕ). padded 64 (tab (transitionAt table) n)) full
+
+pub offsets-spec : {M : Type 1} → statement M
+offsets-spec =
+    tie.close
+    (tie.spec
+    Inv-loop
+    μ-loop
+    byte-requires
+    at-most-64-requires
+    byte-requires-2
+    cast-at
+    mul-at
+    add-at
+    loop-holds
+    mul-found
+    array-write-found
+    cast-byte
+    add-byte
+    byte-requires-3
+    cast-at-2
+    add-at-2
+    add-at-3
+    add-j
+    loop-less
+    loop-again
+    returns)

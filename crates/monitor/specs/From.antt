@@ -1,0 +1,57 @@
+-- The monitor of a table's bytes, given where the transition records start. Of a sound table it is the monitor that the table describes.
+use Prim.Native.Nat.{ℕ, _+_, min}
+use mathlib.Core.List.{List, []}
+use mathlib.Core.Bool.{true, false, cond}
+use mathlib.Core.Option.{Option, none, some}
+use lib.ListN.{getD}
+use lib.Dec.{eqb}
+use Rattle.model.specs.Bytes.{byteAt, tab, padded}
+use Rattle.model.specs.Guard.{Guard, guardAt, guardOf}
+use Rattle.model.specs.Monitor.{Monitor, Transition, after}
+use Rattle.model.specs.Table.{statesAt, variablesAt, clocksAt, kindsAt, transitionsAt, guardLengthAt, kindAt, transitionAt}
+use Rattle.model.specs.declared.Config.{Config}
+use Rattle.monitor.specs.declared.Fired.{Fired}
+
+-- what a firing answers, tried from the configuration c; unfired, c stands there
+abbrev pub firing : Config → Option Config → Fired
+firing c none = record { fired = false; to = c }
+firing c (some d) = record { fired = true; to = d }
+
+abbrev pub firedOf : Fired → Option Config
+firedOf f = cond (f .fired) (some (f .to)) none
+
+-- the guard, and the transition, whose record starts at an offset
+
+unfoldable pub guardFrom : List ℕ → ℕ → Guard
+guardFrom b at = guardOf (guardAt 32 (variablesAt b) (clocksAt b) b (at + 7) (at + 7 + guardLengthAt b at))
+
+unfoldable pub transitionFrom : List ℕ → ℕ → Transition
+transitionFrom b at =
+    record {
+      source = byteAt b at;
+      target = byteAt b (at + 1);
+      trigger = byteAt b (at + 2);
+      sets = byteAt b (at + 3);
+      clears = byteAt b (at + 4);
+      resets = byteAt b (at + 5);
+      guard = guardFrom b at;
+    }
+
+unfoldable pub monitorFrom : List ℕ → List ℕ → Monitor
+monitorFrom b offsets =
+    record {
+      states = statesAt b;
+      variables = variablesAt b;
+      clocks = clocksAt b;
+      inbound = tab (λ k. eqb (byteAt b (kindAt k)) 1) (kindsAt b);
+      airtimes = tab (λ k. byteAt b (kindAt k + 1)) (kindsAt b);
+      transitions = tab (λ j. transitionFrom b (getD offsets j 0)) (transitionsAt b);
+    }
+
+-- where the transition records start: as many as the table counts, at most 64, and zeros behind them
+unfoldable pub offsetsOf : List ℕ → List ℕ
+offsetsOf b = padded 64 (tab (transitionAt b) (min (transitionsAt b) 64))
+
+-- the configuration after the transition whose record starts at an offset
+abbrev pub afterFrom : List ℕ → ℕ → Config → Config
+afterFrom b at c = after (monitorFrom b []) (transitionFrom b at) c

@@ -1,0 +1,149 @@
+// The monitor, straight from a table's bytes: which transition fires, and what a kind's record says. Each function takes any bytes.
+use codec::guard::guard_holds;
+use model::Config;
+use wire::byte;
+use wire::short;
+ghost use mathlib.Core.Path.{_≡_};
+ghost use mathlib.Core.List.{List};
+ghost use mathlib.Core.Bool.{cond};
+ghost use Prim.Native.Nat.{ℕ, _+_, _%_, _<_, min};
+ghost use lib.Dec.{eqb};
+ghost use Rattle.model.specs.Guard.{holds};
+ghost use Rattle.model.specs.Monitor.{changed, enabled, fires, toUnit, airtime};
+ghost use Rattle.monitor.specs.From.{firing, guardFrom, transitionFrom, monitorFrom, offsetsOf, afterFrom};
+
+// Whether a transition fired, and where it led; unfired, the configuration before.
+pub struct Fired {
+    pub fired: bool,
+    pub to: Config,
+}
+
+fn at_most_64(n: u8) -> usize
+    ensures { λ r. ⌜ r ≡ min n 64 ⌝ }
+{
+    if n < 64 { n as usize } else { 64 }
+}
+
+// Where the transition records start. Each record's length is known only from its own bytes.
+pub fn offsets(table: &[u8]) -> [u16; 64]
+    ensures { λ r. ⌜ r ≡ offsetsOf (now (table .entry)) ⌝ }
+{
+    let mut found = [0u16; 64];
+    let count = at_most_64(byte(table, 7));
+    let mut at = 8 + 2 * (byte(table, 6) as u16);
+    let mut j = 0;
+    while j < count {
+        found[j] = at;
+        at += 7 + byte(table, at as usize + 6) as u16;
+        j += 1;
+    }
+    found
+}
+
+pub fn to_unit(table: &[u8], kind: u8) -> bool
+    ensures { λ r. ⌜ ((offsets : List ℕ) → r ≡ toUnit (monitorFrom (now (table .entry)) offsets) kind) ⌝ }
+{
+    if byte(table, 6) <= kind {
+        return false;
+    }
+    byte(table, 8 + 2 * (kind as usize)) == 1
+}
+
+pub fn airtime_of(table: &[u8], kind: u8) -> u8
+    ensures { λ r. ⌜ ((offsets : List ℕ) → r ≡ airtime (monitorFrom (now (table .entry)) offsets) kind) ⌝ }
+{
+    if byte(table, 6) <= kind {
+        return 0;
+    }
+    byte(table, 8 + 2 * (kind as usize) + 1)
+}
+
+// The first n variables after some are set and some are cleared.
+fn variables_after(n: u8, v: u8, set: u8, clear: u8) -> u8
+    ensures { λ r. ⌜ r ≡ changed n v set clear ⌝ }
+{
+    let all = ((v | clear) ^ clear) | set;
+    if n < 8 { all % (1 << n) } else { all }
+}
+
+fn clock_after(mask: u8, reads: u16) -> u16
+    ensures { λ r. ⌜ r ≡ cond (eqb (mask % 2) 1) 0 reads ⌝ }
+{
+    if mask % 2 == 1 { 0 } else { reads }
+}
+
+// What firing the transition at an offset leaves.
+fn after_record(table: &[u8], at: usize, c: Config) -> Config
+    requires { ⌜ at < 65536 ⌝ }
+    ensures { λ r. ⌜ r ≡ afterFrom (now (table .entry)) at c ⌝ }
+{
+    let resets = byte(table, at + 5);
+    let clocks = c.clocks;
+    let first = clock_after(resets, clocks[0]);
+    let second = clock_after(resets / 2, clocks[1]);
+    let variables = variables_after(
+        byte(table, 4),
+        c.variables,
+        byte(table, at + 3),
+        byte(table, at + 4),
+    );
+    Config {
+        state: byte(table, at + 1),
+        variables,
+        clocks: [first, second],
+    }
+}
+
+fn guard_at_holds(table: &[u8], at: usize, c: Config) -> bool
+    requires { ⌜ at < 65536 ⌝ }
+    ensures { λ r. ⌜ r ≡ holds (guardFrom (now (table .entry)) at) (c .variables) (c .clocks) ⌝ }
+{
+    let clocks = c.clocks;
+    let start = at + 7;
+    let end = start + byte(table, at + 6) as usize;
+    guard_holds(
+        table,
+        start,
+        end,
+        byte(table, 4),
+        byte(table, 5),
+        c.variables,
+        &clocks,
+    )
+}
+
+fn is_enabled(table: &[u8], at: usize, kind: u8, c: Config) -> bool
+    requires { ⌜ at < 65536 ⌝ }
+    ensures { λ r. ⌜ r ≡ enabled (transitionFrom (now (table .entry)) at) kind c ⌝ }
+{
+    if byte(table, at) != c.state {
+        return false;
+    }
+    if byte(table, at + 2) != kind {
+        return false;
+    }
+    guard_at_holds(table, at, c)
+}
+
+// Transition j on a packet of a kind.
+pub fn fire<'a>(table: &'a [u8], offsets: &'a [u16], j: usize, kind: u8, c: Config) -> Fired
+    ensures { λ r. ⌜ r ≡ firing c (fires (monitorFrom (now (table .entry)) (now (offsets .entry))) j kind c) ⌝ }
+{
+    if byte(table, 7) as usize <= j {
+        return Fired {
+            fired: false,
+            to: c,
+        };
+    }
+    let at = short(offsets, j) as usize;
+    if is_enabled(table, at, kind, c) {
+        return Fired {
+            fired: true,
+            to: after_record(table, at, c),
+        };
+    }
+    Fired {
+        fired: false,
+        to: c,
+    }
+}

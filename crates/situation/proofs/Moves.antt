@@ -1,0 +1,230 @@
+-- What each test of the step's code settles of the model's step.
+use Prim.Native.Nat.{ℕ, _+_, _-_, _<_, _≤_}
+use native.Mathlib.Decide.{decLt}
+use native.Mathlib.Omega.{arith}
+use mathlib.Core.Path.{_≡_, refl, sym, ap, _∙_}
+use mathlib.Core.List.{List}
+use mathlib.Core.Bool.{Bool, true, false, cond, _&&_}
+use mathlib.Core.Option.{Option, none, some, Option·map, bind}
+use lib.ListN.{getD, getElem?}
+use lib.Dec.{eqb}
+use borrow.Author.Tests.{eq-eqb, ne-eqb, lt-ltb, le-ltb}
+use Rattle.model.specs.Bytes.{byteAt}
+use Rattle.model.specs.Guard.{holds}
+use Rattle.model.specs.Monitor.{Monitor, Transition, fires, airtime, toUnit, after}
+use Rattle.model.specs.Table.{transitionsAt}
+use Rattle.model.specs.Situation.{keep, rest, add, configOf, withAir, tick, sent, triggerOf, moved, stepBy, moveOf}
+use Rattle.model.specs.declared.Config.{Config}
+use Rattle.model.specs.declared.Situation.{Situation}
+use Rattle.model.proofs.Basics.{getElem-tab, getElem-tab-past}
+use Rattle.model.proofs.Numbering.{outcome}
+use Rattle.monitor.specs.From.{firing, monitorFrom, transitionFrom}
+use Rattle.monitor.specs.declared.Fired.{Fired}
+use Rattle.situation.specs.declared.Shape.{Shape}
+use Rattle.situation.specs.declared.Next.{Next}
+use Rattle.situation.specs.Steps.{leading, nextOf, cappedBy, tickedBy, stepped, sentBy, triggerFrom, mayAdd}
+
+pub next-leading : (s : Situation) (o : Option Situation) → nextOf (leading s o) ≡ o
+next-leading s none = refl
+next-leading s (some x) = refl
+
+abbrev nowhere : Situation → Next
+nowhere s = record { leads = false; to = s }
+
+abbrev there : Situation → Next
+there x = record { leads = true; to = x }
+
+-- the tick
+
+pub still-ticked : (h : Shape) (s : Situation) (air : ℕ) → air ≡ s .air - 1 → tickedBy h (configOf s) air ≡ tick (cappedBy h) s
+still-ticked h s air e = ap (tickedBy h (configOf s)) e
+
+-- a sent row
+
+neither : {A : Type 0} (b : Bool) → cond {A = Option A} b none none ≡ none
+neither true = refl
+neither false = refl
+
+when-fired : (c : Config) (o : Option Config) → firing c o .fired ≡ true → o ≡ some (firing c o .to)
+when-fired c none e = cc
+when-fired c (some d) e = refl
+
+when-unfired : (c : Config) (o : Option Config) → firing c o .fired ≡ false → o ≡ none
+when-unfired c none e = refl
+when-unfired c (some d) e = cc
+
+module _ (h : Shape) (m : Monitor) (j k : ℕ) (s : Situation) where
+  sent-taken : (s .air ≡ 0 → ⊥) → sent m j k s ≡ none
+  unfolding sent
+  sent-taken e = simp (ne-eqb (s .air) 0 e)
+
+  sent-nowhere : (s .air ≡ 0 → ⊥) → nowhere s ≡ sentBy h m j k s
+  unfolding sentBy
+  sent-nowhere e = ap (λ (o : Option Situation). leading s (Option·map (tick (cappedBy h)) o)) (sym (sent-taken e))
+
+  -- the row takes the air for its airtime, once the tick is past
+  sent-free : s .air ≡ 0 → (o : Option Config) → fires m j k (configOf s) ≡ o → sentBy h m j k s ≡ leading s (Option·map (λ c. tickedBy h c (airtime m k)) o)
+  unfolding sentBy sent
+  sent-free free o e =
+      ap (λ (b : Bool). leading s (Option·map (tick (cappedBy h)) (cond b (Option·map (λ c. withAir c (airtime m k + 1)) (fires m j k (configOf s))) none))) (eq-eqb (s .air) 0 free)
+      ∙ ap (λ (p : Option Config). leading s (Option·map (tick (cappedBy h)) (Option·map (λ c. withAir c (airtime m k + 1)) p))) e
+      ∙ on o
+    where
+      on : (p : Option Config) → leading s (Option·map (tick (cappedBy h)) (Option·map (λ c. withAir c (airtime m k + 1)) p)) ≡ leading s (Option·map (λ c. tickedBy h c (airtime m k)) p)
+      on none = refl
+      on (some c) = ap (λ (air : ℕ). there (tickedBy h c air)) (omega arith)
+
+  module _ (free : s .air ≡ 0) (c : Config) (same : c ≡ configOf s) (f : Fired) (answer : f ≡ firing c (fires m j k c)) where
+    pub sent-fired : f .fired ≡ true → there (tickedBy h (f .to) (airtime m k)) ≡ sentBy h m j k s
+    sent-fired e =
+        sym
+        (sent-free free (some (f .to))
+        (ap (fires m j k) (sym same)
+        ∙ when-fired c (fires m j k c) (ap (λ (g : Fired). g .fired) (sym answer) ∙ e)
+        ∙ ap (λ (g : Fired). some (g .to)) (sym answer)))
+
+    pub sent-unfired : f .fired ≡ false → nowhere s ≡ sentBy h m j k s
+    sent-unfired e =
+        sym (sent-free free none (ap (fires m j k) (sym same) ∙ when-unfired c (fires m j k c) (ap (λ (g : Fired). g .fired) (sym answer) ∙ e)))
+
+  pub kept-row : sentBy h m j k s ≡ stepped h m (some k) s (keep j)
+  unfolding sentBy stepped stepBy moved
+  kept-row = refl
+
+  -- a transition from another state sends nothing
+  sent-elsewhere : (t : Transition) → getElem? (m .transitions) j ≡ some t → eqb (t .source) (s .state) ≡ false → sent m j k s ≡ none
+  unfolding sent fires bind
+  sent-elsewhere t listed other =
+      let answer : Option Config → Option Situation = λ o. cond (eqb (s .air) 0) (Option·map (λ c. withAir c (airtime m k + 1)) o) none in
+      ap (λ (o : Option Transition). answer (bind o (outcome m k (configOf s)))) listed
+      ∙ ap (λ (b : Bool). answer (cond (b && eqb (t .trigger) k && holds (t .guard) (s .variables) (s .clocks)) (some (after m t (configOf s))) none)) other
+      ∙ neither (eqb (s .air) 0)
+
+kept-taken : (h : Shape) (m : Monitor) (s : Situation) (j : ℕ) → (s .air ≡ 0 → ⊥) → (recorded : Option ℕ) → nowhere s ≡ stepped h m recorded s (keep j)
+unfolding stepped stepBy moved sentBy
+kept-taken h m s j e none = refl
+kept-taken h m s j e (some k) = sent-nowhere h m j k s e
+
+module _ (h : Shape) (m : Monitor) (s : Situation) where
+  pub kept-nothing : (j : ℕ) → nowhere s ≡ stepped h m none s (keep j)
+  unfolding stepped stepBy moved
+  kept-nothing j = refl
+
+  pub rested-nothing : there (tick (cappedBy h) s) ≡ stepped h m none s rest
+  unfolding stepped stepBy moved
+  rested-nothing = refl
+
+  pub rested-removed : (k : ℕ) → toUnit m k ≡ true → there (tick (cappedBy h) s) ≡ stepped h m (some k) s rest
+  unfolding stepped stepBy moved
+  rested-removed k e = simp e
+
+  pub rested-not : (k : ℕ) → toUnit m k ≡ false → nowhere s ≡ stepped h m (some k) s rest
+  unfolding stepped stepBy moved
+  rested-not k e = simp e
+
+-- an added row
+
+abbrev addedOf : Monitor → Option ℕ → Situation → ℕ → ℕ → Option Situation
+addedOf m recorded s j a = cond (mayAdd m recorded a) (sent m j a s) none
+
+added-any : (m : Monitor) (s : Situation) (j : ℕ) (recorded : Option ℕ) → moved m recorded s (add j) ≡ bind (triggerOf m j) (addedOf m recorded s j)
+unfolding moved
+added-any m s j none = refl
+added-any m s j (some k) = refl
+
+module _ (h : Shape) (m : Monitor) (recorded : Option ℕ) (s : Situation) (j : ℕ) where
+  -- a transition from another state is as none
+  same-source : (o : Option Transition) → getElem? (m .transitions) j ≡ o → bind (Option·map (λ t. t .trigger) o) (addedOf m recorded s j) ≡ bind (bind o (λ t. cond (eqb (t .source) (s .state)) (some (t .trigger)) none)) (addedOf m recorded s j)
+  unfolding bind
+  same-source none e = refl
+  same-source (some t) e = on (eqb (t .source) (s .state)) refl
+    where
+      on : (b : Bool) → eqb (t .source) (s .state) ≡ b → addedOf m recorded s j (t .trigger) ≡ bind (cond b (some (t .trigger)) none) (addedOf m recorded s j)
+      on true q = refl
+      on false q =
+          ap (λ (o : Option Situation). cond (mayAdd m recorded (t .trigger)) o none) (sent-elsewhere h m j (t .trigger) s t e q)
+          ∙ neither (mayAdd m recorded (t .trigger))
+
+  abbrev Added : Option ℕ → Next
+  Added o = leading s (Option·map (tick (cappedBy h)) (bind o (addedOf m recorded s j)))
+
+  added-by : stepped h m recorded s (add j) ≡ Added (triggerFrom m (s .state) j)
+  unfolding stepped stepBy triggerFrom
+  added-by = ap (λ (o : Option Situation). leading s (Option·map (tick (cappedBy h)) o)) (added-any m s j recorded ∙ same-source (getElem? (m .transitions) j) refl)
+
+  added-taken : (s .air ≡ 0 → ⊥) → nowhere s ≡ stepped h m recorded s (add j)
+  unfolding bind
+  added-taken e = sym (added-by ∙ on (triggerFrom m (s .state) j))
+    where
+      on : (o : Option ℕ) → Added o ≡ nowhere s
+      on none = refl
+      on (some a) =
+          ap (λ (o : Option Situation). leading s (Option·map (tick (cappedBy h)) (cond (mayAdd m recorded a) o none))) (sent-taken h m j a s e)
+          ∙ ap (λ (o : Option Situation). leading s (Option·map (tick (cappedBy h)) o)) (neither (mayAdd m recorded a))
+
+  pub added-none : triggerFrom m (s .state) j ≡ none → nowhere s ≡ stepped h m recorded s (add j)
+  unfolding bind
+  added-none e = sym (added-by ∙ ap Added e)
+
+  module _ (a : ℕ) (fired : triggerFrom m (s .state) j ≡ some a) where
+    pub added-row : mayAdd m recorded a ≡ true → sentBy h m j a s ≡ stepped h m recorded s (add j)
+    unfolding bind sentBy
+    added-row e = sym (added-by ∙ ap Added fired ∙ ap (λ (b : Bool). leading s (Option·map (tick (cappedBy h)) (cond b (sent m j a s) none))) e)
+
+    pub added-not : mayAdd m recorded a ≡ false → nowhere s ≡ stepped h m recorded s (add j)
+    unfolding bind
+    added-not e = sym (added-by ∙ ap Added fired ∙ ap (λ (b : Bool). leading s (Option·map (tick (cappedBy h)) (cond b (sent m j a s) none))) e)
+
+-- the kind on which a transition of a table's bytes fires from a state
+
+module _ (b offsets : List ℕ) (state j : ℕ) where
+  pub trigger-past : transitionsAt b ≤ j → none ≡ triggerFrom (monitorFrom b offsets) state j
+  unfolding triggerFrom monitorFrom bind
+  trigger-past h = rw (getElem-tab-past (λ i. transitionFrom b (getD offsets i 0)) (transitionsAt b) j h)
+
+  module _ (at : ℕ) (within : j < transitionsAt b) (placed : at ≡ getD offsets j 0) where
+    trigger-at : cond (eqb (byteAt b at) state) (some (byteAt b (at + 2))) none ≡ triggerFrom (monitorFrom b offsets) state j
+    unfolding triggerFrom monitorFrom transitionFrom bind
+    trigger-at = rw (getElem-tab (λ i. transitionFrom b (getD offsets i 0)) (transitionsAt b) j within, placed)
+
+    pub trigger-here : byteAt b at ≡ state → some (byteAt b (at + 2)) ≡ triggerFrom (monitorFrom b offsets) state j
+    trigger-here e = ap (λ (x : Bool). cond x (some (byteAt b (at + 2))) none) (sym (eq-eqb (byteAt b at) state e)) ∙ trigger-at
+
+    pub trigger-elsewhere : (byteAt b at ≡ state → ⊥) → none ≡ triggerFrom (monitorFrom b offsets) state j
+    trigger-elsewhere e = ap (λ (x : Bool). cond x (some (byteAt b (at + 2))) none) (sym (ne-eqb (byteAt b at) state e)) ∙ trigger-at
+
+pub may-not : (m : Monitor) (k a : ℕ) → a ≡ k → false ≡ mayAdd m (some k) a
+may-not m k a e = rw (eq-eqb a k e) (on (toUnit m k))
+  where
+    on : (x : Bool) → false ≡ x && false
+    on true = refl
+    on false = refl
+
+pub may-other : (m : Monitor) (k a : ℕ) → (a ≡ k → ⊥) → toUnit m k ≡ mayAdd m (some k) a
+may-other m k a e = rw (ne-eqb a k e) (on (toUnit m k))
+  where
+    on : (x : Bool) → x ≡ x && true
+    on true = refl
+    on false = refl
+
+-- moves by number
+
+pub move-keep : (k : ℕ) → k < 64 → moveOf k ≡ keep k
+unfolding moveOf
+move-keep k h = simp (lt-ltb k 64 h)
+
+pub move-rest : (k : ℕ) → k ≡ 64 → moveOf k ≡ rest
+unfolding moveOf
+move-rest k e = ap moveOf e
+
+pub move-add : (k : ℕ) → 64 ≤ k → (k ≡ 64 → ⊥) → moveOf k ≡ add (k - 65)
+unfolding moveOf
+move-add k h e = simp (le-ltb k 64 h, ne-eqb k 64 e)
+
+-- where the air is taken, only the move without a row leads somewhere
+pub taken-nowhere : (h : Shape) (m : Monitor) (recorded : Option ℕ) (s : Situation) (k : ℕ) → (k ≡ 64 → ⊥) → (s .air ≡ 0 → ⊥) → nowhere s ≡ stepped h m recorded s (moveOf k)
+taken-nowhere h m recorded s k row e = on (decLt k 64)
+  where
+    on : Dec (k < 64) → nowhere s ≡ stepped h m recorded s (moveOf k)
+    on (yes l) = kept-taken h m s k e recorded ∙ ap (stepped h m recorded s) (sym (move-keep k l))
+    on (no l) = added-taken h m recorded s (k - 65) e ∙ ap (stepped h m recorded s) (sym (move-add k (omega arith) row))

@@ -1,0 +1,58 @@
+-- A situation's number by a shape, and back: mixed radix, the first digit the lowest.
+use Prim.Native.Nat.{ℕ, _+_, _*_, _/_, _%_, _^_}
+use mathlib.Core.Path.{_≡_}
+use mathlib.Core.List.{[], _∷_}
+use mathlib.Core.Bool.{cond}
+use lib.ListN.{getD}
+use lib.Dec.{leb, eqb}
+use Rattle.model.specs.Monitor.{Monitor}
+use Rattle.model.specs.Size.{cap}
+use Rattle.model.specs.Table.{monitorOf}
+use Rattle.model.specs.declared.TableParts.{TableParts}
+use Rattle.model.specs.declared.Situation.{Situation}
+use Rattle.situation.specs.declared.Shape.{Shape}
+
+-- the shape of a monitor's situations
+pub record Fits (h : Shape) (m : Monitor) : Type 0 where
+  pub states : h .states ≡ m .states
+  pub masks : h .masks ≡ 2 ^ m .variables
+  pub first : h .first ≡ cap m 0 + 1
+  pub second : h .second ≡ cap m 1 + 1
+
+-- 2 to the number of variables, of which a table has at most 4; 0 for more
+unfoldable pub masksOf : ℕ → ℕ
+masksOf variables = cond (leb variables 4) (2 ^ variables) 0
+
+unfoldable pub shapeOf : TableParts → Shape
+shapeOf t =
+    record {
+      states = t .states;
+      masks = masksOf (t .variables);
+      first = cap (monitorOf t) 0 + 1;
+      second = cap (monitorOf t) 1 + 1;
+    }
+
+unfoldable pub numberBy : Shape → Situation → ℕ
+numberBy h s =
+    s .state
+    + h .states * (s .variables + h .masks * (getD (s .clocks) 0 0 + h .first * (getD (s .clocks) 1 0 + h .second * s .air)))
+
+-- the lowest digit, and the number above it; 0 where the radix is 0
+unfoldable pub digitBy : ℕ → ℕ → ℕ
+digitBy radix n = cond (eqb radix 0) 0 (n % radix)
+
+unfoldable pub restBy : ℕ → ℕ → ℕ
+restBy radix n = cond (eqb radix 0) 0 (n / radix)
+
+-- any number gives a situation whose fields fit their types
+unfoldable pub situationBy : Shape → ℕ → Situation
+situationBy h n =
+    record {
+      state = digitBy (h .states) n;
+      variables = digitBy (h .masks) (restBy (h .states) n);
+      clocks =
+          digitBy (h .first) (restBy (h .masks) (restBy (h .states) n))
+          ∷ digitBy (h .second) (restBy (h .first) (restBy (h .masks) (restBy (h .states) n)))
+          ∷ [];
+      air = restBy (h .second) (restBy (h .first) (restBy (h .masks) (restBy (h .states) n))) % 256;
+    }

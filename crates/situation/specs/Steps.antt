@@ -1,0 +1,46 @@
+-- One step on situations by a shape.
+use Prim.Native.Nat.{ℕ, _+_, _-_, min}
+use mathlib.Core.List.{List, [], _∷_, map}
+use mathlib.Core.Bool.{Bool, true, false, cond, not, _&&_}
+use mathlib.Core.Option.{Option, none, some, Option·map, bind}
+use lib.ListN.{getD, getElem?}
+use lib.Dec.{eqb}
+use Rattle.model.specs.Monitor.{Monitor, toUnit}
+use Rattle.model.specs.Situation.{Move, tick, sent, stepBy}
+use Rattle.model.specs.declared.Config.{Config}
+use Rattle.model.specs.declared.Situation.{Situation}
+use Rattle.situation.specs.declared.Shape.{Shape}
+use Rattle.situation.specs.declared.Next.{Next}
+
+-- what a step from situation s answers; where it leads nowhere, s stands there
+abbrev pub leading : Situation → Option Situation → Next
+leading s none = record { leads = false; to = s }
+leading s (some x) = record { leads = true; to = x }
+
+abbrev pub nextOf : Next → Option Situation
+nextOf n = cond (n .leads) (some (n .to)) none
+
+-- clocks as they are written by a shape
+unfoldable pub cappedBy : Shape → List ℕ → List ℕ
+cappedBy h c = min (getD c 0 0) (h .first - 1) ∷ min (getD c 1 0) (h .second - 1) ∷ []
+
+-- a configuration one tick later, with the ticks for which the air is then taken
+abbrev pub tickedBy : Shape → Config → ℕ → Situation
+tickedBy h c air =
+    record { state = c .state; variables = c .variables; clocks = cappedBy h (map (λ x. x + 1) (c .clocks)); air = air }
+
+-- the model's step, with clocks written by a shape
+unfoldable pub stepped : Shape → Monitor → Option ℕ → Situation → Move → Next
+stepped h m recorded s a = leading s (stepBy m (cappedBy h) recorded s a)
+
+-- its parts: a sent row and then the tick; the kind on which a transition fires from a state; whether a row of a kind may be added
+
+unfoldable pub sentBy : Shape → Monitor → (j k : ℕ) → Situation → Next
+sentBy h m j k s = leading s (Option·map (tick (cappedBy h)) (sent m j k s))
+
+unfoldable pub triggerFrom : Monitor → (state j : ℕ) → Option ℕ
+triggerFrom m state j = bind (getElem? (m .transitions) j) (λ t. cond (eqb (t .source) state) (some (t .trigger)) none)
+
+abbrev pub mayAdd : Monitor → Option ℕ → ℕ → Bool
+mayAdd m none a = true
+mayAdd m (some k) a = toUnit m k && not (eqb a k)

@@ -1,0 +1,87 @@
+// A situation's number: its parts as digits, the first the lowest.
+use crate::Shape;
+use codec::size::largest_bound;
+use model::Situation;
+use model::TableParts;
+use wire::short;
+ghost use mathlib.Core.Path.{_≡_};
+ghost use Prim.Native.Nat.{_+_, _*_, _≤_, _<_};
+ghost use Rattle.model.specs.Size.{cap};
+ghost use Rattle.model.specs.Table.{monitorOf};
+ghost use Rattle.situation.specs.Numbering.{masksOf, shapeOf, digitBy, restBy, numberBy, situationBy};
+
+fn masks_of(variables: u8) -> u8
+    ensures { λ r. ⌜ r ≡ masksOf variables ⌝ }
+{
+    if variables <= 4 { 1 << variables } else { 0 }
+}
+
+// The values at which a clock is written.
+fn values_of(t: TableParts, clock: usize) -> u16
+    ensures { λ r. ⌜ r ≡ cap (monitorOf t) clock + 1 ⌝ }
+{
+    if clock < t.clocks as usize {
+        return (largest_bound(t, clock) + 2) as u16;
+    }
+    1
+}
+
+pub fn shape_of(t: TableParts) -> Shape
+    ensures { λ r. ⌜ r ≡ shapeOf t ⌝ }
+{
+    Shape {
+        states: t.states,
+        masks: masks_of(t.variables),
+        first: values_of(t, 0),
+        second: values_of(t, 1),
+    }
+}
+
+// A digit below what stands above it.
+fn over(digit: u16, radix: u16, above: u64) -> u64
+    requires { ⌜ above < 281474976710656 ⌝ }
+    ensures { λ r. ⌜ r ≡ digit + radix * above ⌝ }
+{
+    digit as u64 + radix as u64 * above
+}
+
+pub fn number(h: Shape, s: Situation) -> u64
+    ensures { λ r. ⌜ r ≡ numberBy h s ⌝ }
+{
+    let first = short(&s.clocks, 0);
+    let second = short(&s.clocks, 1);
+    let clocks = over(first, h.first, over(second, h.second, s.air as u64));
+    let variables = over(s.variables as u16, h.masks as u16, clocks);
+    over(s.state as u16, h.states as u16, variables)
+}
+
+fn digit(radix: u64, n: u64) -> u64
+    ensures { λ r. ⌜ (r ≡ digitBy radix n) × (r ≤ radix) ⌝ }
+{
+    if radix == 0 { 0 } else { n % radix }
+}
+
+fn rest(radix: u64, n: u64) -> u64
+    ensures { λ r. ⌜ r ≡ restBy radix n ⌝ }
+{
+    if radix == 0 { 0 } else { n / radix }
+}
+
+pub fn situation_of(h: Shape, n: u64) -> Situation
+    ensures { λ r. ⌜ r ≡ situationBy h n ⌝ }
+{
+    let states = h.states as u64;
+    let masks = h.masks as u64;
+    let first = h.first as u64;
+    let second = h.second as u64;
+    let above = rest(states, n);
+    let clocks = rest(masks, above);
+    let last = rest(first, clocks);
+    let read = [digit(first, clocks) as u16, digit(second, last) as u16];
+    Situation {
+        state: digit(states, n) as u8,
+        variables: digit(masks, above) as u8,
+        clocks: read,
+        air: (rest(second, last) % 256) as u8,
+    }
+}

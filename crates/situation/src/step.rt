@@ -1,0 +1,224 @@
+// One step: a move and then one tick.
+use crate::Arrival;
+use crate::Heard;
+use crate::Next;
+use crate::Shape;
+use crate::numbering::number;
+use model::Config;
+use model::Situation;
+use monitor::airtime_of;
+use monitor::fire;
+use monitor::to_unit;
+use wire::byte;
+use wire::short;
+ghost use mathlib.Core.Path.{_≡_};
+ghost use mathlib.Core.List.{List};
+ghost use mathlib.Core.Option.{none};
+ghost use Prim.Native.Nat.{ℕ, _+_, _-_, min};
+ghost use Rattle.model.specs.Situation.{keep, rest, add, configOf, tick, moveOf};
+ghost use Rattle.monitor.specs.From.{monitorFrom};
+ghost use Rattle.situation.specs.Rows.{heardOf};
+ghost use Rattle.situation.specs.Stepping.{arrivalOf, arriveFrom};
+ghost use Rattle.situation.specs.Steps.{leading, cappedBy, tickedBy, sentBy, triggerFrom, mayAdd, stepped};
+
+// A clock one tick later, where it has that many values.
+fn clock_ticked(reads: u16, values: u16) -> u16
+    ensures { λ r. ⌜ r ≡ min (reads + 1) (values - 1) ⌝ }
+{
+    if values < 2 {
+        return 0;
+    }
+    if reads < values - 1 {
+        reads + 1
+    } else {
+        values - 1
+    }
+}
+
+// A configuration one tick later, with the ticks for which the air is then taken.
+fn ticked(h: Shape, c: Config, air: u8) -> Situation
+    ensures { λ r. ⌜ r ≡ tickedBy h c air ⌝ }
+{
+    let clocks = c.clocks;
+    let first = clock_ticked(clocks[0], h.first);
+    let second = clock_ticked(clocks[1], h.second);
+    Situation {
+        state: c.state,
+        variables: c.variables,
+        clocks: [first, second],
+        air,
+    }
+}
+
+fn config_of(s: Situation) -> Config
+    ensures { λ r. ⌜ r ≡ configOf s ⌝ }
+{
+    let clocks = s.clocks;
+    Config {
+        state: s.state,
+        variables: s.variables,
+        clocks,
+    }
+}
+
+// Nothing is sent.
+fn still(h: Shape, s: Situation) -> Situation
+    ensures { λ r. ⌜ r ≡ tick (cappedBy h) s ⌝ }
+{
+    if s.air == 0 {
+        return ticked(h, config_of(s), 0);
+    }
+    ticked(h, config_of(s), s.air - 1)
+}
+
+fn nowhere(s: Situation) -> Next
+    ensures { λ r. ⌜ r ≡ leading s none ⌝ }
+{
+    Next {
+        leads: false,
+        to: s,
+    }
+}
+
+// A row of a kind is sent by transition j, where the air is free.
+fn sent<'a>(table: &'a [u8], offsets: &'a [u16], h: Shape, j: usize, kind: u8, s: Situation) -> Next
+    requires { ⌜ s .air ≡ 0 ⌝ }
+    ensures { λ r. ⌜ r ≡ sentBy h (monitorFrom (now (table .entry)) (now (offsets .entry))) j kind s ⌝ }
+{
+    let f = fire(table, offsets, j, kind, config_of(s));
+    if f.fired {
+        let c = f.to;
+        let to = ticked(h, c, airtime_of(table, kind));
+        return Next { leads: true, to };
+    }
+    nowhere(s)
+}
+
+// The kind on which transition j fires, if it does from a state.
+fn trigger_from<'a>(table: &'a [u8], offsets: &'a [u16], state: u8, j: usize) -> Heard
+    ensures { λ r. ⌜ heardOf r ≡ triggerFrom (monitorFrom (now (table .entry)) (now (offsets .entry))) state j ⌝ }
+{
+    if byte(table, 7) as usize <= j {
+        return Heard::Nothing;
+    }
+    let at = short(offsets, j) as usize;
+    if byte(table, at) == state {
+        return Heard::Kind(byte(table, at + 2));
+    }
+    Heard::Nothing
+}
+
+// A row of a kind may be added: what is recorded there, if anything, is of another kind and can be removed.
+fn may_add(table: &[u8], heard: Heard, kind: u8) -> bool
+    ensures { λ r. ⌜ ((offsets : List ℕ) → r ≡ mayAdd (monitorFrom (now (table .entry)) offsets) (heardOf heard) kind) ⌝ }
+{
+    match heard {
+        Heard::Nothing => true,
+        Heard::Kind(removed) => {
+            if kind == removed {
+                return false;
+            }
+            to_unit(table, removed)
+        }
+    }
+}
+
+fn kept<'a>(
+    table: &'a [u8],
+    offsets: &'a [u16],
+    h: Shape,
+    heard: Heard,
+    s: Situation,
+    j: usize,
+) -> Next
+    requires { ⌜ s .air ≡ 0 ⌝ }
+    ensures { λ r. ⌜ r ≡ stepped h (monitorFrom (now (table .entry)) (now (offsets .entry))) (heardOf heard) s (keep j) ⌝ }
+{
+    match heard {
+        Heard::Nothing => nowhere(s),
+        Heard::Kind(kind) => sent(table, offsets, h, j, kind, s),
+    }
+}
+
+fn rested(table: &[u8], h: Shape, heard: Heard, s: Situation) -> Next
+    ensures { λ r. ⌜ ((offsets : List ℕ) → r ≡ stepped h (monitorFrom (now (table .entry)) offsets) (heardOf heard) s rest) ⌝ }
+{
+    match heard {
+        Heard::Nothing => Next {
+            leads: true,
+            to: still(h, s),
+        },
+        Heard::Kind(kind) => {
+            if to_unit(table, kind) {
+                return Next {
+                    leads: true,
+                    to: still(h, s),
+                };
+            }
+            nowhere(s)
+        }
+    }
+}
+
+fn added<'a>(
+    table: &'a [u8],
+    offsets: &'a [u16],
+    h: Shape,
+    heard: Heard,
+    s: Situation,
+    j: usize,
+) -> Next
+    requires { ⌜ s .air ≡ 0 ⌝ }
+    ensures { λ r. ⌜ r ≡ stepped h (monitorFrom (now (table .entry)) (now (offsets .entry))) (heardOf heard) s (add j) ⌝ }
+{
+    let trigger = trigger_from(table, offsets, s.state, j);
+    let Heard::Kind(kind) = trigger else {
+        return nowhere(s);
+    };
+    if may_add(table, heard, kind) {
+        return sent(table, offsets, h, j, kind, s);
+    }
+    nowhere(s)
+}
+
+// The step by move k: below 64 keep by that transition, 64 nothing, from 65 on add by transition k - 65.
+pub fn next<'a>(
+    table: &'a [u8],
+    offsets: &'a [u16],
+    h: Shape,
+    heard: Heard,
+    s: Situation,
+    k: usize,
+) -> Next
+    ensures { λ r. ⌜ r ≡ stepped h (monitorFrom (now (table .entry)) (now (offsets .entry))) (heardOf heard) s (moveOf k) ⌝ }
+{
+    if k == 64 {
+        return rested(table, h, heard, s);
+    }
+    if s.air != 0 {
+        return nowhere(s);
+    }
+    if k < 64 {
+        return kept(table, offsets, h, heard, s, k);
+    }
+    added(table, offsets, h, heard, s, k - 65)
+}
+
+// The same step on numbers.
+pub fn arrive<'a>(
+    table: &'a [u8],
+    offsets: &'a [u16],
+    h: Shape,
+    heard: Heard,
+    s: Situation,
+    k: usize,
+) -> Arrival
+    ensures { λ r. ⌜ arrivalOf r ≡ arriveFrom (now (table .entry)) (now (offsets .entry)) h (heardOf heard) s k ⌝ }
+{
+    let n = next(table, offsets, h, heard, s, k);
+    if n.leads {
+        let to = n.to;
+        return Arrival::At(number(h, to));
+    }
+    Arrival::Nowhere
+}
