@@ -1,0 +1,50 @@
+use borrow.Author.Needs.{needs}
+use native.Mathlib.Omega.{arith}
+use Rattle.rewrite.proofs.Again.{recording-refused, recording-rewritten}
+use Rattle.rewrite.proofs.rewrite_recording.Statement.{statement}
+use Rattle.rewrite.proofs.rewrite_recording.Tie as tie
+use Rattle.rewrite.proofs.rewrite_recording.Reads as reads
+use Rattle.rewrite.proofs.rewrite_recording.Lts as lts
+use Rattle.codec.proofs.recording.read_recording.Reads as read-recording-reads
+use Rattle.codec.proofs.recording.write_recording.Reads as write-recording-reads
+
+-- src/lib.rt:31:9
+read-recording-requires : tie.Need-read-recording-requires
+read-recording-requires c κs = search needs
+
+-- src/lib.rt:33:29
+enum-known-answer : tie.Need-enum-known-answer
+enum-known-answer c = search needs
+
+-- src/lib.rt:34:9
+returns : tie.Need-returns
+returns c = recording-refused _ _ _ (λ i. omega (arith, c .before .before .before .before .before .shared-slice-known2 .given i)) _ (c .before .before .before .read-recording .ensures) _ (c .before .answer .given .1)
+
+enum-told : tie.Need-enum-told
+enum-told c = search needs
+
+-- src/lib.rt:37:5
+write-recording-requires : tie.Need-write-recording-requires
+write-recording-requires c κs = search needs
+
+-- src/lib.rt:28:1
+same-length : tie.Need-same-length
+same-length c = search needs
+
+-- src/lib.rt:28:1
+returns-2 : tie.Need-returns-2
+returns-2 c =
+    recording-rewritten _ _ _ (λ i. omega (arith, c .before .before .before .before .before .before .before .before .before .shared-slice-known2 .given i)) _ (c .before .before .before .before .before .before .before .read-recording .ensures) (c .before .before .before .before .before .enum-told .given .1) _ _
+    (c .before .before .write-recording .ensures .0) (c .before .before .write-recording .ensures .1)
+
+pub rewrite-recording-spec : {M : Type 1} → statement M
+rewrite-recording-spec =
+    tie.close
+    (tie.spec
+    read-recording-requires
+    enum-known-answer
+    returns
+    enum-told
+    write-recording-requires
+    same-length
+    returns-2)
