@@ -1,0 +1,220 @@
+// The lines that the program prints, written into a lent text: as far as they fit, the rest is dropped.
+// A writer takes the place to write at and returns the place behind what it wrote, whether or not there was room.
+ghost use mathlib.Core.Path.{_≡_};
+ghost use mathlib.Core.List.{[], _∷_, _++_};
+ghost use Prim.Native.Nat.{_+_, _*_, _<_, _≤_};
+ghost use lib.ListN.{length};
+ghost use Rattle.model.specs.Bytes.{tab};
+ghost use Rattle.model.specs.Numbers.{values, refusalValues};
+ghost use Rattle.model.specs.Witness.{rowAt};
+ghost use Rattle.model.specs.Desk.{budgetIn, tableLength, digits, spaced, line, markWord, rowLine, rowLines, verdictLines};
+ghost use Rattle.lines.specs.Written.{Wrote, Small, row, rowsStanding, FewRows, Judging, Lines};
+use model::Refusal;
+use model::Verdict;
+
+fn emit(text: &mut [u8], at: usize, b: u8) -> usize
+    requires { ⌜ Small at 1 ⌝ }
+    ensures { λ r. ⌜ Wrote (b ∷ []) at (now (text .entry)) (now (text .exit)) r ⌝ }
+{
+    if at < text.len() {
+        text[at] = b;
+    }
+    at + 1
+}
+
+fn put(bytes: &[u8], text: &mut [u8], at: usize) -> usize
+    requires { ⌜ Small at (length (now bytes)) ⌝ }
+    ensures { λ r. ⌜ Wrote (now (bytes .entry)) at (now (text .entry)) (now (text .exit)) r ⌝ }
+{
+    let mut next = at;
+    let mut i = 0;
+    while i < bytes.len() {
+        next = emit(text, next, bytes[i]);
+        i += 1;
+    }
+    next
+}
+
+// In decimal, with at most as many digits as fuel.
+fn decimal(fuel: u8, n: u64, text: &mut [u8], at: usize) -> usize
+    requires { ⌜ Small at fuel ⌝ }
+    ensures { λ r. ⌜ Wrote (digits fuel n) at (now (text .entry)) (now (text .exit)) r ⌝ }
+{
+    if fuel == 0 {
+        return at;
+    }
+    if n < 10 {
+        return emit(text, at, b'0' + n as u8);
+    }
+    let next = decimal(fuel - 1, n / 10, text, at);
+    emit(text, next, b'0' + (n % 10) as u8)
+}
+
+fn number(n: u64, text: &mut [u8], at: usize) -> usize
+    requires { ⌜ Small at 21 ⌝ }
+    ensures { λ r. ⌜ Wrote (spaced n) at (now (text .entry)) (now (text .exit)) r ⌝ }
+{
+    let next = emit(text, at, b' ');
+    decimal(20, n, text, next)
+}
+
+fn numbers(word: &[u8], a: u64, b: u64, text: &mut [u8], at: usize) -> usize
+    requires { ⌜ Small at (length (now word) + 42) ⌝ }
+    ensures { λ r. ⌜ Wrote (now (word .entry) ++ spaced a ++ spaced b) at (now (text .entry)) (now (text .exit)) r ⌝ }
+{
+    let behind = put(word, text, at);
+    let next = number(a, text, behind);
+    number(b, text, next)
+}
+
+fn short_line(word: &[u8], a: u64, b: u64, text: &mut [u8], at: usize) -> usize
+    requires { ⌜ Small at (length (now word) + 43) ⌝ }
+    ensures { λ r. ⌜ Wrote (line (now (word .entry)) a b) at (now (text .entry)) (now (text .exit)) r ⌝ }
+{
+    let next = numbers(word, a, b, text, at);
+    emit(text, next, b'\n')
+}
+
+fn marked(mark: u8, time: u64, kind: u64, text: &mut [u8], at: usize) -> usize
+    requires { ⌜ Small at 49 ⌝ }
+    ensures { λ r. ⌜ Wrote (markWord mark ++ spaced time ++ spaced kind) at (now (text .entry)) (now (text .exit)) r ⌝ }
+{
+    if mark == 0 {
+        return numbers(b"kept", time, kind, text, at);
+    }
+    if mark == 1 {
+        return numbers(b"removed", time, kind, text, at);
+    }
+    numbers(b"added", time, kind, text, at)
+}
+
+fn row_line(mark: u8, time: u64, kind: u64, transition: u64, text: &mut [u8], at: usize) -> usize
+    requires { ⌜ Small at 71 ⌝ }
+    ensures { λ r. ⌜ Wrote (rowLine (row mark time kind transition)) at (now (text .entry)) (now (text .exit)) r ⌝ }
+{
+    let behind = marked(mark, time, kind, text, at);
+    let next = number(transition, text, behind);
+    emit(text, next, b'\n')
+}
+
+fn line_at(witness: &[u8], i: usize, text: &mut [u8], at: usize) -> usize
+    requires { ⌜ (i < 4608) × Small at 71 ⌝ }
+    ensures { λ r. ⌜ Wrote (rowLine (rowAt (now (witness .entry)) i)) at (now (text .entry)) (now (text .exit)) r ⌝ }
+{
+    let start = 5 * i;
+    let mark = wire::byte(witness, 5 + start);
+    let time = wire::word(witness, 6 + start) as u64;
+    let kind = wire::byte(witness, 8 + start) as u64;
+    let transition = wire::byte(witness, 9 + start) as u64;
+    row_line(mark, time, kind, transition, text, at)
+}
+
+fn row_lines(witness: &[u8], rows: usize, text: &mut [u8], at: usize) -> usize
+    requires { ⌜ (rows ≤ 4608) × Small at (71 * rows) ⌝ }
+    ensures { λ r. ⌜ Wrote (rowLines (tab (rowAt (now (witness .entry))) rows)) at (now (text .entry)) (now (text .exit)) r ⌝ }
+{
+    let mut next = at;
+    let mut i = 0;
+    while i < rows {
+        next = line_at(witness, i, text, next);
+        i += 1;
+    }
+    next
+}
+
+// A refusal's number and second value.
+struct Printed(u64, u64);
+
+fn refusal_numbers(refusal: Refusal) -> Printed
+    ensures { λ r. ⌜ values (r .0) (r .1) 0 ≡ refusalValues refusal ⌝ }
+{
+    match refusal {
+        Refusal::TableFrame => Printed(10, 0),
+        Refusal::TableVersion => Printed(11, 2),
+        Refusal::TableCount { offset } => Printed(12, offset),
+        Refusal::TableLength { offset } => Printed(13, offset),
+        Refusal::TableField { offset } => Printed(14, offset),
+        Refusal::TableGuard { offset } => Printed(15, offset),
+        Refusal::TableSize => Printed(16, 0),
+        Refusal::RecordingFrame => Printed(20, 0),
+        Refusal::RecordingVersion => Printed(21, 2),
+        Refusal::RecordingCount => Printed(22, 3),
+        Refusal::RecordingRange { row } => Printed(23, row),
+        Refusal::RecordingOrder { row } => Printed(24, row),
+        Refusal::Scratch { wanted } => Printed(30, wanted),
+        Refusal::WitnessRoom { wanted } => Printed(31, wanted),
+        Refusal::WriteRoom { wanted } => Printed(33, wanted),
+        Refusal::WitnessFrame => Printed(40, 0),
+        Refusal::WitnessVersion => Printed(41, 2),
+        Refusal::WitnessCount => Printed(42, 3),
+        Refusal::WitnessRow { row } => Printed(43, row),
+    }
+}
+
+// An accepted verdict's rows are read back from the witness room.
+fn verdict_lines(verdict: Verdict, witness: &[u8], text: &mut [u8], at: usize) -> usize
+    requires { ⌜ FewRows verdict × Small at 400000 ⌝ }
+    ensures { λ r. ⌜ Wrote (verdictLines verdict (rowsStanding verdict (now (witness .entry)))) at (now (text .entry)) (now (text .exit)) r ⌝ }
+{
+    match verdict {
+        Verdict::Accepted { cost, rows } => {
+            let next = short_line(b"accepted", cost, rows, text, at);
+            row_lines(witness, rows as usize, text, next)
+        }
+        Verdict::Rejected { cost, instant } => short_line(b"rejected", cost, instant, text, at),
+        Verdict::Exhausted { budget, instant } => short_line(
+            b"exhausted",
+            budget,
+            instant,
+            text,
+            at,
+        ),
+        Verdict::Refused(refusal) => {
+            let numbers = refusal_numbers(refusal);
+            short_line(b"refused", numbers.0, numbers.1, text, at)
+        }
+    }
+}
+
+// The table is what its length states, or all if that runs past the end or no two length bytes are there.
+fn table_length(files: &[u8]) -> usize
+    ensures { λ r. ⌜ (r ≡ tableLength (now (files .entry))) × (r ≤ length (now (files .entry))) ⌝ }
+{
+    let all = files.len();
+    if all < 2 {
+        return all;
+    }
+    let stated = wire::word(files, 0) as usize + 2;
+    if stated <= all { stated } else { all }
+}
+
+fn budget(input: &[u8]) -> u32
+    requires { ⌜ 4 ≤ length (now input) ⌝ }
+    ensures { λ r. ⌜ r ≡ budgetIn (now (input .entry)) ⌝ }
+{
+    let high = wire::word(input, input.len() - 4) as u32;
+    let low = wire::word(input, input.len() - 2) as u32;
+    65536 * high + low
+}
+
+fn judge(files: &[u8], budget: u32, scratch: &mut [u8], room: &mut [u8], text: &mut [u8]) -> usize
+    ensures { λ r. ⌜ Judging (now (files .entry)) budget (now (scratch .entry)) (now (room .entry)) (now (text .entry)) (now (scratch .exit)) (now (room .exit)) (now (text .exit)) r ⌝ }
+{
+    let split = table_length(files);
+    let verdict = engine::validate(&files[0..split], &files[split..], budget, scratch, room);
+    verdict_lines(verdict, room, text, 0)
+}
+
+// Returns how many bytes the lines are, whether or not the text had room for all of them.
+pub fn lines(input: &[u8], scratch: &mut [u8], room: &mut [u8], text: &mut [u8]) -> usize
+    ensures { λ r. ⌜ Lines (now (input .entry)) (now (scratch .entry)) (now (room .entry)) (now (text .entry)) (now (scratch .exit)) (now (room .exit)) (now (text .exit)) r ⌝ }
+{
+    if input.len() < 4 {
+        return short_line(b"refused", 5, 0, text, 0);
+    }
+    if 8192 < input.len() {
+        return short_line(b"refused", 6, 0, text, 0);
+    }
+    let end = input.len() - 4;
+    judge(&input[0..end], budget(input), scratch, room, text)
+}
