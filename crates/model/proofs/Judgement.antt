@@ -125,6 +125,10 @@ module _ (m : Monitor) (recording : List Packet) (sane : Sane m) (sound : SaneRe
         first = before-others c;
       }
 
+  -- where a mutation trace satisfies the monitor, the witness of the least moves is the preferred one
+  pub possible-preferred : Possible m recording → Preferred m recording (preferred m recording)
+  possible-preferred p = preferred-first (possible-moves m recording sane sound p)
+
   bounded : costOf m recording ≤ endOf recording * size m
   bounded = cost-le (size m) moveLimit (stepNumber m recording) (firstNumber m) (endOf recording)
 
