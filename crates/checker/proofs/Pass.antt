@@ -16,10 +16,11 @@ use Rattle.model.specs.Rules.{Progress, begin, account, broken, changes, checke
 use Rattle.model.specs.declared.Checking.the-variants.{Permitted, Unchecked}
 use Rattle.model.specs.declared.Refusal.the-variants.{WitnessRow}
 use Rattle.model.proofs.Basics.{length-tab}
-use Rattle.checker.specs.declared.Entry.{Entry}
+use Rattle.witness.specs.declared.Entry.{Entry}
 use Rattle.checker.specs.declared.Standing.{Standing}
 use Rattle.checker.specs.declared.Step.{Step}
-use Rattle.checker.specs.Standing.{rowOf, progressOf, Stepped, checkedRows}
+use Rattle.witness.specs.Rows.{rowOf}
+use Rattle.checker.specs.Standing.{progressOf, Stepped, checkedRows}
 use Rattle.checker.proofs.Left.{tab-cons, tab-past, left-cons, left-past}
 
 -- what a row adds to the answer

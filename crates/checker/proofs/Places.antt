@@ -7,24 +7,17 @@ use mathlib.Core.Bool.{Bool, true, false, not, cond, _&&_, _||_, false≢true}
 use mathlib.Core.Option.{none, some}
 use lib.ListN.{length, getD}
 use lib.Dec.{leb, ltb, eqb}
-use borrow.Author.Tests.{ltb-true, leb-true, eqb-true, eq-eqb, ne-eqb, le-leb, le-ltb}
+use borrow.Author.Tests.{ltb-true, leb-true, eqb-true, eq-eqb, ne-eqb}
 use Rattle.model.specs.Monitor.{wait}
 use Rattle.model.specs.declared.Config.{Config}
 use Rattle.model.specs.Recording.{lastTime}
 use Rattle.model.specs.Witness.{noTransition, added, isRemoved, inForm, follows, inPlace}
 use Rattle.model.proofs.Basics.{and-left, and-right}
-use Rattle.checker.specs.declared.Entry.{Entry}
-use Rattle.checker.specs.Standing.{rowOf, beforeOf}
+use Rattle.witness.specs.declared.Entry.{Entry}
+use Rattle.witness.specs.Rows.{rowOf}
+use Rattle.checker.specs.Standing.{beforeOf}
 
 module _ (p e : Entry) where
-  pub form-removed : e .mark ≤ 2 → 1 ≤ e .time → e .time ≤ lastTime → e .mark ≡ 1 → eqb (e .transition) noTransition ≡ inForm (rowOf e)
-  unfolding inForm
-  form-removed a b d m = rw (le-leb (e .mark) 2 a, le-leb 1 (e .time) b, le-leb (e .time) lastTime d, eq-eqb (e .mark) 1 m)
-
-  pub follows-same : e .time ≤ p .time → p .time ≡ e .time → p .mark ≡ 1 → e .mark ≡ 2 → not (eqb (p .kind) (e .kind)) ≡ follows (rowOf p) (rowOf e)
-  unfolding follows
-  follows-same l t m n = rw (le-ltb (p .time) (e .time) l, eq-eqb (p .time) (e .time) t, eq-eqb (p .mark) 1 m, eq-eqb (e .mark) 2 n)
-
   pub not-formed : inForm (rowOf e) ≡ false → false ≡ inPlace (beforeOf p) (rowOf e)
   not-formed h = go (eqb (p .time) 0)
     where

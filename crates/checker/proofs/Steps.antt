@@ -14,12 +14,13 @@ use Rattle.model.specs.declared.Config.{Config}
 use Rattle.model.specs.Witness.{inPlace}
 use Rattle.model.specs.Rules.{Progress, noneBefore, isNext, noneAt, sends, removes, keeps, adds, account}
 use Rattle.monitor.proofs.Records.{fired-length, fired-below}
-use Rattle.checker.specs.declared.Entry.{Entry}
+use Rattle.witness.specs.declared.Entry.{Entry}
 use Rattle.checker.specs.declared.Standing.{Standing}
 use Rattle.checker.specs.declared.Step.{Step}
 use Rattle.checker.proofs.Left.{others-drop}
 use Rattle.checker.proofs.Places.{place-times}
-use Rattle.checker.specs.Standing.{rowOf, beforeOf, progressOf, Bounded, Ready, Stepped}
+use Rattle.witness.specs.Rows.{rowOf}
+use Rattle.checker.specs.Standing.{beforeOf, progressOf, Bounded, Ready, Stepped}
 
 pub stepped-as : (ps : List Packet) {a b : Option Progress} {r : Step} → Stepped ps a r → a ≡ b → Stepped ps b r
 stepped-as ps s e = record { is = s .is ∙ e; bounded = s .bounded }

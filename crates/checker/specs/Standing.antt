@@ -12,12 +12,10 @@ use Rattle.model.specs.Monitor.{Monitor}
 use Rattle.model.specs.Witness.{Row, badRow}
 use Rattle.model.specs.Rules.{Progress, begin, broken, checked}
 use Rattle.model.specs.declared.Checking.{Checking}
-use Rattle.checker.specs.declared.Entry.{Entry}
+use Rattle.witness.specs.declared.Entry.{Entry}
+use Rattle.witness.specs.Rows.{rowOf}
 use Rattle.checker.specs.declared.Standing.{Standing}
 use Rattle.checker.specs.declared.Step.{Step}
-
-abbrev pub rowOf : Entry → Row
-rowOf e = record { mark = e .mark; time = e .time; kind = e .kind; transition = e .transition }
 
 -- the row before, where there is one: times are from 1 up
 abbrev pub beforeOf : Entry → Option Row

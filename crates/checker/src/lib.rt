@@ -1,6 +1,5 @@
 // The witness checker: one pass over a witness's rows against a table and a recording, none of which is copied.
 use codec::recording::recording_answer;
-use codec::witness::witness_frame;
 use model::Checking;
 use model::Config;
 use model::Reading;
@@ -11,6 +10,11 @@ use monitor::offsets;
 use monitor::to_unit;
 use wire::byte;
 use wire::word;
+use witness::Entry;
+use witness::in_form;
+use witness::in_order;
+use witness::row_at;
+use witness::witness_frame;
 ghost use mathlib.Core.Path.{_≡_};
 ghost use mathlib.Core.List.{List};
 ghost use mathlib.Core.Bool.{true, cond};
@@ -21,19 +25,12 @@ ghost use lib.ListN.{length, getD, drop};
 ghost use Rattle.model.specs.Monitor.{wait};
 ghost use Rattle.model.specs.Trace.{Packet};
 ghost use Rattle.model.specs.Recording.{recordingAnswer, packetsAt};
-ghost use Rattle.model.specs.Witness.{kept, inForm, follows, inPlace, rowAt, rowsAt, witnessFrame};
+ghost use Rattle.model.specs.Witness.{kept, inPlace, rowsAt, witnessFrame};
 ghost use Rattle.model.specs.Rules.{begin, noneBefore, isNext, noneAt, sends, removes, keeps, adds, account, checkAnswer};
 ghost use Rattle.monitor.specs.From.{monitorFrom};
+ghost use Rattle.witness.specs.Rows.{rowOf};
 ghost use Rattle.checker.specs.Claim.{Faithful};
-ghost use Rattle.checker.specs.Standing.{rowOf, beforeOf, progressOf, Bounded, Ready, Stepped, checkedRows};
-
-// A row of a witness.
-struct Entry {
-    mark: u8,
-    time: u16,
-    kind: u8,
-    transition: u8,
-}
+ghost use Rattle.checker.specs.Standing.{beforeOf, progressOf, Bounded, Ready, Stepped, checkedRows};
 
 // What the rows so far have come to. While there is no row before, its time is 0.
 struct Standing {
@@ -50,55 +47,7 @@ struct Step {
     to: Standing,
 }
 
-fn row_at(witness: &[u8], i: usize) -> Entry
-    requires { ⌜ i < 65536 ⌝ }
-    ensures { λ r. ⌜ rowOf r ≡ rowAt (now (witness .entry)) i ⌝ }
-{
-    Entry {
-        mark: byte(witness, 5 + 5 * i),
-        time: word(witness, 6 + 5 * i),
-        kind: byte(witness, 8 + 5 * i),
-        transition: byte(witness, 9 + 5 * i),
-    }
-}
-
-// The row by itself.
-fn in_form(e: Entry) -> bool
-    ensures { λ r. ⌜ r ≡ inForm (rowOf e) ⌝ }
-{
-    if 2 < e.mark {
-        return false;
-    }
-    if e.time < 1 {
-        return false;
-    }
-    if 4096 < e.time {
-        return false;
-    }
-    if e.mark == 1 {
-        return e.transition == 255;
-    }
-    true
-}
-
-fn follows_row(p: Entry, e: Entry) -> bool
-    ensures { λ r. ⌜ r ≡ follows (rowOf p) (rowOf e) ⌝ }
-{
-    if p.time < e.time {
-        return true;
-    }
-    if p.time != e.time {
-        return false;
-    }
-    if p.mark != 1 {
-        return false;
-    }
-    if e.mark != 2 {
-        return false;
-    }
-    p.kind != e.kind
-}
-
+// The row by itself, and behind the row before it.
 fn in_place(p: Entry, e: Entry) -> bool
     ensures { λ r. ⌜ r ≡ inPlace (beforeOf p) (rowOf e) ⌝ }
 {
@@ -108,7 +57,7 @@ fn in_place(p: Entry, e: Entry) -> bool
     if p.time == 0 {
         return true;
     }
-    follows_row(p, e)
+    in_order(p, e)
 }
 
 // No recorded row of an earlier time is unaccounted for.
@@ -316,7 +265,7 @@ fn change_by(e: Entry) -> u64
 fn check_rows<'a>(table: &'a [u8], offsets: &'a [u16], recording: &[u8], witness: &[u8]) -> Checking
     ensures { λ r. ⌜ r ≡ checkedRows (monitorFrom (now (table .entry)) (now (offsets .entry))) (packetsAt (now (recording .entry))) (rowsAt (now (witness .entry))) ⌝ }
 {
-    let count = word(witness, 3) as usize;
+    let count = word(witness, 3);
     let mut s = begun();
     let mut changed: u64 = 0;
     let mut i = 0;

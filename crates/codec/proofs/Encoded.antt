@@ -21,10 +21,11 @@ use Rattle.model.specs.declared.Reading.the-variants.{Sound}
 use Rattle.model.specs.declared.TableParts.{TableParts}
 use Rattle.wire.specs.Placed.{placed}
 use Rattle.wire.proofs.Room.{placed-behind}
-use Rattle.codec.specs.Steps.{framed, countsOf, tableScan, guardBytesIn, headBytes}
-use Rattle.codec.proofs.Columns.{joined-long, joined-most}
-use Rattle.codec.proofs.Written.{placed-first, write-none}
-use Rattle.codec.proofs.Steps.{stops, sound-is}
+use Rattle.frame.specs.Framed.{framed}
+use Rattle.codec.specs.Steps.{countsOf, tableScan, guardBytesIn, headBytes}
+use Rattle.frame.proofs.Columns.{joined-long, joined-most}
+use Rattle.frame.proofs.Written.{placed-first, write-none}
+use Rattle.frame.proofs.Answers.{stops, sound-is}
 use Rattle.codec.proofs.Tables.{scan-all, counts-bound}
 
 -- a guard's bytes, cut at its places

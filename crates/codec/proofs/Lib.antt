@@ -1,11 +1,4 @@
-pub mod Columns
-pub mod Guards
-pub mod Sizes
 pub mod Steps
 pub mod Tables
 pub mod Recordings
-pub mod Filled
-pub mod WitnessLaws
-pub mod WitnessBytes
-pub mod Written
 pub mod Encoded

@@ -1,48 +1,31 @@
--- Rows of a recording: airtimes by the table's bytes, one turn of the scan, and the answer by its parts.
-use Prim.Native.Nat.{ℕ, zero, suc, _+_, _-_, _*_, _≤_, _<_}
+-- Rows of a recording: one turn of the scan, the answer by its parts, and the bytes of its rows.
+use Prim.Native.Nat.{ℕ, zero, suc, _+_, _-_, _*_, _/_, _%_, _≤_, _<_}
 use native.Mathlib.Omega.{arith}
 use native.Mathlib.Numerals.{add-one}
 use mathlib.Core.Path.{_≡_, refl, sym, ap, _∙_}
 use mathlib.Core.List.{List, [], _∷_, _++_}
 use mathlib.Core.Bool.{true, false}
 use lib.Dec.{leb, ltb, eqb}
-use lib.ListN.{length, take, length-append, getD, replicate, List·getD-append, List·getD-eq-default}
+use lib.ListN.{length, take, length-append, getD}
 use borrow.Author.Tests.{leb-true}
-use Rattle.model.specs.Bytes.{byteAt, wordAt, tab, joined, padded}
+use Rattle.model.specs.Bytes.{byteAt, wordAt, joined}
 use Rattle.model.specs.First.{unless, andThen, firstOf, isSound}
 use Rattle.model.specs.Room.{write, over}
 use Rattle.model.specs.Monitor.{airtime}
-use Rattle.model.specs.Table.{kindsAt, tableParts, tableAnswer, monitorOf, monitorAt}
+use Rattle.model.specs.Table.{tableAnswer, monitorAt}
 use Rattle.model.specs.Recording.{countAt, timeAt, rowKindAt, rowLimit, clearOfBefore, recordedRow, recordedRows, recordingAnswer, recordingParts, noRecording, readRecording, recordingBytes, recordingWritable, writeRecording}
 use Rattle.model.specs.declared.RecordingParts.{RecordingParts}
 use Rattle.model.specs.declared.RecordingReading.{RecordingReading}
 use Rattle.model.specs.declared.Refusal.the-variants.{RecordingFrame, RecordingVersion, RecordingCount}
 use Rattle.model.specs.declared.Reading.{Reading}
 use Rattle.model.specs.declared.Reading.the-variants.{Sound}
-use Rattle.model.proofs.Basics.{length-tab, getD-tab, andThen-left, andThen-right, unless-sound}
-use Rattle.codec.specs.Steps.{framed, recordingFrame, recordingEarly, rowsFrame, recordedBytes}
-use Rattle.codec.proofs.Steps.{left, then-sound, then-assoc, stops, goes, sound-is}
-use Rattle.codec.proofs.Columns.{joined-long}
-use Rattle.codec.proofs.Written.{taken, write-none}
-
-module _ (table : List ℕ) (k : ℕ) where
-  pub airtime-there : k < kindsAt table → airtime (monitorAt table) k ≡ byteAt table (9 + 2 * k)
-  unfolding monitorOf tableParts padded
-  airtime-there h =
-      let f : ℕ → ℕ = λ i. byteAt table (8 + 2 * i + 1) in
-      let column : List ℕ = tab f (kindsAt table) in
-      let rest : List ℕ = replicate (32 - length column) 0 in
-      let place : 8 + 2 * k + 1 ≡ 9 + 2 * k = omega arith in
-      getD-tab (λ i. getD (column ++ rest) i 0) 0 (kindsAt table) k h
-      ∙ List·getD-append column rest 0 k (omega (arith, length-tab f (kindsAt table)))
-      ∙ getD-tab f 0 (kindsAt table) k h
-      ∙ ap (byteAt table) place
-
-  pub airtime-absent : kindsAt table ≤ k → airtime (monitorAt table) k ≡ 0
-  unfolding monitorOf tableParts
-  airtime-absent h =
-      let f : ℕ → ℕ = λ i. getD (tableParts table .airtimes) i 0 in
-      List·getD-eq-default (tab f (kindsAt table)) 0 (omega (arith, length-tab f (kindsAt table)))
+use Rattle.model.proofs.Basics.{andThen-left, andThen-right, unless-sound}
+use Rattle.frame.specs.Framed.{framed, framedRows, rowsFrame}
+use Rattle.codec.specs.Steps.{recordingFrame, recordingEarly, recordedBytes}
+use Rattle.frame.proofs.Answers.{then-sound, then-assoc, stops, goes, sound-is}
+use Rattle.codec.proofs.Steps.{left}
+use Rattle.frame.proofs.Columns.{joined-long}
+use Rattle.frame.proofs.Written.{high, taken, write-none}
 
 module _ (table b : List ℕ) where
   pub clear-first : (i : ℕ) → i ≡ 0 → clearOfBefore table b i ≡ true
@@ -64,7 +47,7 @@ module _ (table b : List ℕ) where
 
   -- the answer is that of the table, of the frame, and of the rows
   pub answer-row : recordingAnswer table b ≡ andThen (tableAnswer table) (andThen (recordingFrame b) (recordedRows (countAt b) table b 0))
-  unfolding recordingAnswer recordingFrame framed
+  unfolding recordingAnswer recordingFrame framedRows framed
   answer-row =
       row
       (tableAnswer table)
@@ -79,7 +62,7 @@ module _ (table b : List ℕ) where
       row t f g v c d r = simp (then-assoc, then-sound)
 
   pub count-bound : recordingAnswer table b ≡ Sound → countAt b ≤ 512
-  unfolding recordingFrame
+  unfolding recordingFrame framedRows
   count-bound h =
       let rest = andThen-right (tableAnswer table) (andThen (recordingFrame b) (recordedRows (countAt b) table b 0)) (sym answer-row ∙ h) in
       let few = unless (leb (countAt b) rowLimit) RecordingCount in
@@ -96,6 +79,9 @@ module _ (table b : List ℕ) where
   read-sound r p e h q = rw (← e, h, q)
 
 -- writing
+
+pub row-bytes : (time kind : ℕ) (times kinds : List ℕ) (i : ℕ) → time < 65536 → time ≡ getD times i 0 → kind ≡ getD kinds i 0 → time / 256 ∷ time % 256 ∷ kind ∷ [] ≡ recordedBytes times kinds i
+row-bytes time kind times kinds i h e g = rw (← e, ← g, ← high time h)
 
 pub long-rows : (total count : ℕ) (times kinds : List ℕ) (i : ℕ) → length (rowsFrame total count ++ joined (recordedBytes times kinds) i) ≡ 5 + 3 * i
 long-rows total count times kinds i =

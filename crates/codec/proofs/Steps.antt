@@ -1,46 +1,21 @@
--- Answers in a row, and one turn of each loop that scans.
+-- One turn of each loop that scans.
 use Prim.Native.Nat.{ℕ, suc, _+_, _-_, _*_, _/_, _%_, _^_, _<_, _≤_}
 use native.Mathlib.Omega.{arith}
-use mathlib.Core.Path.{_≡_, refl, sym, ap, _∙_}
+use mathlib.Core.Path.{_≡_, sym, _∙_}
 use mathlib.Core.List.{List}
-use mathlib.Core.Bool.{Bool, true, false, not, _&&_, false≢true}
+use mathlib.Core.Bool.{true, not, _&&_}
 use lib.ListN.{length}
 use lib.Dec.{eqb, ltb}
 use lib.Pow.{pow-pos}
 use native.Mathlib.Decide.{decLt}
 use native.Mathlib.Nat.{div-lt-iff-lt-mul}
 use mathlib.Core.Logic.{_↔_}
-use borrow.Author.Tests.{lt-ltb, le-ltb, not-true, not-false}
-use Rattle.model.specs.First.{unless, andThen, isSound}
+use borrow.Author.Tests.{lt-ltb, le-ltb}
+use Rattle.model.specs.First.{unless, andThen}
 use Rattle.model.specs.Table.{kindRecord, kindRecords, apart, transitionRecord, transitionRecords, guardLengthAt}
 use Rattle.model.specs.declared.Refusal.the-variants.{TableLength}
-use Rattle.model.specs.declared.Reading.{Reading}
-use Rattle.model.specs.declared.Reading.the-variants.{Sound, Unsound}
-
--- a refusal ends the row, a sound answer goes on
-pub stops : (x y : Reading) → isSound x ≡ false → andThen x y ≡ x
-stops Sound y e = absurd (false≢true (sym e))
-stops (Unsound r) y e = refl
-
-pub goes : (x y : Reading) → isSound x ≡ true → andThen x y ≡ y
-goes Sound y e = refl
-goes (Unsound r) y e = absurd (false≢true e)
-
-pub then-sound : (x : Reading) → andThen x Sound ≡ x
-then-sound Sound = refl
-then-sound (Unsound r) = refl
-
-pub then-assoc : (x y z : Reading) → andThen (andThen x y) z ≡ andThen x (andThen y z)
-then-assoc Sound y z = refl
-then-assoc (Unsound r) y z = refl
-
--- an answer r that the code has tested, and all that is left to answer: r and then y. s is what the test gave
-module _ (all x y r : Reading) (s : Bool) (whole : all ≡ andThen x y) (is : r ≡ x) (tested : s ≡ isSound r) where
-  pub turn-stops : not s ≡ true → r ≡ all
-  turn-stops e = is ∙ sym (whole ∙ stops x y (ap isSound (sym is) ∙ sym tested ∙ not-true s e))
-
-  pub turn-goes : not s ≡ false → all ≡ y
-  turn-goes e = whole ∙ goes x y (ap isSound (sym is) ∙ sym tested ∙ not-false s e)
+use Rattle.model.specs.declared.Reading.the-variants.{Sound}
+use Rattle.frame.proofs.Answers.{then-sound}
 
 -- at turn i of n
 pub left : (n i : ℕ) → i < n → n - i ≡ suc (n - (i + 1))
@@ -88,7 +63,3 @@ mask-fits mask count = go (decLt mask (2 ^ count))
     go : Dec (mask < 2 ^ count) → ltb (mask / 2 ^ count) 1 ≡ ltb mask (2 ^ count)
     go (yes h) = lt-ltb _ _ (bound .1 (omega arith)) ∙ sym (lt-ltb _ _ h)
     go (no h) = let k : 2 ^ count ≤ mask = omega arith in le-ltb _ _ (above (λ q. omega (arith, bound .0 q))) ∙ sym (le-ltb _ _ k)
-
-pub sound-is : (x : Reading) → isSound x ≡ true → x ≡ Sound
-sound-is Sound e = refl
-sound-is (Unsound r) e = absurd (false≢true e)

@@ -1,29 +1,32 @@
 -- What a sound scan of a table ensures, and guards in their places.
-use Prim.Native.Nat.{ℕ, zero, suc, _+_, _-_, _*_, _≤_, _<_, min}
+use Prim.Native.Nat.{ℕ, zero, suc, _+_, _-_, _*_, _^_, _≤_, _<_, min}
 use native.Mathlib.Omega.{arith}
 use native.Mathlib.Nat.{sub-zero}
 use native.Mathlib.Numerals.{add-one}
 use mathlib.Core.Path.{_≡_, refl, sym, _∙_}
 use mathlib.Core.List.{List, [], _∷_}
-use mathlib.Core.Bool.{true, false}
-use lib.Dec.{leb, eqb}
+use mathlib.Core.Bool.{Bool, true, false, _&&_}
+use lib.Dec.{leb, ltb, eqb}
 use lib.ListN.{length, take, drop, length-take}
 use borrow.Author.Tests.{leb-true, le-leb, lt-leb}
 use Rattle.model.specs.Bytes.{byteAt, wordAt, joined, padded}
 use Rattle.model.specs.First.{unless, andThen, firstOf, isSound}
 use Rattle.model.specs.Guard.{guardAt, endsAt}
 use Rattle.model.specs.Size.{size, sizeLimit}
-use Rattle.model.specs.Table.{tableCounts, kindRecords, transitionFields, transitionRecord, transitionRecords, statesAt, variablesAt, clocksAt, kindsAt, transitionsAt, kindAt, transitionAt, guardLengthAt, guardPlace, tableAnswer, tableParts, noTable, readTable, monitorOf}
+use Rattle.model.specs.Table.{tableCounts, kindRecords, apart, transitionFields, transitionRecord, transitionRecords, statesAt, variablesAt, clocksAt, kindsAt, transitionsAt, kindAt, transitionAt, guardLengthAt, guardPlace, tableAnswer, tableParts, noTable, readTable, monitorOf}
 use Rattle.model.specs.declared.TableParts.{TableParts}
 use Rattle.model.specs.declared.TableReading.{TableReading}
-use Rattle.model.specs.declared.Refusal.the-variants.{TableSize, TableFrame, TableVersion, TableCount, TableLength, TableGuard}
+use Rattle.model.specs.declared.Refusal.the-variants.{TableSize, TableFrame, TableVersion, TableCount, TableLength, TableField, TableGuard}
+use Rattle.model.specs.declared.Refusal.{Refusal}
 use Rattle.model.specs.declared.Reading.{Reading}
 use Rattle.model.specs.declared.Reading.the-variants.{Sound}
 use Rattle.model.proofs.Basics.{andThen-left, andThen-right, unless-sound}
-use Rattle.codec.specs.Steps.{framed, countsOf, tableScan}
+use Rattle.frame.specs.Framed.{framed}
+use Rattle.codec.specs.Steps.{countsOf, guardRecord, tableScan}
 use Rattle.wire.specs.Placed.{placed}
-use Rattle.codec.proofs.Columns.{joined-long, padded-long, place-more}
-use Rattle.codec.proofs.Steps.{then-assoc, then-sound, transitions-turn}
+use Rattle.frame.proofs.Columns.{joined-long, padded-long, place-more}
+use Rattle.frame.proofs.Answers.{then-assoc, then-sound}
+use Rattle.codec.proofs.Steps.{transitions-turn}
 
 -- the last of a row of sound answers
 module _ (a b c d e f : Reading) where
@@ -61,7 +64,42 @@ counts-bound s v c k t h =
       leb-true t 64 (unless-sound (leb t 64) (TableCount 7) (andThen-left transitions Sound (andThen-right kinds (andThen transitions Sound) last))),
     )
 
+-- the fields of a record, by the two tests that the code makes
+fields-alike : (a b c d e f g : Bool) (x : Refusal)
+    → firstOf (unless a x ∷ unless b x ∷ unless c x ∷ unless d x ∷ unless e x ∷ unless f x ∷ unless g x ∷ []) ≡ andThen (unless (a && b && c) x) (unless (d && e && f && g) x)
+fields-alike false b c d e f g x = refl
+fields-alike true false c d e f g x = refl
+fields-alike true true false d e f g x = refl
+fields-alike true true true false e f g x = refl
+fields-alike true true true true false f g x = refl
+fields-alike true true true true true false g x = refl
+fields-alike true true true true true true false x = refl
+fields-alike true true true true true true true x = refl
+
+pub fields-row : (b : List ℕ) (at : ℕ) {s v c k source target trigger sets clears resets : ℕ} {ends masks : Bool}
+    → s ≡ statesAt b → v ≡ variablesAt b → c ≡ clocksAt b → k ≡ kindsAt b
+    → source ≡ byteAt b at → target ≡ byteAt b (at + 1) → trigger ≡ byteAt b (at + 2) → sets ≡ byteAt b (at + 3) → clears ≡ byteAt b (at + 4) → resets ≡ byteAt b (at + 5)
+    → ends ≡ (ltb source s && ltb target s && ltb trigger k)
+    → masks ≡ (ltb sets (2 ^ v) && ltb clears (2 ^ v) && ltb resets (2 ^ c) && apart v sets clears)
+    → transitionFields b at ≡ andThen (unless ends (TableField at)) (unless masks (TableField at))
+unfolding transitionFields
+fields-row b at es ev ec ek e0 e1 e2 e3 e4 e5 p q =
+    rw (p, q, es, ev, ec, ek, e0, e1, e2, e3, e4, e5)
+    (fields-alike
+    (ltb (byteAt b at) (statesAt b))
+    (ltb (byteAt b (at + 1)) (statesAt b))
+    (ltb (byteAt b (at + 2)) (kindsAt b))
+    (ltb (byteAt b (at + 3)) (2 ^ variablesAt b))
+    (ltb (byteAt b (at + 4)) (2 ^ variablesAt b))
+    (ltb (byteAt b (at + 5)) (2 ^ clocksAt b))
+    (apart (variablesAt b) (byteAt b (at + 3)) (byteAt b (at + 4)))
+    (TableField at))
+
 module _ (b : List ℕ) where
+  pub record-row : (at : ℕ) → transitionRecord b at ≡ andThen (unless (leb (at + 7) (length b)) (TableLength at)) (andThen (transitionFields b at) (guardRecord b at))
+  unfolding transitionRecord guardRecord
+  record-row at = refl
+
   -- 16 comes after the scan
   pub scan-all : tableAnswer b ≡ andThen (tableScan b) (unless (leb (size (monitorOf (tableParts b))) sizeLimit) TableSize)
   unfolding tableAnswer tableScan framed

@@ -2,24 +2,16 @@
 use Prim.Native.Nat.{ℕ, _+_, _*_}
 use mathlib.Core.List.{List, [], _∷_, _++_}
 use lib.ListN.{length, getD, take, drop}
-use lib.Dec.{leb, eqb}
-use Rattle.model.specs.Bytes.{byteAt, wordAt, wordBytes}
+use lib.Dec.{leb}
+use Rattle.model.specs.Bytes.{wordBytes}
 use Rattle.model.specs.First.{unless, firstOf}
-use Rattle.model.specs.Table.{tableCounts, kindRecords, transitionRecords, kindsAt, transitionsAt, kindAt, tableAnswer}
-use Rattle.model.specs.Recording.{countAt, rowLimit}
+use Rattle.model.specs.Guard.{guardAt, endsAt}
+use Rattle.model.specs.Table.{tableCounts, kindRecords, transitionRecords, variablesAt, clocksAt, kindsAt, transitionsAt, kindAt, guardLengthAt, tableAnswer}
+use Rattle.model.specs.Recording.{rowLimit}
 use Rattle.model.specs.declared.TableParts.{TableParts}
-use Rattle.model.specs.declared.Refusal.{Refusal}
-use Rattle.model.specs.declared.Refusal.the-variants.{TableFrame, TableVersion, TableCount, RecordingFrame, RecordingVersion, RecordingCount}
+use Rattle.model.specs.declared.Refusal.the-variants.{TableFrame, TableVersion, TableCount, TableLength, TableGuard, RecordingFrame, RecordingVersion, RecordingCount}
 use Rattle.model.specs.declared.Reading.{Reading}
-
--- at least so many bytes, a length that matches, version 1
-unfoldable pub framed : List ℕ → ℕ → Refusal → Refusal → Reading
-framed b least frame version =
-    firstOf
-    (unless (leb least (length b)) frame
-    ∷ unless (eqb (wordAt b 0 + 2) (length b)) frame
-    ∷ unless (eqb (byteAt b 2) 1) version
-    ∷ [])
+use Rattle.frame.specs.Framed.{framed, framedRows}
 
 -- the limits of a table's counts
 unfoldable pub countsOf : (states variables clocks kinds transitions : ℕ) → Reading
@@ -34,6 +26,16 @@ countsOf states variables clocks kinds transitions =
     ∷ unless (leb transitions 64) (TableCount 7)
     ∷ [])
 
+-- the guard of the transition record at an offset: its length, its bytes and its form
+unfoldable pub guardRecord : List ℕ → ℕ → Reading
+guardRecord b at =
+    firstOf
+    (unless (leb 1 (guardLengthAt b at)) (TableGuard at)
+    ∷ unless (leb (guardLengthAt b at) 32) (TableGuard at)
+    ∷ unless (leb (at + 7 + guardLengthAt b at) (length b)) (TableLength at)
+    ∷ unless (endsAt (guardAt 32 (variablesAt b) (clocksAt b) b (at + 7) (at + 7 + guardLengthAt b at)) (at + 7 + guardLengthAt b at)) (TableGuard at)
+    ∷ [])
+
 -- the table's numbers 10 to 15
 unfoldable pub tableScan : List ℕ → Reading
 tableScan b =
@@ -46,17 +48,9 @@ tableScan b =
 
 -- the recording's numbers 20 to 22
 unfoldable pub recordingFrame : List ℕ → Reading
-recordingFrame b =
-    firstOf
-    (framed b 5 RecordingFrame RecordingVersion
-    ∷ unless (leb (countAt b) rowLimit) RecordingCount
-    ∷ unless (eqb (wordAt b 0) (3 + 3 * countAt b)) RecordingCount
-    ∷ [])
+recordingFrame b = framedRows b 3 rowLimit RecordingFrame RecordingVersion RecordingCount
 
--- what stands before the rows of a recording or a witness, and a row of a recording by its columns
-abbrev pub rowsFrame : (total count : ℕ) → List ℕ
-rowsFrame total count = wordBytes total ++ (1 ∷ []) ++ wordBytes count
-
+-- a row of a recording by its columns
 abbrev pub recordedBytes : (times kinds : List ℕ) → ℕ → List ℕ
 recordedBytes times kinds i = wordBytes (getD times i 0) ++ (getD kinds i 0 ∷ [])
 

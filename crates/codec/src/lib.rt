@@ -1,8 +1,3 @@
-// The bytes on the desk (document 01): tables, recordings and witnesses, read and written. Each public function takes any input.
-mod column;
-mod frame;
-pub mod guard;
+// The bytes on the desk (document 01) that describe the monitor and its packets: tables and recordings, read and written. Each public function takes any input.
 pub mod recording;
-pub mod size;
 pub mod table;
-pub mod witness;

@@ -1,16 +1,17 @@
 // The recording, read and written against a table, whose numbers come first.
-use crate::column::bytes_column;
-use crate::column::words_column;
-use crate::frame::frame_bytes;
-use crate::frame::framed_answer;
-use crate::frame::put;
-use crate::frame::sound;
 use crate::table::table_answer;
+use frame::column::bytes_column;
+use frame::column::words_column;
+use frame::frame_bytes;
+use frame::put;
+use frame::rows_framed;
+use frame::sound;
 use model::Reading;
 use model::RecordingParts;
 use model::RecordingReading;
 use model::Refusal;
 use model::Writing;
+use monitor::airtime_of;
 use wire::byte;
 use wire::place;
 use wire::short;
@@ -22,20 +23,9 @@ ghost use lib.ListN.{length};
 ghost use Rattle.model.specs.Bytes.{joined};
 ghost use Rattle.model.specs.Room.{over};
 ghost use Rattle.wire.specs.Placed.{placed};
-ghost use Rattle.model.specs.Monitor.{airtime};
-ghost use Rattle.model.specs.Table.{monitorAt};
 ghost use Rattle.model.specs.Recording.{countAt, clearOfBefore, recordedRow, recordedRows, recordingAnswer, recordingParts, noRecording, readRecording, writeRecording};
-ghost use Rattle.codec.specs.Steps.{recordingFrame, recordingEarly, rowsFrame, recordedBytes};
-
-// The airtime of a kind, 0 for one that the table does not have.
-pub fn airtime_of(table: &[u8], kind: u8) -> u8
-    ensures { λ r. ⌜ (r ≡ airtime (monitorAt (now (table .entry))) kind) × (r < 256) ⌝ }
-{
-    if byte(table, 6) <= kind {
-        return 0;
-    }
-    byte(table, 9 + 2 * (kind as usize))
-}
+ghost use Rattle.frame.specs.Framed.{rowsFrame};
+ghost use Rattle.codec.specs.Steps.{recordingFrame, recordingEarly, recordedBytes};
 
 // Row i does not overlap or precede the row before it.
 fn clear_of_before(table: &[u8], b: &[u8], i: usize) -> bool
@@ -89,18 +79,14 @@ fn recorded_rows(table: &[u8], b: &[u8]) -> Reading
 pub fn recording_frame(b: &[u8]) -> Reading
     ensures { λ r. ⌜ r ≡ recordingFrame (now (b .entry)) ⌝ }
 {
-    let frame = framed_answer(b, 5, Refusal::RecordingFrame, Refusal::RecordingVersion);
-    if !sound(frame) {
-        return frame;
-    }
-    let count = word(b, 3) as usize;
-    if 512 < count {
-        return Reading::Unsound(Refusal::RecordingCount);
-    }
-    if word(b, 0) as usize != 3 + 3 * count {
-        return Reading::Unsound(Refusal::RecordingCount);
-    }
-    Reading::Sound
+    rows_framed(
+        b,
+        3,
+        512,
+        Refusal::RecordingFrame,
+        Refusal::RecordingVersion,
+        Refusal::RecordingCount,
+    )
 }
 
 // The numbers of the table and of the recording alone.
@@ -122,9 +108,8 @@ fn time_column(b: &[u8]) -> [u16; 512]
     requires { ⌜ countAt (now b) ≤ 512 ⌝ }
     ensures { λ r. ⌜ r ≡ recordingParts (now (b .entry)) .times ⌝ }
 {
-    let n = word(b, 3) as usize;
     let mut times = [0u16; 512];
-    words_column(b, 5, 3, n, &mut times);
+    words_column(b, 5, 3, word(b, 3), &mut times);
     times
 }
 
@@ -132,9 +117,8 @@ fn kind_column(b: &[u8]) -> [u8; 512]
     requires { ⌜ countAt (now b) ≤ 512 ⌝ }
     ensures { λ r. ⌜ r ≡ recordingParts (now (b .entry)) .kinds ⌝ }
 {
-    let n = word(b, 3) as usize;
     let mut kinds = [0u8; 512];
-    bytes_column(b, 7, 3, n, &mut kinds);
+    bytes_column(b, 7, 3, word(b, 3), &mut kinds);
     kinds
 }
 
@@ -183,7 +167,7 @@ fn encode<'a>(times: &'a [u16], kinds: &'a [u8], count: usize, out: &mut [u8])
     requires { ⌜ (count ≤ 512) × (5 + 3 * count ≤ length (now out)) ⌝ }
     ensures { λ _. ⌜ now (out .exit) ≡ over (rowsFrame (3 + 3 * count) count ++ joined (recordedBytes (now (times .entry)) (now (kinds .entry))) count) (now (out .entry)) ⌝ }
 {
-    let frame = frame_bytes(3 + 3 * count, count);
+    let frame = frame_bytes((3 + 3 * count) as u16, count as u16);
     place(&frame, out, 0);
     let mut i = 0;
     while i < count {
@@ -211,11 +195,11 @@ pub fn write_recording(table: &[u8], r: RecordingParts, room: &mut [u8]) -> Writ
 {
     let count = r.count as usize;
     let early = early_answer(table, count);
+    if let Reading::Unsound(refusal) = early {
+        return Writing::Unwritten(refusal);
+    }
     // made apart: a refusal leaves the room as it was, and 512 rows are 1,541 bytes
     let mut bytes = [0u8; 1541];
-    if !sound(early) {
-        return put(early, &bytes[0..0], room);
-    }
     encode(&r.times, &r.kinds, count, &mut bytes);
     let encoded = &bytes[0..5 + 3 * count];
     put(recording_answer(table, encoded), encoded, room)

@@ -1,10 +1,10 @@
 // The table: its scan, which tests and touches no arrays, its fill, and what reading gives.
-use crate::column::bytes_column;
-use crate::frame::framed_answer;
-use crate::frame::put;
-use crate::frame::sound;
-use crate::guard::guard_fills;
-use crate::size::table_size;
+use frame::column::bytes_column;
+use frame::framed_answer;
+use frame::put;
+use frame::sound;
+use guard::guard_fills;
+use guard::size::table_size;
 use model::Reading;
 use model::Refusal;
 use model::TableParts;
@@ -23,7 +23,7 @@ ghost use Rattle.model.specs.Room.{over};
 ghost use Rattle.wire.specs.Placed.{placed};
 ghost use Rattle.model.specs.declared.Reading.the-variants.{Sound};
 ghost use Rattle.model.specs.Table.{kindRecord, kindRecords, apart, transitionFields, transitionRecord, transitionRecords, kindsAt, kindAt, transitionsAt, kindColumn, transitionColumn, guardPlace, tableParts, noTable, tableAnswer, readTable, kindBytes, transitionBytes, tableBytes, writeTable};
-ghost use Rattle.codec.specs.Steps.{countsOf, tableScan, fieldBytes, guardBytesIn, headBytes};
+ghost use Rattle.codec.specs.Steps.{countsOf, guardRecord, tableScan, fieldBytes, guardBytesIn, headBytes};
 
 // The first count outside its limits.
 fn counts_answer(states: u8, variables: u8, clocks: u8, kinds: u8, transitions: u8) -> Reading
@@ -120,50 +120,65 @@ fn apart_masks(n: u8, sets: u8, clears: u8) -> bool
     true
 }
 
+// Source and target are states, and the trigger is a kind.
+fn ends_fit(states: u8, kinds: u8, source: u8, target: u8, trigger: u8) -> bool
+    ensures { λ r. ⌜ r ≡ (ltb source states && ltb target states && ltb trigger kinds) ⌝ }
+{
+    if states <= source {
+        return false;
+    }
+    if states <= target {
+        return false;
+    }
+    trigger < kinds
+}
+
+fn masks_fit(variables: u8, clocks: u8, sets: u8, clears: u8, resets: u8) -> bool
+    ensures { λ r. ⌜ r ≡ (ltb sets (2 ^ variables) && ltb clears (2 ^ variables) && ltb resets (2 ^ clocks) && apart variables sets clears) ⌝ }
+{
+    if !fits_mask(sets, variables) {
+        return false;
+    }
+    if !fits_mask(clears, variables) {
+        return false;
+    }
+    if !fits_mask(resets, clocks) {
+        return false;
+    }
+    apart_masks(variables, sets, clears)
+}
+
 fn transition_fields(b: &[u8], at: usize) -> Reading
     requires { ⌜ at < 131072 ⌝ }
     ensures { λ r. ⌜ r ≡ transitionFields (now (b .entry)) at ⌝ }
 {
-    let states = byte(b, 3);
-    let variables = byte(b, 4);
     let refused = Reading::Unsound(Refusal::TableField { offset: at as u64 });
-    if states <= byte(b, at) {
+    if !ends_fit(
+        byte(b, 3),
+        byte(b, 6),
+        byte(b, at),
+        byte(b, at + 1),
+        byte(b, at + 2),
+    ) {
         return refused;
     }
-    if states <= byte(b, at + 1) {
-        return refused;
-    }
-    if byte(b, 6) <= byte(b, at + 2) {
-        return refused;
-    }
-    let sets = byte(b, at + 3);
-    if !fits_mask(sets, variables) {
-        return refused;
-    }
-    let clears = byte(b, at + 4);
-    if !fits_mask(clears, variables) {
-        return refused;
-    }
-    if !fits_mask(byte(b, at + 5), byte(b, 5)) {
-        return refused;
-    }
-    if !apart_masks(variables, sets, clears) {
+    if !masks_fit(
+        byte(b, 4),
+        byte(b, 5),
+        byte(b, at + 3),
+        byte(b, at + 4),
+        byte(b, at + 5),
+    ) {
         return refused;
     }
     Reading::Sound
 }
 
-fn transition_record(b: &[u8], at: usize) -> Reading
+// The guard of the record at an offset: its length, its bytes and its form.
+fn guard_record(b: &[u8], at: usize) -> Reading
     requires { ⌜ at < 131072 ⌝ }
-    ensures { λ r. ⌜ r ≡ transitionRecord (now (b .entry)) at ⌝ }
+    ensures { λ r. ⌜ r ≡ guardRecord (now (b .entry)) at ⌝ }
 {
-    if b.len() < at + 7 {
-        return Reading::Unsound(Refusal::TableLength { offset: at as u64 });
-    }
-    let fields = transition_fields(b, at);
-    if !sound(fields) {
-        return fields;
-    }
     let length = byte(b, at + 6);
     if length < 1 {
         return Reading::Unsound(Refusal::TableGuard { offset: at as u64 });
@@ -179,6 +194,20 @@ fn transition_record(b: &[u8], at: usize) -> Reading
         return Reading::Unsound(Refusal::TableGuard { offset: at as u64 });
     }
     Reading::Sound
+}
+
+fn transition_record(b: &[u8], at: usize) -> Reading
+    requires { ⌜ at < 131072 ⌝ }
+    ensures { λ r. ⌜ r ≡ transitionRecord (now (b .entry)) at ⌝ }
+{
+    if b.len() < at + 7 {
+        return Reading::Unsound(Refusal::TableLength { offset: at as u64 });
+    }
+    let fields = transition_fields(b, at);
+    if !sound(fields) {
+        return fields;
+    }
+    guard_record(b, at)
 }
 
 fn transition_records(b: &[u8]) -> Reading
@@ -221,13 +250,12 @@ fn table_scan(b: &[u8]) -> Reading
 }
 
 // The fill, which writes arrays and tests nothing: a byte of each kind, and of each transition, by its place in the record.
-fn kind_column(b: &[u8], field: usize) -> [u8; 32]
+fn kind_column(b: &[u8], field: u8) -> [u8; 32]
     requires { ⌜ (kindsAt (now b) ≤ 32) × (field ≤ 1) ⌝ }
     ensures { λ r. ⌜ r ≡ kindColumn (now (b .entry)) field ⌝ }
 {
-    let n = byte(b, 6) as usize;
     let mut column = [0u8; 32];
-    bytes_column(b, 8 + field, 2, n, &mut column);
+    bytes_column(b, 8 + field, 2, byte(b, 6) as u16, &mut column);
     column
 }
 
@@ -360,23 +388,24 @@ fn encode_kinds(t: TableParts, out: &mut [u8])
     let n = t.kinds as usize;
     let mut i = 0;
     while i < n {
-        let record = [byte(&t.directions, i), byte(&t.airtimes, i)];
+        let record = [t.directions[i], t.airtimes[i]];
         place(&record, out, 8 + 2 * i);
         i += 1;
     }
 }
 
 fn field_bytes(t: TableParts, j: usize) -> [u8; 7]
+    requires { ⌜ j < 64 ⌝ }
     ensures { λ r. ⌜ r ≡ fieldBytes t j ⌝ }
 {
     [
-        byte(&t.sources, j),
-        byte(&t.targets, j),
-        byte(&t.triggers, j),
-        byte(&t.sets, j),
-        byte(&t.clears, j),
-        byte(&t.resets, j),
-        byte(&t.lengths, j),
+        t.sources[j],
+        t.targets[j],
+        t.triggers[j],
+        t.sets[j],
+        t.clears[j],
+        t.resets[j],
+        t.lengths[j],
     ]
 }
 
@@ -404,7 +433,7 @@ fn put_transition(t: TableParts, j: usize, at: usize, out: &mut [u8]) -> usize
 {
     let fields = field_bytes(t, j);
     place(&fields, out, at);
-    let length = byte(&t.lengths, j);
+    let length = t.lengths[j];
     at + 7 + put_guard(&t.guards, j, length, out, at + 7)
 }
 
@@ -462,11 +491,11 @@ pub fn write_table(t: TableParts, room: &mut [u8]) -> Writing
     ensures { λ w. ⌜ (w ≡ (writeTable t (now (room .entry))) .answer) × (now (room .exit) ≡ (writeTable t (now (room .entry))) .room) ⌝ }
 {
     let counts = counts_answer(t.states, t.variables, t.clocks, t.kinds, t.transitions);
+    if let Reading::Unsound(refusal) = counts {
+        return Writing::Unwritten(refusal);
+    }
     // made apart: a refusal leaves the room as it was, and counts within their limits give at most 2,568 bytes
     let mut bytes = [0u8; 2568];
-    if !sound(counts) {
-        return put(counts, &bytes[0..0], room);
-    }
     let end = encode(t, &mut bytes);
     let encoded = &bytes[0..end];
     put(table_answer(encoded), encoded, room)

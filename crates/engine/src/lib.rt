@@ -5,8 +5,8 @@ mod prune;
 mod walk;
 
 use codec::recording::recording_answer;
-use codec::size::table_size;
 use codec::table::read_table;
+use guard::size::table_size;
 use judge::judge;
 use model::Reading;
 use model::Refusal;

@@ -4,10 +4,11 @@ use native.Mathlib.Omega.{arith}
 use mathlib.Core.Path.{_≡_, refl, sym, ap, subst, _∙_}
 use mathlib.Core.List.{List, [], _∷_, _++_, List·Memᴰ, List·Memᴰ·head, List·Memᴰ·tail}
 use mathlib.Core.Option.{none, some}
-use lib.ListN.{length, take, drop, getElem?, List·getD-append}
+use lib.ListN.{length, take, drop, getElem?, List·getD-append, length-append}
 use lib.Dec.{leb}
 use borrow.Author.Tests.{lt-ltb, le-ltb, le-leb, lt-leb}
 use Rattle.model.specs.Bytes.{tab}
+use Rattle.model.specs.Numbers.{refusalValues}
 use Rattle.model.specs.First.{unless}
 use Rattle.model.specs.Room.{over}
 use Rattle.model.specs.Table.{monitorAt}
@@ -16,7 +17,7 @@ use Rattle.model.specs.Witness.{Row, rowAt, rowsAt, witnessCountAt, witnessByte
 use Rattle.model.specs.Order.{Preferred}
 use Rattle.model.specs.Claims.{Judged}
 use Rattle.model.specs.Validation.{preferred, verdict, refusal, validation, roomBy, scratchAfter, roomAfter, scratchWanted, roomWanted}
-use Rattle.model.specs.Desk.{filesIn, tableLength, budgetIn, line, refusedWord, verdictLines, judgedLines, linesFor, scratchFor, roomFor}
+use Rattle.model.specs.Desk.{filesIn, tableLength, tableIn, recordingIn, budgetIn, line, acceptedWord, rejectedWord, exhaustedWord, refusedWord, rowLines, verdictLines, judgedLines, linesFor, scratchFor, roomFor}
 use Rattle.model.specs.declared.Reading.{Reading}
 use Rattle.model.specs.declared.Reading.the-variants.{Sound, Unsound}
 use Rattle.model.specs.declared.Refusal.the-variants.{Scratch, WitnessRoom}
@@ -30,6 +31,8 @@ use Rattle.model.proofs.RecordingForm.{sane-recording}
 use Rattle.model.proofs.Judgement.{sound-judged}
 use Rattle.lines.specs.Written.{Wrote, rowsStanding, FewRows, Judging, Lines}
 use Rattle.lines.proofs.Stores.{wrote-front}
+use Rattle.lines.proofs.Digits.{line-length}
+use Rattle.lines.proofs.Rows.{rows-length}
 
 -- rows that a witness can hold
 pub record Fitting (rows : List Row) : Type 0 where
@@ -77,6 +80,21 @@ lines-back (Accepted cost n) rows room (e, fit) =
 lines-back (Rejected cost instant) rows room h = refl
 lines-back (Exhausted budget instant) rows room h = refl
 lines-back (Refused r) rows room h = refl
+
+-- the lines of a verdict fit the program's text
+lines-fit : (v : Verdict) (rows : List Row) → Holds v rows → length (verdictLines v rows) ≤ 400000
+unfolding verdictLines
+lines-fit (Accepted cost n) rows (e, fit) =
+    omega (
+      arith,
+      length-append (line acceptedWord cost n) (rowLines rows),
+      line-length acceptedWord cost n,
+      rows-length rows,
+      fit .few,
+    )
+lines-fit (Rejected cost instant) rows h = omega (arith, line-length rejectedWord cost instant)
+lines-fit (Exhausted budget instant) rows h = omega (arith, line-length exhaustedWord budget instant)
+lines-fit (Refused r) rows h = omega (arith, line-length refusedWord (refusalValues r .number) (refusalValues r .second))
 
 -- the preferred witness fits
 member : (rows : List Row) (i : ℕ) (r : Row) → getElem? rows i ≡ some r → List·Memᴰ r rows
@@ -134,6 +152,12 @@ judged-back table recording budget scratch room =
     lines-back (validation table recording budget (length scratch) (length room)) (preferred (monitorAt table) (packetsAt recording)) room
     (validation-holds table recording budget (length scratch) (length room))
 
+judged-fit : (scratchLength roomLength : ℕ) (table recording : List ℕ) (budget : ℕ) → length (judgedLines scratchLength roomLength table recording budget) ≤ 400000
+unfolding judgedLines
+judged-fit scratchLength roomLength table recording budget =
+    lines-fit (validation table recording budget scratchLength roomLength) (preferred (monitorAt table) (packetsAt recording))
+    (validation-holds table recording budget scratchLength roomLength)
+
 pub few-validated : (table recording : List ℕ) (budget scratchLength roomLength : ℕ) (v : Verdict)
     → v ≡ validation table recording budget scratchLength roomLength → FewRows v
 few-validated table recording budget scratchLength roomLength v e =
@@ -170,6 +194,7 @@ module _ (input scratch room : List ℕ) {text textLeft : List ℕ} {n : ℕ} wh
   lines-short h w =
       record {
         count = rw (lt-ltb _ _ h, linesFor) (wrote-front w .0);
+        short = omega (arith, wrote-front w .0, line-length refusedWord 5 0);
         text-after = rw (lt-ltb _ _ h, linesFor) (wrote-front w .1);
         scratch-after = rw (lt-leb _ _ h);
         room-after = rw (lt-leb _ _ h);
@@ -181,6 +206,7 @@ module _ (input scratch room : List ℕ) {text textLeft : List ℕ} {n : ℕ} wh
       let four : 4 ≤ length input = omega arith in
       record {
         count = rw (le-ltb _ _ four, lt-ltb _ _ h, linesFor) (wrote-front w .0);
+        short = omega (arith, wrote-front w .0, line-length refusedWord 6 0);
         text-after = rw (le-ltb _ _ four, lt-ltb _ _ h, linesFor) (wrote-front w .1);
         scratch-after = rw (le-leb _ _ four, lt-leb _ _ h);
         room-after = rw (le-leb _ _ four, lt-leb _ _ h);
@@ -196,6 +222,7 @@ module _ (input scratch room : List ℕ) {text textLeft : List ℕ} {n : ℕ} wh
       in
       record {
         count = rw (le-ltb _ _ four, le-ltb _ _ most, linesFor) (wrote-front (j .wrote) .0);
+        short = omega (arith, wrote-front (j .wrote) .0, judged-fit (length scratch) (length room) (tableIn input) (recordingIn input) (budgetIn input));
         text-after = rw (le-ltb _ _ four, le-ltb _ _ most, linesFor) (wrote-front (j .wrote) .1);
         scratch-after = rw (le-leb _ _ four, le-leb _ _ most) (j .scratch-after);
         room-after = rw (le-leb _ _ four, le-leb _ _ most) (j .room-after);

@@ -1,5 +1,5 @@
 -- The lines of rows: one more row, and how long a line is.
-use Prim.Native.Nat.{ℕ, suc, _+_, _≤_}
+use Prim.Native.Nat.{ℕ, suc, _+_, _*_, _≤_}
 use native.Mathlib.Omega.{arith}
 use mathlib.Core.Path.{_≡_, sym, ap, _∙_}
 use mathlib.Core.List.{List, [], _∷_, _++_, append-assoc, append-nil}
@@ -39,3 +39,8 @@ row-length r =
       mark-length (r .mark),
       spaced-length (r .transition),
     )
+
+pub rows-length : (rows : List Row) → length (rowLines rows) ≤ 71 * length rows
+unfolding rowLines
+rows-length [] = omega arith
+rows-length (r ∷ rows) = omega (arith, length-append (rowLine r) (rowLines rows), row-length r, rows-length rows)

@@ -46,9 +46,10 @@ pub record Judging (files : List ℕ) (budget : ℕ) (scratch room text scratchL
   pub scratch-after : scratchLeft ≡ scratchAfter (take (tableLength files) files) (drop (tableLength files) files) budget scratch room
   pub room-after : roomLeft ≡ roomAfter (take (tableLength files) files) (drop (tableLength files) files) budget scratch room
 
--- what the program's function promises: how many bytes the lines are, and the lent bytes after them
+-- what the program's function promises: how many bytes the lines are, and the lent bytes after them; the lines of any input fit 400,000 bytes
 pub record Lines (input scratch room text scratchLeft roomLeft textLeft : List ℕ) (bytes : ℕ) : Type 0 where
   pub count : bytes ≡ length (linesFor (length scratch) (length room) input)
+  pub short : bytes ≤ 400000
   pub text-after : textLeft ≡ inText (linesFor (length scratch) (length room) input) text
   pub scratch-after : scratchLeft ≡ scratchFor input scratch room
   pub room-after : roomLeft ≡ roomFor input scratch room

@@ -5,12 +5,11 @@ ghost use mathlib.Core.List.{[], _∷_, _++_};
 ghost use Prim.Native.Nat.{_+_, _*_, _<_, _≤_};
 ghost use lib.ListN.{length};
 ghost use Rattle.model.specs.Bytes.{tab};
-ghost use Rattle.model.specs.Numbers.{values, refusalValues};
 ghost use Rattle.model.specs.Witness.{rowAt};
 ghost use Rattle.model.specs.Desk.{budgetIn, tableLength, digits, spaced, line, markWord, rowLine, rowLines, verdictLines};
 ghost use Rattle.lines.specs.Written.{Wrote, Small, row, rowsStanding, FewRows, Judging, Lines};
-use model::Refusal;
 use model::Verdict;
+use numbers::refusal_numbers;
 
 fn emit(text: &mut [u8], at: usize, b: u8) -> usize
     requires { ⌜ Small at 1 ⌝ }
@@ -122,35 +121,6 @@ fn row_lines(witness: &[u8], rows: usize, text: &mut [u8], at: usize) -> usize
     next
 }
 
-// A refusal's number and second value.
-struct Printed(u64, u64);
-
-fn refusal_numbers(refusal: Refusal) -> Printed
-    ensures { λ r. ⌜ values (r .0) (r .1) 0 ≡ refusalValues refusal ⌝ }
-{
-    match refusal {
-        Refusal::TableFrame => Printed(10, 0),
-        Refusal::TableVersion => Printed(11, 2),
-        Refusal::TableCount { offset } => Printed(12, offset),
-        Refusal::TableLength { offset } => Printed(13, offset),
-        Refusal::TableField { offset } => Printed(14, offset),
-        Refusal::TableGuard { offset } => Printed(15, offset),
-        Refusal::TableSize => Printed(16, 0),
-        Refusal::RecordingFrame => Printed(20, 0),
-        Refusal::RecordingVersion => Printed(21, 2),
-        Refusal::RecordingCount => Printed(22, 3),
-        Refusal::RecordingRange { row } => Printed(23, row),
-        Refusal::RecordingOrder { row } => Printed(24, row),
-        Refusal::Scratch { wanted } => Printed(30, wanted),
-        Refusal::WitnessRoom { wanted } => Printed(31, wanted),
-        Refusal::WriteRoom { wanted } => Printed(33, wanted),
-        Refusal::WitnessFrame => Printed(40, 0),
-        Refusal::WitnessVersion => Printed(41, 2),
-        Refusal::WitnessCount => Printed(42, 3),
-        Refusal::WitnessRow { row } => Printed(43, row),
-    }
-}
-
 // An accepted verdict's rows are read back from the witness room.
 fn verdict_lines(verdict: Verdict, witness: &[u8], text: &mut [u8], at: usize) -> usize
     requires { ⌜ FewRows verdict × Small at 400000 ⌝ }
@@ -170,8 +140,8 @@ fn verdict_lines(verdict: Verdict, witness: &[u8], text: &mut [u8], at: usize) -
             at,
         ),
         Verdict::Refused(refusal) => {
-            let numbers = refusal_numbers(refusal);
-            short_line(b"refused", numbers.0, numbers.1, text, at)
+            let told = refusal_numbers(refusal);
+            short_line(b"refused", told.number, told.second, text, at)
         }
     }
 }

@@ -14,6 +14,7 @@ use Rattle.model.specs.Monitor.{Monitor, airtime}
 use Rattle.model.specs.Trace.{Packet, Spaced}
 use Rattle.model.specs.Table.{tableAnswer, kindsAt, SoundTable, monitorAt}
 use Rattle.model.specs.Recording.{rowLimit, lastTime, countAt, timeAt, rowKindAt, clearOfBefore, recordedRow, recordedRows, recordingAnswer, recordingParts, SoundRecording, packetsOf, packetsAt, endOf, rowBytes, recordingBytes}
+use Rattle.model.specs.Same.{SameRecording, RecordingZero}
 use Rattle.model.specs.declared.RecordingParts.{RecordingParts}
 use Rattle.model.specs.declared.Reading.{Reading}
 use Rattle.model.specs.declared.Reading.the-variants.{Sound}
@@ -196,28 +197,23 @@ module _ (r : RecordingParts) (few : r .count ≤ rowLimit) (times : (i : ℕ) �
   written-kind i h =
       ap (λ (k : ℕ). getD (recordingBytes r) k 0) (omega arith) ∙ written-row i h 2 (omega arith)
 
--- what is read of written parts: the same where the count reaches, 0 beyond
-pub record RecordingBack (r s : RecordingParts) : Type 0 where
-  pub count : s .count ≡ r .count
-  pub time : (i : ℕ) → i < r .count → byteAt (s .times) i ≡ byteAt (r .times) i
-  pub kind : (i : ℕ) → i < r .count → byteAt (s .kinds) i ≡ byteAt (r .kinds) i
-  pub no-time : (i : ℕ) → r .count ≤ i → byteAt (s .times) i ≡ 0
-  pub no-kind : (i : ℕ) → r .count ≤ i → byteAt (s .kinds) i ≡ 0
-
+-- what is read of written parts is the same
 pub recording-back :
     (r : RecordingParts) → r .count ≤ rowLimit → ((i : ℕ) → i < r .count → byteAt (r .times) i < 65536)
-    → RecordingBack r (recordingParts (recordingBytes r))
+    → SameRecording (recordingParts (recordingBytes r)) r
 unfolding recordingParts
 recording-back r few times =
     let b : List ℕ = recordingBytes r in
     let n : countAt b ≡ r .count = written-count r few times in
     record {
       count = n;
-      time = λ i h. getD-column 512 (timeAt b) (countAt b) i (rw n h) ∙ written-time r few times i h;
-      kind = λ i h. getD-column 512 (rowKindAt b) (countAt b) i (rw n h) ∙ written-kind r few times i h;
-      no-time = λ i h. getD-column-past 512 (timeAt b) (countAt b) i (rw n h);
-      no-kind = λ i h. getD-column-past 512 (rowKindAt b) (countAt b) i (rw n h);
+      times = λ i h. getD-column 512 (timeAt b) (countAt b) i (rw n h) ∙ written-time r few times i h;
+      kinds = λ i h. getD-column 512 (rowKindAt b) (countAt b) i (rw n h) ∙ written-kind r few times i h;
     }
+
+pub recording-zero : (b : List ℕ) → RecordingZero (recordingParts b)
+unfolding recordingParts
+recording-zero b = record { times = getD-column-past 512 (timeAt b) (countAt b); kinds = getD-column-past 512 (rowKindAt b) (countAt b) }
 
 -- the bytes of parts record their packets
 pub packets-back :

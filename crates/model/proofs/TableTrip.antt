@@ -10,6 +10,7 @@ use lib.Dec.{eqb}
 use Rattle.model.specs.Guard.{guardAt, guardOf}
 use Rattle.model.proofs.GuardForm.{guard-moved, moved-guard}
 use Rattle.model.specs.Table.{guardIn, transitionIn, monitorOf, monitorAt, statesAt, variablesAt, clocksAt, kindsAt, transitionsAt, guardLengthAt, kindAt, transitionAt, guardPlace, tableParts, SoundTable, kindColumn, transitionColumn, kindBytes, transitionBytes, tableBody, tableBytes}
+use Rattle.model.specs.Same.{Zero, SameTable, TableZero}
 use Rattle.model.specs.declared.TableParts.{TableParts}
 use Rattle.model.proofs.Places.{AllBytes, Stands, stands-append, stands-left, stands-right, stands-moved, stands-self, stands-whole, word-at, length-padded, getD-padded-past, getD-column, getD-column-past, length-joined, stands-joined, joined-stands, tab-same}
 use Rattle.model.proofs.TableForm.{SoundTransition, TableFacts, table-facts, places-length, guard-place, guard-byte}
@@ -148,46 +149,6 @@ table-again b all s =
     (stands-append b 0 (wordBytes (length (tableBody (tableParts b)))) (tableBody (tableParts b))
     (word-at b 0 (length (tableBody (tableParts b))) all (omega arith)) (body-stands b facts))
 
--- two columns agree on their first n places
-abbrev pub Agree : ℕ → List ℕ → List ℕ → Type 0
-Agree n a c = (i : ℕ) → i < n → byteAt a i ≡ byteAt c i
-
--- two tables' parts agree where counts and guard lengths reach
-pub record SameTable (t u : TableParts) : Type 0 where
-  pub states : t .states ≡ u .states
-  pub variables : t .variables ≡ u .variables
-  pub clocks : t .clocks ≡ u .clocks
-  pub kinds : t .kinds ≡ u .kinds
-  pub transitions : t .transitions ≡ u .transitions
-  pub directions : Agree (u .kinds) (t .directions) (u .directions)
-  pub airtimes : Agree (u .kinds) (t .airtimes) (u .airtimes)
-  pub sources : Agree (u .transitions) (t .sources) (u .sources)
-  pub targets : Agree (u .transitions) (t .targets) (u .targets)
-  pub triggers : Agree (u .transitions) (t .triggers) (u .triggers)
-  pub sets : Agree (u .transitions) (t .sets) (u .sets)
-  pub clears : Agree (u .transitions) (t .clears) (u .clears)
-  pub resets : Agree (u .transitions) (t .resets) (u .resets)
-  pub lengths : Agree (u .transitions) (t .lengths) (u .lengths)
-  pub guards : (j : ℕ) → j < u .transitions → (i : ℕ) → i < byteAt (u .lengths) j → byteAt (t .guards) (32 * j + i) ≡ byteAt (u .guards) (32 * j + i)
-
--- a column is 0 from place n on
-abbrev pub Zero : ℕ → List ℕ → Type 0
-Zero n c = (i : ℕ) → n ≤ i → byteAt c i ≡ 0
-
--- a table's parts are 0 beyond its counts and guard lengths
-pub record ZeroBeyond (t : TableParts) : Type 0 where
-  pub directions : Zero (t .kinds) (t .directions)
-  pub airtimes : Zero (t .kinds) (t .airtimes)
-  pub sources : Zero (t .transitions) (t .sources)
-  pub targets : Zero (t .transitions) (t .targets)
-  pub triggers : Zero (t .transitions) (t .triggers)
-  pub sets : Zero (t .transitions) (t .sets)
-  pub clears : Zero (t .transitions) (t .clears)
-  pub resets : Zero (t .transitions) (t .resets)
-  pub lengths : Zero (t .transitions) (t .lengths)
-  pub guards : (j : ℕ) → j < t .transitions → (i : ℕ) → byteAt (t .lengths) j ≤ i → i < 32 → byteAt (t .guards) (32 * j + i) ≡ 0
-  pub no-guards : Zero (32 * t .transitions) (t .guards)
-
 module _ (b : List ℕ) where
   no-kind : (k : ℕ) → Zero (kindsAt b) (kindColumn b k)
   no-kind k = getD-column-past 32 (λ i. byteAt b (kindAt i + k)) (kindsAt b)
@@ -203,7 +164,7 @@ module _ (b : List ℕ) where
       let g : List ℕ = take n (drop (transitionAt b j + 7) b) in
       guard-place b facts j h i q ∙ getD-padded-past 32 g i (omega (arith, length-take n (drop (transitionAt b j + 7) b)))
 
-  pub zero-beyond : SoundTable b → ZeroBeyond (tableParts b)
+  pub zero-beyond : SoundTable b → TableZero (tableParts b)
   unfolding tableParts
   zero-beyond s =
       let facts : TableFacts b = table-facts b s in

@@ -9,6 +9,7 @@ use lib.Dec.{leb, eqb}
 use Rattle.model.specs.Bytes.{byteAt, wordAt, wordBytes, tab, joined}
 use Rattle.model.specs.First.{unless, firstOf}
 use Rattle.model.specs.Witness.{Row, witnessLimit, misformed, Formed, witnessCountAt, rowAt, rowsAt, badRow, witnessFrame, witnessAnswer, SoundForm, witnessParts, rowBytes, rowsBytes, witnessBytes, rowIn, rowsIn}
+use Rattle.model.specs.Same.{SameWitness, WitnessZero}
 use Rattle.model.specs.declared.WitnessParts.{WitnessParts}
 use Rattle.model.specs.declared.Reading.{Reading}
 use Rattle.model.specs.declared.Reading.the-variants.{Sound}
@@ -169,27 +170,31 @@ witness-back rows few times =
     blank : Row
     blank = record { mark = 0; time = 0; kind = 0; transition = 0 }
 
--- what is read of written parts: the same where the count reaches, 0 beyond
-pub record WitnessBack (r s : WitnessParts) : Type 0 where
-  pub count : s .count ≡ r .count
-  pub row : (i : ℕ) → i < r .count → rowIn s i ≡ rowIn r i
-  pub no-mark : (i : ℕ) → r .count ≤ i → byteAt (s .marks) i ≡ 0
-  pub no-time : (i : ℕ) → r .count ≤ i → byteAt (s .times) i ≡ 0
-  pub no-kind : (i : ℕ) → r .count ≤ i → byteAt (s .kinds) i ≡ 0
-  pub no-transition : (i : ℕ) → r .count ≤ i → byteAt (s .transitions) i ≡ 0
-
+-- what is read of written parts is the same
 pub witness-parts-back :
     (w : WitnessParts) → w .count ≤ witnessLimit → ((i : ℕ) → i < w .count → byteAt (w .times) i < 65536)
-    → WitnessBack w (witnessParts (witnessBytes (rowsIn w)))
-unfolding witnessParts rowIn rowAt
+    → SameWitness (witnessParts (witnessBytes (rowsIn w))) w
+unfolding rowIn witnessParts
 witness-parts-back w few times =
     let b : List ℕ = witnessBytes (rowsIn w) in
     let n : witnessCountAt b ≡ w .count = written-count (rowIn w) (w .count) few times in
+    let row : (i : ℕ) → i < w .count → rowIn (witnessParts b) i ≡ rowIn w i =
+    λ i h. column b i (rw n h) ∙ written-row (rowIn w) (w .count) few times i h
+    in
     record {
       count = n;
-      row = λ i h. column b i (rw n h) ∙ written-row (rowIn w) (w .count) few times i h;
-      no-mark = λ i h. getD-column-past 4608 (λ i. rowAt b i .mark) (witnessCountAt b) i (rw n h);
-      no-time = λ i h. getD-column-past 4608 (λ i. rowAt b i .time) (witnessCountAt b) i (rw n h);
-      no-kind = λ i h. getD-column-past 4608 (λ i. rowAt b i .kind) (witnessCountAt b) i (rw n h);
-      no-transition = λ i h. getD-column-past 4608 (λ i. rowAt b i .transition) (witnessCountAt b) i (rw n h);
+      marks = λ i h. ap (λ (r : Row). r .mark) (row i h);
+      times = λ i h. ap (λ (r : Row). r .time) (row i h);
+      kinds = λ i h. ap (λ (r : Row). r .kind) (row i h);
+      transitions = λ i h. ap (λ (r : Row). r .transition) (row i h);
+    }
+
+pub witness-zero : (b : List ℕ) → WitnessZero (witnessParts b)
+unfolding witnessParts
+witness-zero b =
+    record {
+      marks = getD-column-past 4608 (λ i. rowAt b i .mark) (witnessCountAt b);
+      times = getD-column-past 4608 (λ i. rowAt b i .time) (witnessCountAt b);
+      kinds = getD-column-past 4608 (λ i. rowAt b i .kind) (witnessCountAt b);
+      transitions = getD-column-past 4608 (λ i. rowAt b i .transition) (witnessCountAt b);
     }

@@ -8,6 +8,7 @@ pub mod Size
 pub mod Table
 pub mod Recording
 pub mod Witness
+pub mod Same
 pub mod Rules
 pub mod Situation
 pub mod Layers

@@ -1,4 +1,4 @@
--- Of a sound table, the monitor read straight from its bytes is the monitor that the table describes.
+-- Of a sound table, the monitor read straight from its bytes is the monitor that the table describes; of any, the airtimes are its airtimes.
 use Prim.Native.Nat.{ℕ, zero, suc, _+_, _<_, _≤_, min}
 use native.Mathlib.Omega.{arith}
 use mathlib.Core.Path.{_≡_, refl, sym, ap, ap₂, _∙_}
@@ -6,6 +6,7 @@ use mathlib.Core.List.{List, [], _∷_, _++_}
 use lib.ListN.{getD}
 use lib.Dec.{eqb}
 use Rattle.model.specs.Bytes.{byteAt, tab, padded}
+use Rattle.model.specs.Monitor.{airtime}
 use Rattle.model.specs.Table.{guardIn, transitionIn, monitorOf, kindsAt, transitionsAt, kindAt, transitionAt, tableParts, SoundTable, monitorAt}
 use Rattle.model.proofs.Places.{getD-column}
 use Rattle.model.proofs.TableForm.{TableFacts, table-facts, guard-again}
@@ -15,6 +16,19 @@ tab-same : {A : Type 0} (f g : ℕ → A) (n : ℕ) → ((i : ℕ) → i < n →
 unfolding tab
 tab-same f g zero h = refl
 tab-same f g (suc n) h = ap₂ (λ l x. l ++ (x ∷ [])) (tab-same f g n (λ i p. h i (omega arith))) (h n (omega arith))
+
+-- the columns of the kinds, of any table
+module _ (b : List ℕ) where
+  kind-column : (field k : ℕ) → k < kindsAt b → byteAt b (kindAt k + field) ≡ byteAt (padded 32 (tab (λ i. byteAt b (kindAt i + field)) (kindsAt b))) k
+  kind-column field k h = sym (getD-column 32 (λ i. byteAt b (kindAt i + field)) (kindsAt b) k h)
+
+  same-airtimes : tab (λ k. byteAt b (kindAt k + 1)) (kindsAt b) ≡ tab (λ k. byteAt (tableParts b .airtimes) k) (kindsAt b)
+  unfolding tableParts
+  same-airtimes = tab-same (λ k. byteAt b (kindAt k + 1)) (λ k. byteAt (tableParts b .airtimes) k) (kindsAt b) (kind-column 1)
+
+  pub airtime-from : (offsets : List ℕ) (k : ℕ) → airtime (monitorFrom b offsets) k ≡ airtime (monitorAt b) k
+  unfolding monitorFrom monitorOf tableParts
+  airtime-from offsets k = ap (λ (l : List ℕ). getD l k 0) same-airtimes
 
 module _ (b : List ℕ) (facts : TableFacts b) where
   few : transitionsAt b ≤ 64
@@ -44,15 +58,11 @@ module _ (b : List ℕ) (facts : TableFacts b) where
         guard = guard i;
       }
 
-  kind-column : (field k : ℕ) → k < kindsAt b → byteAt b (kindAt k + field) ≡ byteAt (padded 32 (tab (λ i. byteAt b (kindAt i + field)) (kindsAt b))) k
-  kind-column field k h = sym (getD-column 32 (λ i. byteAt b (kindAt i + field)) (kindsAt b) k h)
-
   described : monitorFrom b (offsetsOf b) ≡ monitorAt b
   unfolding monitorFrom monitorOf tableParts
   described =
       let inbound = tab-same (λ k. eqb (byteAt b (kindAt k)) 1) (λ k. eqb (byteAt (tableParts b .directions) k) 1) (kindsAt b)
-      (λ k h. ap (λ (x : ℕ). eqb x 1) (ap (byteAt b) (omega arith) ∙ kind-column 0 k h)) in
-      let airtimes = tab-same (λ k. byteAt b (kindAt k + 1)) (λ k. byteAt (tableParts b .airtimes) k) (kindsAt b) (kind-column 1) in
+      (λ k h. ap (λ (x : ℕ). eqb x 1) (ap (byteAt b) (omega arith) ∙ kind-column b 0 k h)) in
       let transitions = tab-same (λ j. transitionFrom b (getD (offsetsOf b) j 0)) (transitionIn (tableParts b)) (transitionsAt b)
       (λ j h. ap (transitionFrom b) (offset j h) ∙ same j h) in
       λ i.
@@ -61,7 +71,7 @@ module _ (b : List ℕ) (facts : TableFacts b) where
         variables = byteAt b 4;
         clocks = byteAt b 5;
         inbound = inbound i;
-        airtimes = airtimes i;
+        airtimes = same-airtimes b i;
         transitions = transitions i;
       }
 

@@ -1,5 +1,5 @@
 // The monitor, straight from a table's bytes: which transition fires, and what a kind's record says. Each function takes any bytes.
-use codec::guard::guard_holds;
+use guard::guard_holds;
 use model::Config;
 use wire::byte;
 use wire::short;

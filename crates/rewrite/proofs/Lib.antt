@@ -1,2 +1,2 @@
 pub mod Again
-pub mod Back
+pub mod Kept

@@ -1,5 +1,5 @@
 -- Reading and writing again (demand 2): "What we write reads back to the same parts; sound bytes read and written again are the same bytes".
-use Prim.Native.Nat.{ℕ, _≤_}
+use Prim.Native.Nat.{ℕ}
 use mathlib.Core.Path.{_≡_}
 use mathlib.Core.List.{List}
 use Rattle.model.specs.Room.{Lent, write}

@@ -1,12 +1,14 @@
 // Bytes read and written again: the first refusal of either, else the bytes of the parts that were read.
+pub mod back;
+
 use codec::recording::read_recording;
 use codec::recording::write_recording;
 use codec::table::read_table;
 use codec::table::write_table;
-use codec::witness::read_witness;
-use codec::witness::write_witness;
 use model::Reading;
 use model::Writing;
+use witness::read_witness;
+use witness::write_witness;
 ghost use Rattle.model.specs.Table.{tableAnswer};
 ghost use Rattle.model.specs.Recording.{recordingAnswer};
 ghost use Rattle.model.specs.Witness.{witnessAnswer};

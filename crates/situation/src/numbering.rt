@@ -1,6 +1,6 @@
 // A situation's number: its parts as digits, the first the lowest.
 use crate::Shape;
-use codec::size::largest_bound;
+use guard::size::largest_bound;
 use model::Situation;
 use model::TableParts;
 use wire::short;

@@ -21,9 +21,6 @@ abbrev μ-loop : tie.MeasureT-loop
 word-requires : tie.Need-word-requires Inv-loop μ-loop
 word-requires c κs = search needs
 
-cast-count : tie.Need-cast-count Inv-loop μ-loop
-cast-count c = search needs
-
 begun-requires : tie.Need-begun-requires Inv-loop μ-loop
 begun-requires c κs = search needs
 
@@ -37,6 +34,9 @@ row-at-requires c κs = search needs
 
 accounted-requires : tie.Need-accounted-requires Inv-loop μ-loop
 accounted-requires c κs = search needs
+
+cast-t12 : tie.Need-cast-t12 Inv-loop μ-loop
+cast-t12 c = search needs
 
 returns : tie.Need-returns Inv-loop μ-loop
 returns c = let a = c .before .before .before .before .before .before .before .before .before .before .before .before .args in
@@ -72,11 +72,17 @@ loop-again c = let a = c .before .before .before .before .before .before .before
 word-requires-2 : tie.Need-word-requires-2 Inv-loop μ-loop
 word-requires-2 c κs = search needs
 
+cast-t17 : tie.Need-cast-t17 Inv-loop μ-loop
+cast-t17 c = search needs
+
 returns-2 : tie.Need-returns-2 Inv-loop μ-loop
 returns-2 c = let a = c .before .before .before .before .before .before .before .before .before .before .before .args in
     let m = monitorFrom (a .table .now) (a .offsets .now) in
     let l = c .before .before .before .before .loop in
     ahead-left m (a .recording .now) (a .witness .now) (l .s) (l .changed) (l .i) (l .inv .2) (omega (arith, l .inv .0, (c .before .before .before .loop-test .left))) (omega (arith, (c .before .before .word2 .ensures .0), c .if2 .taken))
+
+cast-t19 : tie.Need-cast-t19 Inv-loop μ-loop
+cast-t19 c = search needs
 
 returns-3 : tie.Need-returns-3 Inv-loop μ-loop
 returns-3 c = let a = c .before .before .before .before .before .before .before .before .before .before .before .args in
@@ -91,11 +97,11 @@ check-rows-spec =
     Inv-loop
     μ-loop
     word-requires
-    cast-count
     begun-requires
     loop-holds
     row-at-requires
     accounted-requires
+    cast-t12
     returns
     change-by-requires
     add-changed
@@ -103,5 +109,7 @@ check-rows-spec =
     loop-less
     loop-again
     word-requires-2
+    cast-t17
     returns-2
+    cast-t19
     returns-3)

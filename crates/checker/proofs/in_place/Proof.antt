@@ -14,12 +14,12 @@ returns c = let a = c .before .before .args in not-formed (a .p) (a .e) (sym (c 
 returns-2 : tie.Need-returns-2
 returns-2 c = let a = c .before .before .before .before .args in placed-first (a .p) (a .e) (sym (c .before .before .before .in-form .ensures) ∙ not-false _ (c .before .before .if1 .left)) (c .if2 .taken)
 
-follows-row-requires : tie.Need-follows-row-requires
-follows-row-requires c κs = search needs
+in-order-requires : tie.Need-in-order-requires
+in-order-requires c κs = search needs
 
 returns-3 : tie.Need-returns-3
-returns-3 c = let a = c .before .before .before .before .before .args in c .follows-row .ensures ∙ placed-behind (a .p) (a .e) (sym (c .before .before .before .before .in-form .ensures) ∙ not-false _ (c .before .before .before .if1 .left)) (c .before .if2 .left)
+returns-3 c = let a = c .before .before .before .before .before .args in c .in-order .ensures ∙ placed-behind (a .p) (a .e) (sym (c .before .before .before .before .in-form .ensures) ∙ not-false _ (c .before .before .before .if1 .left)) (c .before .if2 .left)
 
 pub in-place-spec : {M : Type 1} → statement M
 in-place-spec =
-    tie.close (tie.spec in-form-requires returns returns-2 follows-row-requires returns-3)
+    tie.close (tie.spec in-form-requires returns returns-2 in-order-requires returns-3)

@@ -2,7 +2,7 @@ use mathlib.Core.Bool.{false≢true}
 use Rattle.model.specs.Recording.{timeAt, rowKindAt}
 use borrow.Author.Tests.{eq-eqb, ne-eqb}
 use Rattle.checker.proofs.Left.{left-cons, left-past}
-use Rattle.checker.specs.Standing.{rowOf}
+use Rattle.witness.specs.Rows.{rowOf}
 use Rattle.model.specs.Rules.{isNext}
 use Rattle.model.specs.Trace.{Packet}
 use lib.Dec.{eqb}

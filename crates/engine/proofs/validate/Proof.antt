@@ -8,7 +8,7 @@ use Rattle.engine.proofs.validate.Tie as tie
 use Rattle.engine.proofs.validate.Reads as reads
 use Rattle.engine.proofs.validate.Lts as lts
 use Rattle.codec.proofs.recording.recording_answer.Reads as recording-answer-reads
-use Rattle.codec.proofs.size.table_size.Reads as table-size-reads
+use Rattle.guard.proofs.size.table_size.Reads as table-size-reads
 use Rattle.codec.proofs.table.read_table.Reads as read-table-reads
 use Rattle.engine.proofs.judge.judge.Reads as judge-reads
 use Rattle.engine.proofs.last_time.Reads as last-time-reads

@@ -1,12 +1,14 @@
-use mathlib.Core.List.{List}
+use mathlib.Core.List.{List, _++_}
+use lib.ListN.{length, set, replicate}
+use lib.Seq.{append-snoc, set-at}
 use Rattle.monitor.specs.From.{offsetsOf}
-use Prim.Native.Nat.{ℕ, suc, _+_, _*_, _-_, _≤_, min}
+use Prim.Native.Nat.{ℕ, suc, _+_, _*_, _-_, _≤_, _<_, min}
 use native.Mathlib.Omega.{arith}
 use native.Mathlib.Numerals.{add-one}
 use mathlib.Core.Path.{_≡_, refl, sym, ap, _∙_}
 use Rattle.model.specs.Bytes.{byteAt, tab, padded}
 use Rattle.model.specs.Table.{transitionsAt, transitionAt}
-use Rattle.codec.proofs.Filled.{padded-more}
+use Rattle.model.proofs.Basics.{length-tab}
 use borrow.Author.Needs.{needs}
 use Rattle.monitor.proofs.offsets.Statement.{statement}
 use Rattle.monitor.proofs.offsets.Tie as tie
@@ -17,6 +19,20 @@ next-record b j at length e g =
     let h : length ≡ byteAt b (transitionAt b j + 6) = g ∙ ap (λ (k : ℕ). byteAt b (k + 6)) e in
     let s : at + (7 + length) ≡ transitionAt b (suc j) = omega arith in
     s ∙ ap (transitionAt b) (sym (add-one j))
+
+-- one more offset in its place
+padded-more : (size : ℕ) (f : ℕ → ℕ) (i : ℕ) → i < size → (l : List ℕ) (v : ℕ) → l ≡ padded size (tab f i) → v ≡ f i → set l i v ≡ padded size (tab f (i + 1))
+unfolding padded tab
+padded-more size f i h l v e is =
+    let rest : List ℕ = replicate (size - suc i) 0 in
+    let room : size - length (tab f i) ≡ suc (size - suc i) = omega (arith, length-tab f i) in
+    let left : size - suc i ≡ size - length (tab f (suc i)) = omega (arith, length-tab f (suc i)) in
+    rw (e, is)
+    (ap (λ (n : ℕ). set (tab f i ++ replicate n 0) i (f i)) room
+    ∙ set-at (tab f i) 0 rest (f i) i (length-tab f i)
+    ∙ sym (append-snoc (tab f i) (f i) rest)
+    ∙ ap (λ (n : ℕ). tab f (suc i) ++ replicate n 0) left
+    ∙ ap (λ (n : ℕ). padded size (tab f n)) (sym (add-one i)))
 
 abbrev Inv-loop : tie.InvT-loop
 Inv-loop table found₀ count at₀ j₀ found at j = (j ≤ count) × (count ≡ min (transitionsAt table) 64) × (at ≡ transitionAt table j) × (at ≤ 518 + 262 * j) × (found ≡ padded 64 (tab (transitionAt table) j))

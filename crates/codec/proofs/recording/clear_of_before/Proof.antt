@@ -1,4 +1,6 @@
-use mathlib.Core.Path.{sym}
+use mathlib.Core.List.{[]}
+use Rattle.monitor.proofs.Described.{airtime-from}
+use mathlib.Core.Path.{sym, _∙_}
 use Rattle.codec.proofs.Recordings.{clear-first, clear-later}
 use borrow.Author.Needs.{needs}
 use Rattle.codec.proofs.recording.clear_of_before.Statement.{statement}
@@ -53,7 +55,7 @@ cast-result-2 : tie.Need-cast-result-2
 cast-result-2 c = search needs
 
 returns-2 : tie.Need-returns-2
-returns-2 c = rw (clear-later (c .before .before .before .before .before .before .before .args .table .now) (c .before .before .before .before .before .before .before .args .b .now) (c .before .before .before .before .before .before .before .args .i) (c .before .before .before .before .if1 .left), c .before .word .ensures .0, c .word2 .ensures .0, c .before .before .airtime-of .ensures .0, c .before .before .before .byte .ensures .0)
+returns-2 c = rw (clear-later (c .before .before .before .before .before .before .before .args .table .now) (c .before .before .before .before .before .before .before .args .b .now) (c .before .before .before .before .before .before .before .args .i) (c .before .before .before .before .if1 .left), c .before .word .ensures .0, c .word2 .ensures .0, c .before .before .airtime-of .ensures [] ∙ airtime-from _ [] _, c .before .before .before .byte .ensures .0)
 
 pub clear-of-before-spec : {M : Type 1} → statement M
 clear-of-before-spec =

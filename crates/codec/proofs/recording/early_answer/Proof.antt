@@ -1,7 +1,7 @@
 use mathlib.Core.Path.{sym, _∙_}
 use borrow.Author.Tests.{le-leb, lt-leb, not-true, not-false}
 use Rattle.codec.specs.Steps.{recordingEarly}
-use Rattle.codec.proofs.Steps.{stops, goes}
+use Rattle.frame.proofs.Answers.{stops, goes}
 use borrow.Author.Needs.{needs}
 use Rattle.codec.proofs.recording.early_answer.Statement.{statement}
 use Rattle.codec.proofs.recording.early_answer.Tie as tie

@@ -7,9 +7,10 @@ use Rattle.model.specs.Bytes.{joined}
 use Rattle.model.specs.Room.{over}
 use Rattle.wire.specs.Placed.{placed}
 use Rattle.wire.proofs.Room.{placed-behind}
-use Rattle.codec.specs.Steps.{rowsFrame, recordedBytes}
+use Rattle.frame.specs.Framed.{rowsFrame}
+use Rattle.codec.specs.Steps.{recordedBytes}
 use Rattle.codec.proofs.Recordings.{long-rows}
-use Rattle.codec.proofs.Written.{joined-none, placed-row}
+use Rattle.frame.proofs.Written.{joined-none, placed-row}
 use borrow.Author.Needs.{needs}
 use Rattle.codec.proofs.recording.encode.Statement.{statement}
 use Rattle.codec.proofs.recording.encode.Tie as tie
@@ -27,6 +28,12 @@ mul-frame-bytes c = search needs
 
 add-frame-bytes : tie.Need-add-frame-bytes Inv-loop μ-loop
 add-frame-bytes c = search needs
+
+cast-frame-bytes : tie.Need-cast-frame-bytes Inv-loop μ-loop
+cast-frame-bytes c = search needs
+
+cast-frame-bytes-2 : tie.Need-cast-frame-bytes-2 Inv-loop μ-loop
+cast-frame-bytes-2 c = search needs
 
 frame-bytes-requires : tie.Need-frame-bytes-requires Inv-loop μ-loop
 frame-bytes-requires c κs = search needs
@@ -83,6 +90,8 @@ encode-spec =
     μ-loop
     mul-frame-bytes
     add-frame-bytes
+    cast-frame-bytes
+    cast-frame-bytes-2
     frame-bytes-requires
     slice-aggregate-place
     place-requires

@@ -1,16 +1,14 @@
+use native.Mathlib.Omega.{arith}
 use mathlib.Core.Path.{refl, ap, _∙_}
 use Rattle.model.specs.Bytes.{padded, tab}
 use Rattle.model.specs.Recording.{recordingParts, rowKindAt}
-use Rattle.codec.proofs.Columns.{column-zeros}
+use Rattle.frame.proofs.Columns.{filled-zeros}
 use borrow.Author.Needs.{needs}
 use Rattle.codec.proofs.recording.kind_column.Statement.{statement}
 use Rattle.codec.proofs.recording.kind_column.Tie as tie
 
 word-requires : tie.Need-word-requires
 word-requires c κs = search needs
-
-cast-n : tie.Need-cast-n
-cast-n c = search needs
 
 slice-aggregate-bytes-column : tie.Need-slice-aggregate-bytes-column
 slice-aggregate-bytes-column c = search needs
@@ -21,9 +19,9 @@ bytes-column-requires c κs = search needs
 returns : tie.Need-returns
 unfolding recordingParts
 returns c = let b = c .before .before .before .before .before .args .b .now in
-    c .before .bytes-column .ensures ∙ column-zeros (rowKindAt b) (c .before .before .before .word .result) 512 _ refl ∙ ap (λ m. padded 512 (tab (rowKindAt b) m)) (c .before .before .before .word .ensures .0)
+    c .before .bytes-column .ensures ∙ filled-zeros (rowKindAt b) (c .before .before .before .word .result) 512 _ (omega arith) refl ∙ ap (λ m. padded 512 (tab (rowKindAt b) m)) (c .before .before .before .word .ensures .0)
 
 pub kind-column-spec : {M : Type 1} → statement M
 kind-column-spec =
     tie.close
-    (tie.spec word-requires cast-n slice-aggregate-bytes-column bytes-column-requires returns)
+    (tie.spec word-requires slice-aggregate-bytes-column bytes-column-requires returns)

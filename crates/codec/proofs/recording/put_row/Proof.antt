@@ -1,5 +1,8 @@
-use native.Mathlib.Omega.{arith}
-use Rattle.codec.proofs.Filled.{high}
+use Prim.Native.Nat.{ℕ, _+_, _*_}
+use mathlib.Core.List.{List}
+use mathlib.Core.Path.{ap, _∙_}
+use Rattle.wire.specs.Placed.{placed}
+use Rattle.codec.proofs.Recordings.{row-bytes}
 use borrow.Author.Needs.{needs}
 use Rattle.codec.proofs.recording.put_row.Statement.{statement}
 use Rattle.codec.proofs.recording.put_row.Tie as tie
@@ -32,7 +35,9 @@ same-length : tie.Need-same-length
 same-length c = search needs
 
 returns : tie.Need-returns
-returns c = cc (c .before .before .place .ensures, high (c .before .before .before .before .before .before .short .result) (omega arith), c .before .before .before .before .before .before .short .ensures .0, c .before .before .before .before .before .byte .ensures .0)
+returns c = let a = c .before .before .before .before .before .before .before .before .before .before .args in
+    c .before .before .place .ensures
+    ∙ ap (λ (l : List ℕ). placed l (5 + 3 * a .i) (a .out .now)) (row-bytes _ _ (a .times .now) (a .kinds .now) (a .i) (c .before .before .before .before .before .before .short .ensures .1) (c .before .before .before .before .before .before .short .ensures .0) (c .before .before .before .before .before .byte .ensures .0))
 
 pub put-row-spec : {M : Type 1} → statement M
 put-row-spec =

@@ -4,7 +4,7 @@ use native.Mathlib.Nat.{sub-zero}
 use mathlib.Core.Path.{_≡_, sym, _∙_}
 use Rattle.model.specs.Recording.{recordedRows}
 use Rattle.codec.proofs.Recordings.{rows-turn, rows-end}
-use Rattle.codec.proofs.Steps.{turn-stops, turn-goes}
+use Rattle.frame.proofs.Answers.{turn-stops, turn-goes}
 use borrow.Author.Needs.{needs}
 use Rattle.codec.proofs.recording.recorded_rows.Statement.{statement}
 use Rattle.codec.proofs.recording.recorded_rows.Tie as tie

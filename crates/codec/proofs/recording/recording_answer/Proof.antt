@@ -1,6 +1,6 @@
 use mathlib.Core.Path.{sym, _∙_}
 use Rattle.codec.proofs.Recordings.{answer-row}
-use Rattle.codec.proofs.Steps.{turn-stops, turn-goes}
+use Rattle.frame.proofs.Answers.{turn-stops, turn-goes}
 use borrow.Author.Needs.{needs}
 use Rattle.codec.proofs.recording.recording_answer.Statement.{statement}
 use Rattle.codec.proofs.recording.recording_answer.Tie as tie

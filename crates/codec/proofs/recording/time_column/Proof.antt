@@ -1,16 +1,14 @@
+use native.Mathlib.Omega.{arith}
 use mathlib.Core.Path.{refl, ap, _∙_}
 use Rattle.model.specs.Bytes.{padded, tab}
 use Rattle.model.specs.Recording.{recordingParts, timeAt}
-use Rattle.codec.proofs.Columns.{column-zeros}
+use Rattle.frame.proofs.Columns.{filled-zeros}
 use borrow.Author.Needs.{needs}
 use Rattle.codec.proofs.recording.time_column.Statement.{statement}
 use Rattle.codec.proofs.recording.time_column.Tie as tie
 
 word-requires : tie.Need-word-requires
 word-requires c κs = search needs
-
-cast-n : tie.Need-cast-n
-cast-n c = search needs
 
 slice-aggregate-words-column : tie.Need-slice-aggregate-words-column
 slice-aggregate-words-column c = search needs
@@ -21,9 +19,9 @@ words-column-requires c κs = search needs
 returns : tie.Need-returns
 unfolding recordingParts
 returns c = let b = c .before .before .before .before .before .args .b .now in
-    c .before .words-column .ensures ∙ column-zeros (timeAt b) (c .before .before .before .word .result) 512 _ refl ∙ ap (λ m. padded 512 (tab (timeAt b) m)) (c .before .before .before .word .ensures .0)
+    c .before .words-column .ensures ∙ filled-zeros (timeAt b) (c .before .before .before .word .result) 512 _ (omega arith) refl ∙ ap (λ m. padded 512 (tab (timeAt b) m)) (c .before .before .before .word .ensures .0)
 
 pub time-column-spec : {M : Type 1} → statement M
 time-column-spec =
     tie.close
-    (tie.spec word-requires cast-n slice-aggregate-words-column words-column-requires returns)
+    (tie.spec word-requires slice-aggregate-words-column words-column-requires returns)

@@ -1,4 +1,4 @@
-use mathlib.Core.List.{[], _∷_, List, _++_}
+use mathlib.Core.List.{List, _++_}
 use Prim.Native.Nat.{ℕ, _≤_, _+_, _*_, _-_}
 use native.Mathlib.Omega.{arith}
 use mathlib.Core.Path.{_≡_, refl, sym, ap, _∙_}
@@ -8,7 +8,7 @@ use Rattle.model.specs.Room.{over}
 use Rattle.model.specs.Table.{kindBytes}
 use Rattle.wire.specs.Placed.{placed}
 use Rattle.codec.proofs.Encoded.{kinds-long}
-use Rattle.codec.proofs.Written.{joined-none, placed-row}
+use Rattle.frame.proofs.Written.{joined-none, placed-row}
 use borrow.Author.Needs.{needs}
 use Rattle.codec.proofs.table.encode_kinds.Statement.{statement}
 use Rattle.codec.proofs.table.encode_kinds.Tie as tie
@@ -26,11 +26,11 @@ cast-n c = search needs
 loop-holds : tie.Need-loop-holds Inv-loop μ-loop
 loop-holds c = (omega arith, refl, λ head room h k e. e ∙ ap (λ (l : List ℕ). over l room) (sym (joined-none head (kindBytes (c .before .args .t1)))))
 
-byte-requires : tie.Need-byte-requires Inv-loop μ-loop
-byte-requires c κs = search needs
+element-copy-out-t11 : tie.Need-element-copy-out-t11 Inv-loop μ-loop
+element-copy-out-t11 c = search needs
 
-byte-requires-2 : tie.Need-byte-requires-2 Inv-loop μ-loop
-byte-requires-2 c κs = search needs
+element-copy-out-t14 : tie.Need-element-copy-out-t14 Inv-loop μ-loop
+element-copy-out-t14 c = search needs
 
 slice-aggregate-place : tie.Need-slice-aggregate-place Inv-loop μ-loop
 slice-aggregate-place c = search needs
@@ -51,15 +51,13 @@ loop-less : tie.Need-loop-less Inv-loop μ-loop
 loop-less c = search needs
 
 loop-again : tie.Need-loop-again Inv-loop μ-loop
-loop-again c = let t = c .before .before .before .before .before .before .before .before .before .before .before .before .before .before .before .before .args .t1 in
-    let l = c .before .before .before .before .before .before .before .before .before .before .before .before .before .before .loop in
-    let row = kindBytes t (l .i) in
-    let pair : (c .before .before .before .before .before .before .before .before .before .byte .result ∷ c .before .before .before .before .before .byte2 .result ∷ []) ≡ row = cc (c .before .before .before .before .before .before .before .before .before .byte .ensures .0, c .before .before .before .before .before .byte2 .ensures .0) in (
+loop-again c = let t = c .before .before .before .before .before .before .before .before .before .before .args .t1 in
+    let l = c .before .before .before .before .before .before .before .before .loop in
+    let row = kindBytes t (l .i) in (
       omega arith,
       c .before .before .place .kept .1 .0 ∙ l .inv .1,
       λ head room h k e.
           c .before .before .place .ensures
-          ∙ ap (λ (b : List ℕ). placed b (8 + 2 * l .i) (l .out)) pair
           ∙ ap (placed row (8 + 2 * l .i)) (l .inv .2 head room h k e)
           ∙ placed-row head (kindBytes t) room (l .i) (8 + 2 * l .i) (kinds-long t head (l .i) h) (omega arith),
     )
@@ -80,8 +78,8 @@ encode-kinds-spec =
     μ-loop
     cast-n
     loop-holds
-    byte-requires
-    byte-requires-2
+    element-copy-out-t11
+    element-copy-out-t14
     slice-aggregate-place
     mul-place
     add-place

@@ -6,7 +6,7 @@ use lib.ListN.{length}
 use Rattle.model.specs.Bytes.{joined}
 use Rattle.model.specs.Room.{over}
 use Rattle.model.specs.Table.{transitionBytes}
-use Rattle.codec.proofs.Written.{joined-none, joined-more}
+use Rattle.frame.proofs.Written.{joined-none, joined-more}
 use borrow.Author.Needs.{needs}
 use Rattle.codec.proofs.table.encode_transitions.Statement.{statement}
 use Rattle.codec.proofs.table.encode_transitions.Tie as tie

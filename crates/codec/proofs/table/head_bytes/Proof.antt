@@ -1,5 +1,5 @@
 use native.Mathlib.Omega.{arith}
-use Rattle.codec.proofs.Filled.{high}
+use Rattle.frame.proofs.Written.{high}
 use borrow.Author.Needs.{needs}
 use Rattle.codec.proofs.table.head_bytes.Statement.{statement}
 use Rattle.codec.proofs.table.head_bytes.Tie as tie

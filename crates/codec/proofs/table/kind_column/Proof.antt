@@ -2,19 +2,19 @@ use Prim.Native.Nat.{ℕ, _+_, _*_}
 use native.Mathlib.Omega.{arith}
 use mathlib.Core.Path.{_≡_, refl, ap, _∙_}
 use Rattle.model.specs.Bytes.{byteAt, padded, tab}
-use Rattle.codec.proofs.Columns.{column-zeros, tab-same}
+use Rattle.frame.proofs.Columns.{filled-zeros, tab-same}
 use borrow.Author.Needs.{needs}
 use Rattle.codec.proofs.table.kind_column.Statement.{statement}
 use Rattle.codec.proofs.table.kind_column.Tie as tie
 
+add-bytes-column : tie.Need-add-bytes-column
+add-bytes-column c = search needs
+
 byte-requires : tie.Need-byte-requires
 byte-requires c κs = search needs
 
-cast-n : tie.Need-cast-n
-cast-n c = search needs
-
-add-bytes-column : tie.Need-add-bytes-column
-add-bytes-column c = search needs
+cast-bytes-column : tie.Need-cast-bytes-column
+cast-bytes-column c = search needs
 
 slice-aggregate-bytes-column : tie.Need-slice-aggregate-bytes-column
 slice-aggregate-bytes-column c = search needs
@@ -28,15 +28,15 @@ returns c = let a = c .before .before .before .before .before .args in
     let f : ℕ → ℕ = λ i. byteAt b (8 + a .field + 2 * i) in
     let g : ℕ → ℕ = λ i. byteAt b (8 + 2 * i + a .field) in
     let same : (i : ℕ) → 8 + a .field + 2 * i ≡ 8 + 2 * i + a .field = λ i. omega arith in
-    c .before .bytes-column .ensures ∙ column-zeros f (c .before .before .before .byte .result) 32 _ refl ∙ ap (padded 32) (tab-same f g (λ i. ap (byteAt b) (same i)) (c .before .before .before .byte .result) ∙ ap (tab g) (c .before .before .before .byte .ensures .0))
+    c .before .bytes-column .ensures ∙ filled-zeros f (c .before .before .before .byte .result) 32 _ (omega arith) refl ∙ ap (padded 32) (tab-same f g (λ i. ap (byteAt b) (same i)) (c .before .before .before .byte .result) ∙ ap (tab g) (c .before .before .before .byte .ensures .0))
 
 pub kind-column-spec : {M : Type 1} → statement M
 kind-column-spec =
     tie.close
     (tie.spec
-    byte-requires
-    cast-n
     add-bytes-column
+    byte-requires
+    cast-bytes-column
     slice-aggregate-bytes-column
     bytes-column-requires
     returns)

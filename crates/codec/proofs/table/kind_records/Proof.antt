@@ -3,7 +3,8 @@ use Prim.Native.Nat.{_≤_, _-_, _+_, _*_}
 use native.Mathlib.Omega.{arith}
 use mathlib.Core.Path.{_≡_, sym, ap, _∙_}
 use Rattle.model.specs.Table.{kindRecords}
-use Rattle.codec.proofs.Steps.{kinds-turn, kinds-end, turn-stops, turn-goes}
+use Rattle.frame.proofs.Answers.{turn-stops, turn-goes}
+use Rattle.codec.proofs.Steps.{kinds-turn, kinds-end}
 use borrow.Author.Needs.{needs}
 use Rattle.codec.proofs.table.kind_records.Statement.{statement}
 use Rattle.codec.proofs.table.kind_records.Tie as tie

@@ -1,8 +1,8 @@
-use Prim.Native.Nat.{ℕ, _+_}
+use Prim.Native.Nat.{ℕ}
 use native.Mathlib.Omega.{arith}
-use mathlib.Core.Path.{_≡_, refl, ap, _∙_}
+use mathlib.Core.Path.{refl, ap, _∙_}
 use mathlib.Core.List.{List}
-use lib.ListN.{length, getD}
+use lib.ListN.{getD}
 use Rattle.wire.specs.Placed.{placed}
 use Rattle.codec.specs.Steps.{fieldBytes, guardBytesIn}
 use Rattle.codec.proofs.Encoded.{two-long, two-placed}
@@ -19,8 +19,8 @@ slice-aggregate-place c = search needs
 place-requires : tie.Need-place-requires
 place-requires c κs = search needs
 
-byte-requires : tie.Need-byte-requires
-byte-requires c κs = search needs
+element-copy-out-length : tie.Need-element-copy-out-length
+element-copy-out-length c = search needs
 
 add-result : tie.Need-add-result
 add-result c = search needs
@@ -38,16 +38,14 @@ same-length : tie.Need-same-length
 same-length c = search needs
 
 returns : tie.Need-returns
-returns c = let a = c .before .before .before .before .before .before .before .before .before .before .before .before .before .before .before .before .before .before .args in
+returns c = let a = c .before .before .before .before .before .before .before .before .before .before .before .before .before .before .before .args in
     let x = fieldBytes (a .t1) (a .j) in
-    let y = guardBytesIn (a .t1 .guards) (getD (a .t1 .lengths) (a .j) 0) (a .j) in
-    let count = c .before .before .before .before .before .before .before .byte .ensures .0 in
-    let part : c .before .before .put-guard .result ≡ length y = c .before .before .put-guard .ensures .1 ∙ ap (λ n. length (guardBytesIn (a .t1 .guards) n (a .j))) count in (
+    let y = guardBytesIn (a .t1 .guards) (getD (a .t1 .lengths) (a .j) 0) (a .j) in (
       λ head room h k e. (
         two-placed head room x y (a .at) h refl (omega (arith, c .before .before .put-guard .ensures .2)) _ _ _ e
-            (c .before .before .before .before .before .before .before .before .before .before .before .before .before .place .ensures ∙ ap (λ (l : List ℕ). placed l (a .at) (a .out .now)) (c .before .before .before .before .before .before .before .before .before .before .before .before .before .before .before .before .field-bytes .ensures))
-            (c .before .before .put-guard .ensures .0 ∙ ap (λ n. placed (guardBytesIn (a .t1 .guards) n (a .j)) (a .at + 7) (c .before .before .before .before .before .before .before .before .before .before .before .before .before .place .last .1 .0)) count),
-        two-long head room x y (a .at) h refl (c .before .before .put-guard .result) part,
+            (c .before .before .before .before .before .before .before .before .before .before .place .ensures ∙ ap (λ (l : List ℕ). placed l (a .at) (a .out .now)) (c .before .before .before .before .before .before .before .before .before .before .before .before .before .field-bytes .ensures))
+            (c .before .before .put-guard .ensures .0),
+        two-long head room x y (a .at) h refl (c .before .before .put-guard .result) (c .before .before .put-guard .ensures .1),
       ),
       omega (arith, c .before .before .put-guard .ensures .2),
     )
@@ -59,7 +57,7 @@ put-transition-spec =
     field-bytes-requires
     slice-aggregate-place
     place-requires
-    byte-requires
+    element-copy-out-length
     add-result
     add-put-guard
     put-guard-requires

@@ -2,7 +2,7 @@ use mathlib.Core.Path.{_≡_, sym, _∙_, refl}
 use Prim.Native.Nat.{min}
 use Rattle.model.specs.Size.{size}
 use Rattle.model.specs.Table.{monitorOf, tableParts}
-use Rattle.codec.proofs.Steps.{turn-stops, turn-goes, sound-is}
+use Rattle.frame.proofs.Answers.{turn-stops, turn-goes, sound-is}
 use Rattle.codec.proofs.Tables.{scan-all, read-refused, read-sound, size-over, size-within}
 use borrow.Author.Tests.{not-true, not-false}
 use borrow.Author.Needs.{needs}

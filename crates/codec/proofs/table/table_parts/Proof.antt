@@ -52,7 +52,24 @@ byte-requires-5 c κs = search needs
 
 returns : tie.Need-returns
 unfolding tableParts
-returns c = cc
+returns c = λ i.
+    record {
+      states = (c .before .before .before .before .byte .ensures .0) i;
+      variables = (c .before .before .before .byte2 .ensures .0) i;
+      clocks = (c .before .before .byte3 .ensures .0) i;
+      kinds = (c .before .byte4 .ensures .0) i;
+      transitions = (c .byte5 .ensures .0) i;
+      directions = (c .before .before .before .before .before .before .before .before .before .before .before .before .before .before .kind-column .ensures) i;
+      airtimes = (c .before .before .before .before .before .before .before .before .before .before .before .before .before .kind-column2 .ensures) i;
+      sources = (c .before .before .before .before .before .before .before .before .before .before .before .before .transition-column .ensures) i;
+      targets = (c .before .before .before .before .before .before .before .before .before .before .before .transition-column2 .ensures) i;
+      triggers = (c .before .before .before .before .before .before .before .before .before .before .transition-column3 .ensures) i;
+      sets = (c .before .before .before .before .before .before .before .before .before .transition-column4 .ensures) i;
+      clears = (c .before .before .before .before .before .before .before .before .transition-column5 .ensures) i;
+      resets = (c .before .before .before .before .before .before .before .transition-column6 .ensures) i;
+      lengths = (c .before .before .before .before .before .before .transition-column7 .ensures) i;
+      guards = (c .before .before .before .before .before .guard-places .ensures) i;
+    }
 
 pub table-parts-spec : {M : Type 1} → statement M
 table-parts-spec =

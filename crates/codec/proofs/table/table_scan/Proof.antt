@@ -1,7 +1,7 @@
 use mathlib.Core.Path.{sym, _∙_}
 use borrow.Author.Tests.{not-true, not-false}
 use Rattle.codec.specs.Steps.{tableScan}
-use Rattle.codec.proofs.Steps.{stops, goes, then-sound}
+use Rattle.frame.proofs.Answers.{stops, goes, then-sound}
 use Rattle.codec.proofs.Tables.{counts-are}
 use borrow.Author.Needs.{needs}
 use Rattle.codec.proofs.table.table_scan.Statement.{statement}

@@ -1,4 +1,4 @@
-use Rattle.codec.proofs.Columns.{column-zeros, column-more}
+use Rattle.frame.proofs.Columns.{column-padded, column-more}
 use Rattle.codec.proofs.Tables.{next-at}
 use Rattle.model.specs.Bytes.{padded, byteAt, tab}
 use Prim.Native.Nat.{ℕ, _≤_, _-_, _+_, _*_}
@@ -85,7 +85,7 @@ returns : tie.Need-returns Inv-loop μ-loop
 returns c = let a = c .before .before .before .before .before .args in
     let f : ℕ → ℕ = λ j. byteAt (a .b .now) (transitionAt (a .b .now) j + a .field) in
     let all : c .before .loop .i ≡ c .before .before .before .byte .result = omega arith in
-    c .before .loop .inv .4 ∙ column-zeros f (c .before .loop .i) 64 _ refl ∙ ap (λ n. padded 64 (tab f n)) (all ∙ c .before .before .before .byte .ensures .0)
+    c .before .loop .inv .4 ∙ column-padded f (c .before .loop .i) 64 ∙ ap (λ n. padded 64 (tab f n)) (all ∙ c .before .before .before .byte .ensures .0)
 
 pub transition-column-spec : {M : Type 1} → statement M
 transition-column-spec =

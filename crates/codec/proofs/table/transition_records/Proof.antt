@@ -4,7 +4,8 @@ use native.Mathlib.Nat.{sub-zero}
 use borrow.Author.Tests.{eq-eqb, ne-eqb}
 use mathlib.Core.Path.{_≡_, sym, _∙_}
 use Rattle.model.specs.Table.{transitionRecords}
-use Rattle.codec.proofs.Steps.{transitions-turn, transitions-end, turn-stops, turn-goes}
+use Rattle.frame.proofs.Answers.{turn-stops, turn-goes}
+use Rattle.codec.proofs.Steps.{transitions-turn, transitions-end}
 use borrow.Author.Needs.{needs}
 use Rattle.codec.proofs.table.transition_records.Statement.{statement}
 use Rattle.codec.proofs.table.transition_records.Tie as tie

@@ -1,0 +1,231 @@
+// Runs a batch of recorded calls from standard input through the library, and prints each answer on a line of its own.
+// A case is a head of 25 bytes and its files: the call (0 validate, 1 check, 2 to 4 rewrite a table, a recording, a witness, 5 the desk), then
+// six four-byte numbers: the budget and the lengths of scratch, room and three files. An answer is its three numbers and a sum over every byte
+// of scratch and room, so that no byte changes unseen. A case of the desk prints the desk's lines.
+ghost use mathlib.Core.Path.{_≡_};
+ghost use Prim.Native.Nat.{_+_, _<_, _≤_};
+ghost use lib.ListN.{length};
+ghost use Rattle.model.specs.Bytes.{tab};
+ghost use Rattle.cases.specs.Batch.{longAt, HeadAt, patternAt, sumFrom};
+use libc::STDIN_FILENO;
+use libc::STDOUT_FILENO;
+use numbers::Answer;
+use numbers::checking_numbers;
+use numbers::verdict_numbers;
+use numbers::writing_numbers;
+
+struct Head {
+    call: u8,
+    budget: u32,
+    scratch: u32,
+    room: u32,
+    first: u32,
+    second: u32,
+    third: u32,
+}
+
+fn long(bytes: &[u8], at: usize) -> u32
+    requires { ⌜ at < 25 ⌝ }
+    ensures { λ r. ⌜ r ≡ longAt (now (bytes .entry)) at ⌝ }
+{
+    let high = wire::word(bytes, at) as u32;
+    let low = wire::word(bytes, at + 2) as u32;
+    65536 * high + low
+}
+
+fn head_of(bytes: &[u8]) -> Head
+    ensures { λ r. ⌜ HeadAt (now (bytes .entry)) r ⌝ }
+{
+    Head {
+        call: wire::byte(bytes, 0),
+        budget: long(bytes, 1),
+        scratch: long(bytes, 5),
+        room: long(bytes, 9),
+        first: long(bytes, 13),
+        second: long(bytes, 17),
+        third: long(bytes, 21),
+    }
+}
+
+// What lent bytes hold before a call: byte i is (7 i + 1) modulo 256.
+fn pattern(bytes: &mut [u8])
+    ensures { λ _. ⌜ now (bytes .exit) ≡ tab patternAt (length (now (bytes .entry))) ⌝ }
+{
+    let mut next: u64 = 1;
+    let mut i = 0;
+    while i < bytes.len() {
+        bytes[i] = next as u8;
+        next = (next + 7) % 256;
+        i += 1;
+    }
+}
+
+// Goes by place, so that bytes that change places change it.
+fn sum(from: u64, bytes: &[u8]) -> u64
+    requires { ⌜ from < 1000003 ⌝ }
+    ensures { λ r. ⌜ (r ≡ sumFrom from (now (bytes .entry))) × (r < 1000003) ⌝ }
+{
+    let mut total = from;
+    let mut i = 0;
+    while i < bytes.len() {
+        total = (total * 257 + bytes[i] as u64 + 1) % 1000003;
+        i += 1;
+    }
+    total
+}
+
+// Puts a number and the byte behind it at a place of the line, and returns the next place.
+fn put(n: u64, behind: u8, line: &mut [u8], at: usize) -> usize
+    requires { ⌜ at ≤ 63 ⌝ }
+    ensures { λ r. ⌜ r ≤ at + 21 ⌝ }
+{
+    let mut digits = [0u8; 20];
+    let count = io::decimal(n, &mut digits);
+    wire::place(&digits[0..count], line, at);
+    wire::place(&[behind], line, at + count);
+    at + count + 1
+}
+
+fn print(answer: Answer, sum: u64) -> bool {
+    let mut line = [0u8; 84];
+    let second = put(answer.number, b' ', &mut line, 0);
+    let third = put(answer.second, b' ', &mut line, second);
+    let last = put(answer.third, b' ', &mut line, third);
+    let end = put(sum, b'\n', &mut line, last);
+    io::write_all(STDOUT_FILENO, &line[0..end])
+}
+
+// Ends the run with a line that no batch expects.
+fn stop(line: &[u8]) -> bool {
+    io::write_all(STDOUT_FILENO, line);
+    false
+}
+
+fn desk(input: &[u8]) -> bool {
+    let mut scratch = [0u8; 65536];
+    let mut room = [0u8; 23045];
+    let mut text = [0u8; 400000];
+    let count = lines::lines(input, &mut scratch, &mut room, &mut text);
+    io::write_all(STDOUT_FILENO, &text[0..count])
+}
+
+fn call<'a>(
+    which: u8,
+    budget: u32,
+    first: &'a [u8],
+    second: &'a [u8],
+    third: &'a [u8],
+    scratch: &mut [u8],
+    room: &mut [u8],
+) -> Answer {
+    if which == 0 {
+        return verdict_numbers(engine::validate(first, second, budget, scratch, room));
+    }
+    if which == 1 {
+        return checking_numbers(checker::check_witness(first, second, third));
+    }
+    if which == 2 {
+        return writing_numbers(rewrite::rewrite_table(first, room));
+    }
+    if which == 3 {
+        return writing_numbers(rewrite::rewrite_recording(first, second, room));
+    }
+    writing_numbers(rewrite::rewrite_witness(first, room))
+}
+
+fn answer<'a>(
+    which: u8,
+    budget: u32,
+    first: &'a [u8],
+    second: &'a [u8],
+    third: &'a [u8],
+    scratch: &mut [u8],
+    room: &mut [u8],
+) -> bool {
+    pattern(scratch);
+    pattern(room);
+    let numbers = call(which, budget, first, second, third, scratch, room);
+    let total = sum(1, scratch);
+    print(numbers, sum(total, room))
+}
+
+// The first file ends where the second begins, and that one where the third does.
+fn run(
+    head: Head,
+    files: &[u8],
+    second: usize,
+    third: usize,
+    scratch: &mut [u8],
+    room: &mut [u8],
+) -> bool
+    requires { ⌜ (second ≤ third) × (third ≤ length (now files)) ⌝ }
+{
+    let which = head.call;
+    if which == 5 {
+        return desk(&files[0..second]);
+    }
+    if 5 < which {
+        return stop(b"cases: there is no such call\n");
+    }
+    answer(
+        which,
+        head.budget,
+        &files[0..second],
+        &files[second..third],
+        &files[third..],
+        scratch,
+        room,
+    )
+}
+
+// The limits of the lengths are what is lent.
+fn read_files(head: Head, files: &mut [u8], scratch: &mut [u8], room: &mut [u8]) -> bool {
+    let second = head.first as usize;
+    let third = second + head.second as usize;
+    let end = third + head.third as usize;
+    let scratch_length = head.scratch as usize;
+    let room_length = head.room as usize;
+    if files.len() < end || scratch.len() < scratch_length || room.len() < room_length {
+        return stop(b"cases: a length is above its limit\n");
+    }
+    let part = &mut files[0..end];
+    if io::read_full(STDIN_FILENO, part) < end {
+        return stop(b"cases: a file is cut\n");
+    }
+    run(
+        head,
+        part,
+        second,
+        third,
+        &mut scratch[0..scratch_length],
+        &mut room[0..room_length],
+    )
+}
+
+// Runs the next case, and answers whether to go on.
+fn one_case(files: &mut [u8], scratch: &mut [u8], room: &mut [u8]) -> bool {
+    let mut bytes = [0u8; 25];
+    let got = io::read_full(STDIN_FILENO, &mut bytes);
+    if got == 0 {
+        return false;
+    }
+    if got < 25 {
+        return stop(b"cases: a head is cut\n");
+    }
+    read_files(head_of(&bytes), files, scratch, room)
+}
+
+// A proved loop has to end, and nothing says that the input does: it counts its turns down from a number that no run uses up.
+fn all_cases(files: &mut [u8], scratch: &mut [u8], room: &mut [u8]) {
+    let mut turns = u64::MAX;
+    while turns > 0 && one_case(files, scratch, room) {
+        turns -= 1;
+    }
+}
+
+fn main() {
+    let mut files = [0u8; 210000];
+    let mut scratch = [0u8; 65536];
+    let mut room = [0u8; 24000];
+    all_cases(&mut files, &mut scratch, &mut room);
+}

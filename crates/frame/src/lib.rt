@@ -1,0 +1,95 @@
+// What the three kinds of bytes share: length and version in front, and writing into a room what reads as sound.
+pub mod column;
+
+use model::Reading;
+use model::Refusal;
+use model::Writing;
+use wire::byte;
+use wire::place;
+use wire::word;
+ghost use mathlib.Core.Path.{_≡_};
+ghost use Rattle.model.specs.First.{isSound};
+ghost use Rattle.model.specs.Room.{write};
+ghost use Rattle.frame.specs.Framed.{framed, framedRows, rowsFrame};
+
+pub fn sound(r: Reading) -> bool
+    ensures { λ s. ⌜ s ≡ isSound r ⌝ }
+{
+    if let Reading::Sound = r { true } else { false }
+}
+
+// At least so many bytes, a length that matches, version 1.
+pub fn framed_answer(b: &[u8], least: usize, frame: Refusal, version: Refusal) -> Reading
+    ensures { λ r. ⌜ r ≡ framed (now (b .entry)) least frame version ⌝ }
+{
+    if b.len() < least {
+        return Reading::Unsound(frame);
+    }
+    let stated = word(b, 0) as usize;
+    if stated + 2 != b.len() {
+        return Reading::Unsound(frame);
+    }
+    if byte(b, 2) != 1 {
+        return Reading::Unsound(version);
+    }
+    Reading::Sound
+}
+
+// The same, then at most limit rows of one width, and no byte more.
+pub fn rows_framed(
+    b: &[u8],
+    width: u8,
+    limit: u16,
+    frame: Refusal,
+    version: Refusal,
+    count: Refusal,
+) -> Reading
+    ensures { λ r. ⌜ r ≡ framedRows (now (b .entry)) width limit frame version count ⌝ }
+{
+    let first = framed_answer(b, 5, frame, version);
+    if !sound(first) {
+        return first;
+    }
+    let rows = word(b, 3);
+    if limit < rows {
+        return Reading::Unsound(count);
+    }
+    if word(b, 0) as usize != 3 + width as usize * rows as usize {
+        return Reading::Unsound(count);
+    }
+    Reading::Sound
+}
+
+// What stands before the rows of a recording or a witness.
+pub fn frame_bytes(total: u16, count: u16) -> [u8; 5]
+    ensures { λ s. ⌜ s ≡ rowsFrame total count ⌝ }
+{
+    [
+        (total / 256) as u8,
+        (total % 256) as u8,
+        1,
+        (count / 256) as u8,
+        (count % 256) as u8,
+    ]
+}
+
+// Writes bytes whose reading gives this answer.
+pub fn put(answer: Reading, bytes: &[u8], room: &mut [u8]) -> Writing
+    ensures { λ r. ⌜ (r ≡ (write answer (now (bytes .entry)) (now (room .entry))) .answer) × (now (room .exit) ≡ (write answer (now (bytes .entry)) (now (room .entry))) .room) ⌝ }
+{
+    match answer {
+        Reading::Unsound(refusal) => Writing::Unwritten(refusal),
+        Reading::Sound => {
+            let wanted = bytes.len();
+            if room.len() < wanted {
+                return Writing::Unwritten(Refusal::WriteRoom {
+                    wanted: wanted as u64,
+                });
+            }
+            place(bytes, room, 0);
+            Writing::Written {
+                bytes: wanted as u64,
+            }
+        }
+    }
+}

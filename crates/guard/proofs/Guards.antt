@@ -1,0 +1,198 @@
+-- One step of reading a guard, by the byte that stands there, and what is then seen of it.
+use Prim.Native.Nat.{ℕ, zero, suc, _+_, _<_, _≤_}
+use native.Mathlib.Omega.{arith}
+use mathlib.Core.Path.{_≡_, refl, sym}
+use mathlib.Core.List.{List}
+use mathlib.Core.Bool.{Bool, true, false, cond, _&&_, false≢true}
+use lib.ListN.{getD}
+use lib.Dec.{leb, ltb, eqb}
+use borrow.Author.Tests.{lt-ltb, le-ltb, eq-eqb, ne-eqb}
+use Rattle.model.specs.Bytes.{byteAt}
+use Rattle.model.specs.Guard.{Guard, always, variable, negation, conjunction, GuardRead, malformed, upTo, thenRead, holds, largest, leafAt, guardAt, endsAt, guardOf}
+use Rattle.model.proofs.Basics.{and-left, and-right}
+use Rattle.guard.specs.declared.Seen.the-variants.{Malformed, UpTo}
+use Rattle.guard.specs.Guards.{seen, clockLeaf, opposite, both}
+
+-- a comparison of clocks whose test fails is none, whatever its code
+no-clock : (fits there one two : Bool) (x y : GuardRead) → fits && there ≡ false → cond one (cond fits (cond there x malformed) malformed) (cond two (cond fits (cond there y malformed) malformed) malformed) ≡ malformed
+no-clock true true one two x y e = absurd (false≢true (sym e))
+no-clock true false true two x y e = refl
+no-clock true false false true x y e = refl
+no-clock true false false false x y e = refl
+no-clock false there true two x y e = refl
+no-clock false there false true x y e = refl
+no-clock false there false false x y e = refl
+
+module _ (vs cs : ℕ) (b : List ℕ) (at end : ℕ) where
+  pub leaf-always : byteAt b at ≡ 0 → leafAt vs cs b at end ≡ upTo always (at + 1)
+  unfolding leafAt
+  leaf-always e = rw e
+
+  pub leaf-variable : byteAt b at ≡ 3 → leb (at + 2) end && ltb (byteAt b (at + 1)) vs ≡ true → leafAt vs cs b at end ≡ upTo (variable (byteAt b (at + 1))) (at + 2)
+  unfolding leafAt
+  leaf-variable e h =
+      let fits : leb (at + 2) end ≡ true = and-left _ _ h in
+      let there : ltb (byteAt b (at + 1)) vs ≡ true = and-right (leb (at + 2) end) _ h in
+      rw (e, fits, there)
+
+  pub leaf-no-variable : byteAt b at ≡ 3 → leb (at + 2) end && ltb (byteAt b (at + 1)) vs ≡ false → leafAt vs cs b at end ≡ malformed
+  unfolding leafAt
+  leaf-no-variable e h = rw e (no-clock (leb (at + 2) end) (ltb (byteAt b (at + 1)) vs) true true (upTo (variable (byteAt b (at + 1))) (at + 2)) malformed h)
+
+  pub leaf-clock : (byteAt b at ≡ 0 → ⊥) → (byteAt b at ≡ 3 → ⊥) → leb (at + 3) end && ltb (byteAt b (at + 1)) cs ≡ true
+      → leafAt vs cs b at end ≡ clockLeaf (byteAt b at) (byteAt b (at + 1)) (byteAt b (at + 2)) (at + 3)
+  unfolding leafAt
+  leaf-clock n m h =
+      let fits : leb (at + 3) end ≡ true = and-left _ _ h in
+      let there : ltb (byteAt b (at + 1)) cs ≡ true = and-right (leb (at + 3) end) _ h in
+      rw (ne-eqb _ _ n, ne-eqb _ _ m, fits, there)
+
+  pub leaf-no-clock : (byteAt b at ≡ 0 → ⊥) → (byteAt b at ≡ 3 → ⊥) → leb (at + 3) end && ltb (byteAt b (at + 1)) cs ≡ false → leafAt vs cs b at end ≡ malformed
+  unfolding leafAt
+  leaf-no-clock n m h = rw (ne-eqb _ _ n, ne-eqb _ _ m) (no-clock (leb (at + 3) end) (ltb (byteAt b (at + 1)) cs) (eqb (byteAt b at) 1) (eqb (byteAt b at) 2) _ _ h)
+
+  pub guard-none : (f : ℕ) → f ≡ 0 → guardAt f vs cs b at end ≡ malformed
+  unfolding guardAt
+  guard-none f e = rw e
+
+  pub guard-out : (f : ℕ) → end ≤ at → guardAt f vs cs b at end ≡ malformed
+  unfolding guardAt
+  guard-out zero h = refl
+  guard-out (suc f) h = rw (le-ltb _ _ h, guardAt)
+
+  pub guard-leaf : (f : ℕ) → (f ≡ 0 → ⊥) → at < end → (byteAt b at ≡ 4 → ⊥) → (byteAt b at ≡ 5 → ⊥) → guardAt f vs cs b at end ≡ leafAt vs cs b at end
+  unfolding guardAt
+  guard-leaf zero z h n m = absurd (z refl)
+  guard-leaf (suc f) z h n m = rw (lt-ltb _ _ h, ne-eqb _ _ n, ne-eqb _ _ m, guardAt)
+
+  pub guard-not : (f g : ℕ) → suc g ≡ f → at < end → byteAt b at ≡ 4
+      → guardAt f vs cs b at end ≡ thenRead (guardAt g vs cs b (at + 1) end) (λ x k. upTo (negation x) k)
+  unfolding guardAt
+  guard-not zero g z h e = absurd (omega arith)
+  guard-not (suc f) g z h e = let q : g ≡ f = omega arith in rw (q, lt-ltb _ _ h, eq-eqb _ _ e, guardAt)
+
+  pub guard-and : (f g : ℕ) → suc g ≡ f → at < end → byteAt b at ≡ 5
+      → guardAt f vs cs b at end ≡ thenRead (guardAt g vs cs b (at + 1) end) (λ x k. thenRead (guardAt g vs cs b k end) (λ y j. upTo (conjunction x y) j))
+  unfolding guardAt
+  guard-and zero g z h e = absurd (omega arith)
+  guard-and (suc f) g z h e =
+      let q : g ≡ f = omega arith in
+      let n : byteAt b at ≡ 4 → ⊥ = λ p. omega (arith, p, e) in
+      rw (q, lt-ltb _ _ h, ne-eqb _ _ n, eq-eqb _ _ e, guardAt)
+
+-- a comparison, by what the clock reads and the bound that counts
+module _ (i v : ℕ) (c : List ℕ) (code n t next reads bound : ℕ) (is : reads ≡ getD c n 0) (most : bound ≡ cond (eqb n i) t 0) where
+  pub seen-most : code ≡ 1 → UpTo next (leb reads t) bound ≡ seen i v c (clockLeaf code n t next)
+  unfolding holds largest
+  seen-most e = rw (e, is, most)
+
+  pub seen-least : code ≡ 2 → UpTo next (leb t reads) bound ≡ seen i v c (clockLeaf code n t next)
+  unfolding holds largest
+  seen-least e = rw (e, is, most)
+
+module _ (i v : ℕ) (c : List ℕ) where
+  -- nothing behind a guard that is none
+  pub seen-none : (x : GuardRead) (next : Guard → ℕ → GuardRead) → seen i v c x ≡ Malformed → seen i v c (thenRead x next) ≡ Malformed
+  seen-none malformed next e = refl
+  seen-none (upTo g k) next e = cc
+
+  pub seen-not : (x : GuardRead) → seen i v c (thenRead x (λ g j. upTo (negation g) j)) ≡ opposite (seen i v c x)
+  unfolding holds largest
+  seen-not malformed = refl
+  seen-not (upTo g j) = refl
+
+  join : (g : Guard) (y : GuardRead) → seen i v c (thenRead y (λ h l. upTo (conjunction g h) l)) ≡ both (holds g v c) (largest i g) (seen i v c y)
+  unfolding holds largest
+  join g malformed = refl
+  join g (upTo h l) = refl
+
+  pub seen-and : (x : GuardRead) (next : ℕ → GuardRead) (k bound : ℕ) (value : Bool) → seen i v c x ≡ UpTo k value bound
+      → seen i v c (thenRead x (λ g j. thenRead (next j) (λ h l. upTo (conjunction g h) l))) ≡ both value bound (seen i v c (next k))
+  seen-and malformed next k bound value e = cc
+  seen-and (upTo g j) next k bound value e =
+      let place : j ≡ k = cc in
+      let is : holds g v c ≡ value = cc in
+      let most : largest i g ≡ bound = cc in
+      rw (place, ← is, ← most) (join g (next k))
+
+-- a guard ends behind the offset where it starts
+data Past (at : ℕ) : GuardRead → Type 0 where
+  none : Past at malformed
+  behind : (g : Guard) (k : ℕ) → at < k → Past at (upTo g k)
+
+module _ {at : ℕ} {x y : GuardRead} where
+  past-cond : (t : Bool) → Past at x → Past at y → Past at (cond t x y)
+  past-cond true p q = p
+  past-cond false p q = q
+
+  past-elim : (t : Bool) → Past at x → Past at y → Past at (elim t [ true ↦ x | false ↦ y ])
+  past-elim true p q = p
+  past-elim false p q = q
+
+past-not : {at : ℕ} {x : GuardRead} → Past (at + 1) x → Past at (thenRead x (λ g k. upTo (negation g) k))
+past-not none = none
+past-not (behind g k h) = behind (negation g) k (omega arith)
+
+past-and : {at : ℕ} {x : GuardRead} (next : ℕ → GuardRead) → Past (at + 1) x → ((k : ℕ) → Past k (next k))
+    → Past at (thenRead x (λ g k. thenRead (next k) (λ h j. upTo (conjunction g h) j)))
+past-and {at} next none q = none
+past-and {at} next (behind g k p) q = further (q k)
+  where
+    further : {y : GuardRead} → Past k y → Past at (thenRead y (λ h j. upTo (conjunction g h) j))
+    further none = none
+    further (behind h j r) = behind (conjunction g h) j (omega arith)
+
+module _ (vs cs : ℕ) (b : List ℕ) (end : ℕ) where
+  past-leaf : (at : ℕ) → Past at (leafAt vs cs b at end)
+  unfolding leafAt
+  past-leaf at =
+      let there : ℕ → Bool = λ n. ltb (byteAt b (at + 1)) n in
+      past-cond (eqb (byteAt b at) 0) (behind _ _ (omega arith))
+      (past-cond (eqb (byteAt b at) 1) (past-cond (leb (at + 3) end) (past-cond (there cs) (behind _ _ (omega arith)) none) none)
+      (past-cond (eqb (byteAt b at) 2) (past-cond (leb (at + 3) end) (past-cond (there cs) (behind _ _ (omega arith)) none) none)
+      (past-cond (eqb (byteAt b at) 3) (past-cond (leb (at + 2) end) (past-cond (there vs) (behind _ _ (omega arith)) none) none)
+      none)))
+
+  past : (f at : ℕ) → Past at (guardAt f vs cs b at end)
+  unfolding guardAt
+  past zero at = none
+  past (suc f) at =
+      past-elim (ltb at end)
+      (past-elim (eqb (byteAt b at) 4) (past-not (past f (at + 1)))
+      (past-elim (eqb (byteAt b at) 5) (past-and (λ k. guardAt f vs cs b k end) (past f (at + 1)) (λ k. past f k)) (past-leaf at)))
+      none
+
+  pub seen-past : (i v : ℕ) (c : List ℕ) (f at k bound : ℕ) (value : Bool) → seen i v c (guardAt f vs cs b at end) ≡ UpTo k value bound → at < k
+  seen-past i v c f at k bound value e = go (past f at) e
+    where
+      go : {x : GuardRead} → Past at x → seen i v c x ≡ UpTo k value bound → at < k
+      go none q = let z : _≡_ {A = ℕ} 0 1 = cc in absurd (omega arith)
+      go (behind g j h) q = let z : j ≡ k = cc in omega arith
+
+-- what the three questions have for an answer
+module _ (i v : ℕ) (c : List ℕ) where
+  pub none-ends : (x : GuardRead) (end : ℕ) → seen i v c x ≡ Malformed → endsAt x end ≡ false
+  none-ends malformed end e = refl
+  none-ends (upTo g k) end e = cc
+
+  pub one-ends : (x : GuardRead) (end k bound : ℕ) (value : Bool) → seen i v c x ≡ UpTo k value bound → endsAt x end ≡ eqb k end
+  one-ends malformed end k bound value e = cc
+  one-ends (upTo g j) end k bound value e = let q : j ≡ k = cc in rw q
+
+  pub none-holds : (x : GuardRead) → seen i v c x ≡ Malformed → holds (guardOf x) v c ≡ false
+  unfolding holds
+  none-holds malformed e = refl
+  none-holds (upTo g k) e = cc
+
+  pub one-holds : (x : GuardRead) (k bound : ℕ) (value : Bool) → seen i v c x ≡ UpTo k value bound → holds (guardOf x) v c ≡ value
+  one-holds malformed k bound value e = cc
+  one-holds (upTo g j) k bound value e = cc
+
+  pub none-bound : (x : GuardRead) → seen i v c x ≡ Malformed → largest i (guardOf x) ≡ 0
+  unfolding largest
+  none-bound malformed e = refl
+  none-bound (upTo g k) e = cc
+
+  pub one-bound : (x : GuardRead) (k bound : ℕ) (value : Bool) → seen i v c x ≡ UpTo k value bound → largest i (guardOf x) ≡ bound
+  one-bound malformed k bound value e = cc
+  one-bound (upTo g j) k bound value e = cc

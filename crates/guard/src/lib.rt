@@ -1,0 +1,265 @@
+// Guards in prefix form. One recursion over a guard's bytes tells where it ends, its value, and the largest bound of a clock in it.
+// It ends since the bytes that remain grow fewer; depth is the limit that the definition sets, which a guard of 32 bytes never meets.
+pub mod size;
+
+use wire::byte;
+use wire::short;
+ghost use mathlib.Core.Path.{_≡_};
+ghost use mathlib.Core.Bool.{_&&_, cond};
+ghost use Prim.Native.Nat.{_+_, _<_, max};
+ghost use lib.Dec.{leb, ltb, eqb};
+ghost use Rattle.model.specs.Bytes.{byteAt, hasBit};
+ghost use Rattle.model.specs.Guard.{holds, largest, leafAt, guardAt, endsAt, guardOf};
+ghost use Rattle.guard.specs.Guards.{seen, clockLeaf, opposite, both};
+
+// What is asked of a guard: the table's numbers of variables and clocks, the mask of the variables that are true, and the clock whose bound is asked.
+pub struct Question {
+    pub variables: u8,
+    pub clocks: u8,
+    pub mask: u8,
+    pub clock: usize,
+}
+
+pub enum Seen {
+    Malformed,
+    UpTo { next: usize, value: bool, bound: u8 },
+}
+
+fn has_bit(mask: u8, i: u8) -> bool
+    ensures { λ r. ⌜ r ≡ hasBit mask i ⌝ }
+{
+    if i < 8 { (mask >> i) % 2 == 1 } else { false }
+}
+
+fn and(a: bool, b: bool) -> bool
+    ensures { λ r. ⌜ r ≡ (a && b) ⌝ }
+{
+    if a { b } else { false }
+}
+
+pub fn larger(a: u8, b: u8) -> u8
+    ensures { λ r. ⌜ r ≡ max a b ⌝ }
+{
+    if a < b { b } else { a }
+}
+
+// A clock and a bound are there, and the table has the clock.
+fn has_clock(b: &[u8], at: usize, end: usize, clocks: u8) -> bool
+    requires { ⌜ at < end ⌝ }
+    ensures { λ r. ⌜ r ≡ (leb (at + 3) end && ltb (byteAt (now (b .entry)) (at + 1)) clocks) ⌝ }
+{
+    if end - at < 3 {
+        return false;
+    }
+    byte(b, at + 1) < clocks
+}
+
+// A variable is there, and the table has it.
+fn has_variable(b: &[u8], at: usize, end: usize, variables: u8) -> bool
+    requires { ⌜ at < end ⌝ }
+    ensures { λ r. ⌜ r ≡ (leb (at + 2) end && ltb (byteAt (now (b .entry)) (at + 1)) variables) ⌝ }
+{
+    if end - at < 2 {
+        return false;
+    }
+    byte(b, at + 1) < variables
+}
+
+fn bound_of(compared: u8, bound: u8, clock: usize) -> u8
+    ensures { λ r. ⌜ r ≡ cond (eqb compared clock) bound 0 ⌝ }
+{
+    if compared as usize == clock { bound } else { 0 }
+}
+
+// The negation of a guard that was seen.
+fn negated(inner: Seen) -> Seen
+    ensures { λ r. ⌜ r ≡ opposite inner ⌝ }
+{
+    let Seen::UpTo { next, value, bound } = inner else {
+        return Seen::Malformed;
+    };
+    Seen::UpTo {
+        next,
+        value: !value,
+        bound,
+    }
+}
+
+// The conjunction of a guard with one value and bound, and the guard that was seen behind it.
+fn joined(value: bool, bound: u8, second: Seen) -> Seen
+    ensures { λ r. ⌜ r ≡ both value bound second ⌝ }
+{
+    let Seen::UpTo {
+        next,
+        value: other,
+        bound: further,
+    } = second
+    else {
+        return Seen::Malformed;
+    };
+    Seen::UpTo {
+        next,
+        value: and(value, other),
+        bound: larger(bound, further),
+    }
+}
+
+// A comparison of clock n, by its code, with bound t.
+fn clock_seen(code: u8, n: u8, t: u8, next: usize, q: Question, c: &[u16]) -> Seen
+    ensures { λ r. ⌜ r ≡ seen (q .clock) (q .mask) (now (c .entry)) (clockLeaf code n t next) ⌝ }
+{
+    let reads = short(c, n as usize);
+    let bound = bound_of(n, t, q.clock);
+    if code == 1 {
+        return Seen::UpTo {
+            next,
+            value: reads <= t as u16,
+            bound,
+        };
+    }
+    if code == 2 {
+        return Seen::UpTo {
+            next,
+            value: t as u16 <= reads,
+            bound,
+        };
+    }
+    Seen::Malformed
+}
+
+// The forms without a guard inside.
+fn leaf_seen<'a>(b: &'a [u8], at: usize, end: usize, q: Question, c: &'a [u16]) -> Seen
+    requires { ⌜ at < end ⌝ }
+    ensures { λ r. ⌜ r ≡ seen (q .clock) (q .mask) (now (c .entry)) (leafAt (q .variables) (q .clocks) (now (b .entry)) at end) ⌝ }
+{
+    let code = byte(b, at);
+    if code == 0 {
+        return Seen::UpTo {
+            next: at + 1,
+            value: true,
+            bound: 0,
+        };
+    }
+    if code == 3 {
+        if has_variable(b, at, end, q.variables) {
+            let value = has_bit(q.mask, byte(b, at + 1));
+            return Seen::UpTo {
+                next: at + 2,
+                value,
+                bound: 0,
+            };
+        }
+        return Seen::Malformed;
+    }
+    if has_clock(b, at, end, q.clocks) {
+        return clock_seen(code, byte(b, at + 1), byte(b, at + 2), at + 3, q, c);
+    }
+    Seen::Malformed
+}
+
+// The guard that starts at an offset, none of it at or behind end.
+pub fn guard_seen<'a>(
+    depth: u8,
+    b: &'a [u8],
+    at: usize,
+    end: usize,
+    q: Question,
+    c: &'a [u16],
+) -> Seen
+    ensures { λ r. ⌜ r ≡ seen (q .clock) (q .mask) (now (c .entry)) (guardAt depth (q .variables) (q .clocks) (now (b .entry)) at end) ⌝ }
+{
+    if depth == 0 {
+        return Seen::Malformed;
+    }
+    if end <= at {
+        return Seen::Malformed;
+    }
+    let code = byte(b, at);
+    if code == 4 {
+        return negated(guard_seen(depth - 1, b, at + 1, end, q, c));
+    }
+    if code == 5 {
+        let first = guard_seen(depth - 1, b, at + 1, end, q, c);
+        let Seen::UpTo { next, value, bound } = first else {
+            return Seen::Malformed;
+        };
+        return joined(value, bound, guard_seen(depth - 1, b, next, end, q, c));
+    }
+    leaf_seen(b, at, end, q, c)
+}
+
+// There is one guard from at to end, no byte missing and none extra.
+pub fn guard_fills(b: &[u8], at: usize, end: usize, variables: u8, clocks: u8) -> bool
+    ensures { λ r. ⌜ r ≡ endsAt (guardAt 32 variables clocks (now (b .entry)) at end) end ⌝ }
+{
+    let still = [0u16; 2];
+    let q = Question {
+        variables,
+        clocks,
+        mask: 0,
+        clock: 0,
+    };
+    let all = guard_seen(32, b, at, end, q, &still);
+    let Seen::UpTo {
+        next,
+        value: _,
+        bound: _,
+    } = all
+    else {
+        return false;
+    };
+    next == end
+}
+
+// The guard's value where the mask's variables are true and the clocks read c.
+pub fn guard_holds<'a>(
+    b: &'a [u8],
+    at: usize,
+    end: usize,
+    variables: u8,
+    clocks: u8,
+    mask: u8,
+    c: &'a [u16],
+) -> bool
+    ensures { λ r. ⌜ r ≡ holds (guardOf (guardAt 32 variables clocks (now (b .entry)) at end)) mask (now (c .entry)) ⌝ }
+{
+    let q = Question {
+        variables,
+        clocks,
+        mask,
+        clock: 0,
+    };
+    let all = guard_seen(32, b, at, end, q, c);
+    let Seen::UpTo {
+        next: _,
+        value,
+        bound: _,
+    } = all
+    else {
+        return false;
+    };
+    value
+}
+
+// The largest T compared with a clock in the guard.
+pub fn guard_bound(b: &[u8], at: usize, end: usize, variables: u8, clocks: u8, clock: usize) -> u8
+    ensures { λ r. ⌜ r ≡ largest clock (guardOf (guardAt 32 variables clocks (now (b .entry)) at end)) ⌝ }
+{
+    let still = [0u16; 2];
+    let q = Question {
+        variables,
+        clocks,
+        mask: 0,
+        clock,
+    };
+    let all = guard_seen(32, b, at, end, q, &still);
+    let Seen::UpTo {
+        next: _,
+        value: _,
+        bound,
+    } = all
+    else {
+        return 0;
+    };
+    bound
+}

@@ -1,0 +1,79 @@
+// M, A and N of a table's parts, for any parts.
+use crate::guard_bound;
+use crate::larger;
+use model::TableParts;
+use wire::byte;
+ghost use mathlib.Core.Path.{_≡_};
+ghost use Prim.Native.Nat.{_+_, _*_, _^_, _≤_, min};
+ghost use Rattle.model.specs.Size.{largestBound, largestAirtime, cap, size};
+ghost use Rattle.model.specs.Table.{monitorOf};
+
+// N above the limit is answered as one above it.
+const MANY: u64 = 65537;
+
+// M: the largest T compared with a clock in any guard.
+pub fn largest_bound(t: TableParts, clock: usize) -> u64
+    ensures { λ r. ⌜ (r ≡ largestBound (monitorOf t) clock) × (r ≤ 255) ⌝ }
+{
+    let mut most = 0;
+    let mut j = 0;
+    let n = t.transitions as usize;
+    while j < n {
+        let end = 32 * j + byte(&t.lengths, j) as usize;
+        most = larger(
+            most,
+            guard_bound(&t.guards, 32 * j, end, t.variables, t.clocks, clock),
+        );
+        j += 1;
+    }
+    most as u64
+}
+
+// A: the largest airtime of any kind.
+pub fn largest_airtime(t: TableParts) -> u64
+    ensures { λ r. ⌜ (r ≡ largestAirtime (monitorOf t)) × (r ≤ 255) ⌝ }
+{
+    let mut most = 0;
+    let mut i = 0;
+    let n = t.kinds as usize;
+    while i < n {
+        most = larger(most, byte(&t.airtimes, i));
+        i += 1;
+    }
+    most as u64
+}
+
+// The numbers at which a clock is written, 1 for a clock that the table does not have.
+fn clock_numbers(t: TableParts, clock: usize) -> u64
+    ensures { λ r. ⌜ (r ≡ cap (monitorOf t) clock + 1) × (r ≤ 257) ⌝ }
+{
+    if clock < t.clocks as usize {
+        largest_bound(t, clock) + 2
+    } else {
+        1
+    }
+}
+
+fn times(a: u64, b: u64) -> u64
+    requires { ⌜ (a ≤ 65537) × (b ≤ 65537) ⌝ }
+    ensures { λ r. ⌜ (r ≡ min (a * b) 65537) × (r ≤ 65537) ⌝ }
+{
+    if MANY < a * b { MANY } else { a * b }
+}
+
+fn power(n: u8) -> u64
+    ensures { λ r. ⌜ (r ≡ min (2 ^ n) 65537) × (r ≤ 65537) ⌝ }
+{
+    if n < 17 { 1 << n } else { MANY }
+}
+
+// N, the number of situations, and 65,537 for all that are more than 65,536.
+pub fn table_size(t: TableParts) -> u64
+    ensures { λ r. ⌜ r ≡ min (size (monitorOf t)) 65537 ⌝ }
+{
+    let clocks = times(
+        clock_numbers(t, 0),
+        times(clock_numbers(t, 1), largest_airtime(t) + 1),
+    );
+    times(t.states as u64, times(power(t.variables), clocks))
+}

@@ -1,0 +1,18 @@
+use borrow.Author.Needs.{needs}
+use Rattle.lutarosa.proofs.Handed.{checked}
+use Rattle.lutarosa.proofs.lutarosa_check.Statement.{statement}
+use Rattle.lutarosa.proofs.lutarosa_check.Tie as tie
+
+check-witness-requires : tie.Need-check-witness-requires
+check-witness-requires c κs = search needs
+
+checking-numbers-requires : tie.Need-checking-numbers-requires
+checking-numbers-requires c κs = search needs
+
+returns : tie.Need-returns
+returns c =
+    let a = c .before .before .before .before .before .args in
+    checked (a .table .now) (a .recording .now) (a .witness .now) (c .before .check-witness .ensures .0) (c .before .check-witness .ensures .1) (c .checking-numbers .ensures)
+
+pub lutarosa-check-spec : {M : Type 1} → statement M
+lutarosa-check-spec = tie.close (tie.spec check-witness-requires checking-numbers-requires returns)

@@ -1,0 +1,28 @@
+-- What each exported function promises: document 01's numbers of the definition's answer, and what the function behind it promises of that answer.
+use Prim.Native.Nat.{ℕ}
+use mathlib.Core.Path.{_≡_}
+use mathlib.Core.List.{List}
+use lib.ListN.{length}
+use Rattle.model.specs.Numbers.{verdictValues, checkingValues, writingValues}
+use Rattle.model.specs.Room.{Lent}
+use Rattle.model.specs.Rules.{checkAnswer}
+use Rattle.model.specs.Validation.{validation}
+use Rattle.model.specs.declared.Reading.{Reading}
+use Rattle.numbers.specs.Told.{told}
+use Rattle.numbers.specs.declared.Answer.{Answer}
+use Rattle.engine.specs.Validates.{Validates}
+use Rattle.checker.specs.Claim.{Faithful}
+use Rattle.rewrite.specs.Rewriting.{Rewrites}
+
+pub record Validated (table recording : List ℕ) (budget : ℕ) (scratch room scratchThen roomThen : List ℕ) (a : Answer) : Type 0 where
+  pub answered : told a ≡ verdictValues (validation table recording budget (length scratch) (length room))
+  pub promised : Validates table recording budget scratch room scratchThen roomThen (validation table recording budget (length scratch) (length room))
+
+pub record Checked (table recording witness : List ℕ) (a : Answer) : Type 0 where
+  pub answered : told a ≡ checkingValues (checkAnswer table recording witness)
+  pub promised : Faithful table recording witness (checkAnswer table recording witness)
+
+-- answer: of reading the bytes; given: the definition's answer and room
+pub record Rewritten (answer : Reading) (b room roomThen : List ℕ) (given : Lent) (a : Answer) : Type 0 where
+  pub answered : told a ≡ writingValues (given .answer)
+  pub promised : Rewrites answer b room roomThen given (given .answer)

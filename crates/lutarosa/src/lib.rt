@@ -1,0 +1,56 @@
+// The static library's face (include/lutarosa.h): each function hands its bytes over and answers in document 01's numbers.
+ghost use Rattle.model.specs.Table.{tableAnswer};
+ghost use Rattle.model.specs.Recording.{recordingAnswer};
+ghost use Rattle.model.specs.Witness.{witnessAnswer};
+ghost use Rattle.rewrite.specs.Rewriting.{rewriteTable, rewriteRecording, rewriteWitness};
+ghost use Rattle.lutarosa.specs.Face.{Validated, Checked, Rewritten};
+use checker::check_witness;
+use engine::validate;
+use numbers::Answer;
+use numbers::checking_numbers;
+use numbers::verdict_numbers;
+use numbers::writing_numbers;
+use rewrite::rewrite_recording;
+use rewrite::rewrite_table;
+use rewrite::rewrite_witness;
+
+#[no_mangle]
+pub extern "C" fn lutarosa_validate<'a>(
+    table: &'a [u8],
+    recording: &'a [u8],
+    budget: u32,
+    scratch: &mut [u8],
+    room: &mut [u8],
+) -> Answer
+    ensures { λ r. ⌜ Validated (now (table .entry)) (now (recording .entry)) budget (now (scratch .entry)) (now (room .entry)) (now (scratch .exit)) (now (room .exit)) r ⌝ }
+{
+    verdict_numbers(validate(table, recording, budget, scratch, room))
+}
+
+#[no_mangle]
+pub extern "C" fn lutarosa_check(table: &[u8], recording: &[u8], witness: &[u8]) -> Answer
+    ensures { λ r. ⌜ Checked (now (table .entry)) (now (recording .entry)) (now (witness .entry)) r ⌝ }
+{
+    checking_numbers(check_witness(table, recording, witness))
+}
+
+#[no_mangle]
+pub extern "C" fn lutarosa_rewrite_table(bytes: &[u8], room: &mut [u8]) -> Answer
+    ensures { λ r. ⌜ Rewritten (tableAnswer (now (bytes .entry))) (now (bytes .entry)) (now (room .entry)) (now (room .exit)) (rewriteTable (now (bytes .entry)) (now (room .entry))) r ⌝ }
+{
+    writing_numbers(rewrite_table(bytes, room))
+}
+
+#[no_mangle]
+pub extern "C" fn lutarosa_rewrite_recording(table: &[u8], bytes: &[u8], room: &mut [u8]) -> Answer
+    ensures { λ r. ⌜ Rewritten (recordingAnswer (now (table .entry)) (now (bytes .entry))) (now (bytes .entry)) (now (room .entry)) (now (room .exit)) (rewriteRecording (now (table .entry)) (now (bytes .entry)) (now (room .entry))) r ⌝ }
+{
+    writing_numbers(rewrite_recording(table, bytes, room))
+}
+
+#[no_mangle]
+pub extern "C" fn lutarosa_rewrite_witness(bytes: &[u8], room: &mut [u8]) -> Answer
+    ensures { λ r. ⌜ Rewritten (witnessAnswer (now (bytes .entry))) (now (bytes .entry)) (now (room .entry)) (now (room .exit)) (rewriteWitness (now (bytes .entry)) (now (room .entry))) r ⌝ }
+{
+    writing_numbers(rewrite_witness(bytes, room))
+}

@@ -1,0 +1,79 @@
+use borrow.Author.Needs.{needs}
+use Rattle.rewrite.proofs.Kept.{all-below, recording-fits, recording-read, recording-unwritten}
+use Rattle.rewrite.proofs.back.recording_back.Statement.{statement}
+use Rattle.rewrite.proofs.back.recording_back.Tie as tie
+use Rattle.rewrite.proofs.back.recording_back.Reads as reads
+use Rattle.rewrite.proofs.back.recording_back.Lts as lts
+use Rattle.codec.proofs.recording.read_recording.Reads as read-recording-reads
+use Rattle.codec.proofs.recording.write_recording.Reads as write-recording-reads
+use Rattle.rewrite.proofs.back.refused_recording.Reads as refused-recording-reads
+
+-- src/back.rt:61:9
+write-recording-requires : tie.Need-write-recording-requires
+write-recording-requires c κs = search needs
+
+-- src/back.rt:63:28
+enum-known-written : tie.Need-enum-known-written
+enum-known-written c = search needs
+
+-- src/back.rt:65:35
+sub-read-recording : tie.Need-sub-read-recording
+sub-read-recording c = search needs
+
+-- src/back.rt:65:35
+part-read-recording-start : tie.Need-part-read-recording-start
+part-read-recording-start c = search needs
+
+-- src/back.rt:65:35
+part-read-recording-end : tie.Need-part-read-recording-end
+part-read-recording-end c = recording-fits _ _ _ _ _ _ (c .before .before .before .before .before .before .write-recording .ensures) (c .before .before .written .given .1)
+
+-- src/back.rt:65:13
+read-recording-requires : tie.Need-read-recording-requires
+read-recording-requires c κs = search needs
+
+-- src/back.rt:67:28
+enum-known-written-2 : tie.Need-enum-known-written-2
+enum-known-written-2 c = search needs
+
+-- src/back.rt:67:36
+refused-recording-requires : tie.Need-refused-recording-requires
+refused-recording-requires c κs = search needs
+
+-- src/back.rt:58:1
+same-length : tie.Need-same-length
+same-length c = search needs
+
+-- src/back.rt:58:1
+returns : tie.Need-returns
+returns c =
+    let w = c .before .before .before .before .before .before .before .before .write-recording .ensures in
+    let s = c .before .before .before .before .before .before .before .before .before .before .before .before in
+    recording-read _ _ _ _ _ (w .0) (w .1) _ (λ i h. all-below (s .args .r .times) (s .good .1 .0 .1 .1 .1 .0 .0) (s .good .1 .0 .1 .1 .1 .0 .1 .1) i) _ (c .before .before .before .before .written .given .1) (c .read-recording .ensures)
+
+-- src/back.rt:58:1
+same-length-2 : tie.Need-same-length-2
+same-length-2 c = search needs
+
+-- src/back.rt:58:1
+returns-2 : tie.Need-returns-2
+returns-2 c =
+    let w = c .before .before .before .before .before .before .write-recording .ensures in
+    recording-unwritten _ _ _ _ _ (w .0) (w .1) _ _ (c .before .before .written2 .given .1) (c .refused-recording .ensures)
+
+pub recording-back-spec : {M : Type 1} → statement M
+recording-back-spec =
+    tie.close
+    (tie.spec
+    write-recording-requires
+    enum-known-written
+    sub-read-recording
+    part-read-recording-start
+    part-read-recording-end
+    read-recording-requires
+    enum-known-written-2
+    refused-recording-requires
+    same-length
+    returns
+    same-length-2
+    returns-2)

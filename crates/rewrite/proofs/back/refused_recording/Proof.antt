@@ -1,0 +1,33 @@
+use mathlib.Core.Path.{refl, ap, _∙_}
+use borrow.Author.Needs.{needs}
+use Rattle.rewrite.proofs.Kept.{no-recording-read}
+use Rattle.rewrite.proofs.back.refused_recording.Statement.{statement}
+use Rattle.rewrite.proofs.back.refused_recording.Tie as tie
+use Rattle.rewrite.proofs.back.refused_recording.Reads as reads
+use Rattle.rewrite.proofs.back.refused_recording.Lts as lts
+use Rattle.codec.proofs.recording.read_recording.Reads as read-recording-reads
+
+-- src/back.rt:52:34
+slice-aggregate-read-recording : tie.Need-slice-aggregate-read-recording
+slice-aggregate-read-recording c = search needs
+
+-- src/back.rt:52:41
+slice-aggregate-read-recording-2 : tie.Need-slice-aggregate-read-recording-2
+slice-aggregate-read-recording-2 c = search needs
+
+-- src/back.rt:52:9
+read-recording-requires : tie.Need-read-recording-requires
+read-recording-requires c κs = search needs
+
+-- src/back.rt:48:1
+returns : tie.Need-returns
+returns c = (refl, ap (λ (x : _). x .parts) (c .before .read-recording .ensures) ∙ no-recording-read)
+
+pub refused-recording-spec : {M : Type 1} → statement M
+refused-recording-spec =
+    tie.close
+    (tie.spec
+    slice-aggregate-read-recording
+    slice-aggregate-read-recording-2
+    read-recording-requires
+    returns)

@@ -1,0 +1,23 @@
+use mathlib.Core.Path.{refl, ap, _∙_}
+use borrow.Author.Needs.{needs}
+use Rattle.rewrite.proofs.Kept.{no-table-read}
+use Rattle.rewrite.proofs.back.refused_table.Statement.{statement}
+use Rattle.rewrite.proofs.back.refused_table.Tie as tie
+use Rattle.rewrite.proofs.back.refused_table.Reads as reads
+use Rattle.rewrite.proofs.back.refused_table.Lts as lts
+use Rattle.codec.proofs.table.read_table.Reads as read-table-reads
+
+-- src/back.rt:29:30
+slice-aggregate-read-table : tie.Need-slice-aggregate-read-table
+slice-aggregate-read-table c = search needs
+
+-- src/back.rt:29:9
+read-table-requires : tie.Need-read-table-requires
+read-table-requires c κs = search needs
+
+-- src/back.rt:25:1
+returns : tie.Need-returns
+returns c = (refl, ap (λ (x : _). x .parts) (c .before .read-table .ensures) ∙ no-table-read)
+
+pub refused-table-spec : {M : Type 1} → statement M
+refused-table-spec = tie.close (tie.spec slice-aggregate-read-table read-table-requires returns)

@@ -1,0 +1,24 @@
+use mathlib.Core.Path.{refl, ap, _∙_}
+use borrow.Author.Needs.{needs}
+use Rattle.rewrite.proofs.Kept.{no-witness-read}
+use Rattle.rewrite.proofs.back.refused_witness.Statement.{statement}
+use Rattle.rewrite.proofs.back.refused_witness.Tie as tie
+use Rattle.rewrite.proofs.back.refused_witness.Reads as reads
+use Rattle.rewrite.proofs.back.refused_witness.Lts as lts
+use Rattle.witness.proofs.read_witness.Reads as read-witness-reads
+
+-- src/back.rt:75:32
+slice-aggregate-read-witness : tie.Need-slice-aggregate-read-witness
+slice-aggregate-read-witness c = search needs
+
+-- src/back.rt:75:9
+read-witness-requires : tie.Need-read-witness-requires
+read-witness-requires c κs = search needs
+
+-- src/back.rt:71:1
+returns : tie.Need-returns
+returns c = (refl, ap (λ (x : _). x .parts) (c .before .read-witness .ensures) ∙ no-witness-read)
+
+pub refused-witness-spec : {M : Type 1} → statement M
+refused-witness-spec =
+    tie.close (tie.spec slice-aggregate-read-witness read-witness-requires returns)

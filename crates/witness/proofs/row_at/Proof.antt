@@ -1,0 +1,56 @@
+use Rattle.model.specs.Witness.{rowAt}
+use borrow.Author.Needs.{needs}
+use Rattle.witness.proofs.row_at.Statement.{statement}
+use Rattle.witness.proofs.row_at.Tie as tie
+
+mul-from : tie.Need-mul-from
+mul-from c = search needs
+
+add-byte : tie.Need-add-byte
+add-byte c = search needs
+
+byte-requires : tie.Need-byte-requires
+byte-requires c κs = search needs
+
+add-word : tie.Need-add-word
+add-word c = search needs
+
+word-requires : tie.Need-word-requires
+word-requires c κs = search needs
+
+add-byte-2 : tie.Need-add-byte-2
+add-byte-2 c = search needs
+
+byte-requires-2 : tie.Need-byte-requires-2
+byte-requires-2 c κs = search needs
+
+add-byte-3 : tie.Need-add-byte-3
+add-byte-3 c = search needs
+
+byte-requires-3 : tie.Need-byte-requires-3
+byte-requires-3 c κs = search needs
+
+returns : tie.Need-returns
+unfolding rowAt
+returns c = λ i.
+    record {
+      mark = (c .before .before .before .byte .ensures .0) i;
+      time = (c .before .before .word .ensures .0) i;
+      kind = (c .before .byte2 .ensures .0) i;
+      transition = (c .byte3 .ensures .0) i;
+    }
+
+pub row-at-spec : {M : Type 1} → statement M
+row-at-spec =
+    tie.close
+    (tie.spec
+    mul-from
+    add-byte
+    byte-requires
+    add-word
+    word-requires
+    add-byte-2
+    byte-requires-2
+    add-byte-3
+    byte-requires-3
+    returns)

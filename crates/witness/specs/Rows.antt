@@ -1,0 +1,33 @@
+-- Rows of a witness as the code has them: by value, from one of them on, in bytes and in columns.
+use Prim.Native.Nat.{ℕ, zero, suc, _+_, _*_}
+use mathlib.Core.List.{List, [], _∷_}
+use mathlib.Core.Option.{Option, none, some}
+use lib.ListN.{getD}
+use Rattle.model.specs.Bytes.{byteAt, wordAt}
+use Rattle.model.specs.Witness.{Row}
+use Rattle.witness.specs.declared.Entry.{Entry}
+
+abbrev pub rowOf : Entry → Row
+rowOf e = record { mark = e .mark; time = e .time; kind = e .kind; transition = e .transition }
+
+-- m rows from row i on
+unfoldable pub rowsFrom : (ℕ → Row) → ℕ → ℕ → List Row
+rowsFrom f zero i = []
+rowsFrom f (suc m) i = f i ∷ rowsFrom f m (suc i)
+
+-- the row before row i, if there is one
+unfoldable pub rowBefore : (ℕ → Row) → ℕ → Option Row
+rowBefore f zero = none
+rowBefore f (suc i) = some (f i)
+
+-- the byte that stands in row i where start is in row 0
+abbrev pub columnAt : List ℕ → ℕ → ℕ → ℕ
+columnAt b start i = byteAt b (start + 5 * i)
+
+abbrev pub timeAt : List ℕ → ℕ → ℕ
+timeAt b i = wordAt b (6 + 5 * i)
+
+-- row i by its columns
+abbrev pub rowAmong : (marks times kinds transitions : List ℕ) → ℕ → Row
+rowAmong marks times kinds transitions i =
+    record { mark = getD marks i 0; time = getD times i 0; kind = getD kinds i 0; transition = getD transitions i 0 }

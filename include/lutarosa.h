@@ -1,0 +1,84 @@
+/* Lutarosa: can a unit have kept its protocol, from what a sniffer heard?
+ *
+ * Tables, recordings and witnesses are bytes in the formats of document 01. Any bytes may be handed in: what is wrong
+ * with them is told by a number. A call always returns and keeps nothing of what it was lent.
+ *
+ * A slice is a pointer and a length in bytes. The pointer must not be null, even if the length is 0. A slice that a call
+ * writes (scratch, room) must not overlap another slice of that call. While the call runs, nothing else may write its
+ * slices, nor read those that it writes.
+ *
+ * Link with liblutarosa.a (x86-64 Linux), which needs memcpy and memset of the C library and about 70 KB of stack
+ * (measured, not proved).
+ */
+#ifndef LUTAROSA_H
+#define LUTAROSA_H
+
+#include <stddef.h>
+#include <stdint.h>
+
+#ifdef __cplusplus
+extern "C" {
+#endif
+
+/* Document 01's numbers. What 0, 1 and 2 mean stands at each function. From 10 on an answer is a refusal, with
+ * every lent byte untouched:
+ *
+ *    10 to 16   the table is not sound         second: where (document 01)
+ *    20 to 24   the recording is not sound     second: where; for 23 and 24 the row, from 0
+ *    30         scratch too short              second: bytes wanted
+ *    31         witness room too short         second: bytes wanted
+ *    33         room too short to rewrite      second: bytes wanted
+ *    40 to 43   the witness is not permitted   second: where; for 43 the row, from 0, or the row count if
+ *                                              recorded rows are left unaccounted for
+ */
+struct lutarosa_answer {
+    uint64_t number;
+    uint64_t second;
+    uint64_t third;
+};
+
+/* Judges a recording against a table, at a cost of at most the budget.
+ *
+ *    0   accepted     second: cost     third: rows of the witness
+ *    1   rejected     second: cost     third: instant after whose moves nothing is left
+ *    2   exhausted    second: budget   third: instant at which the cost passes it
+ *
+ * Lent, whatever they hold: a scratch of (T + 1) * S bytes and a room of 5 + 5 * (T + n) bytes, with T the last recorded
+ * time, n the recorded rows, and S an eighth of document 01's N, rounded up. 33562624 and 23045 are always enough.
+ * After 0, 1 and 2 the wanted part of the scratch is zero. After 0 the preferred witness stands at the start of the room,
+ * 5 + 5 * rows bytes. All other lent bytes are as they were.
+ */
+struct lutarosa_answer lutarosa_validate(const uint8_t *table, size_t table_length,
+                                         const uint8_t *recording, size_t recording_length,
+                                         uint32_t budget,
+                                         uint8_t *scratch, size_t scratch_length,
+                                         uint8_t *room, size_t room_length);
+
+/* Checks a witness against a table and a recording.
+ *
+ *    0   permitted    second: removed and added rows   third: rows
+ */
+struct lutarosa_answer lutarosa_check(const uint8_t *table, size_t table_length,
+                                      const uint8_t *recording, size_t recording_length,
+                                      const uint8_t *witness, size_t witness_length);
+
+/* Each reads bytes and writes what it read into the room. Sound bytes come out the same, so a room of their length is enough.
+ * A recording is read against a table; of a witness the form alone is judged.
+ *
+ *    0   written      second: bytes written, at the start of the room; the rest of the room is as it was
+ */
+struct lutarosa_answer lutarosa_rewrite_table(const uint8_t *bytes, size_t length,
+                                              uint8_t *room, size_t room_length);
+
+struct lutarosa_answer lutarosa_rewrite_recording(const uint8_t *table, size_t table_length,
+                                                  const uint8_t *bytes, size_t length,
+                                                  uint8_t *room, size_t room_length);
+
+struct lutarosa_answer lutarosa_rewrite_witness(const uint8_t *bytes, size_t length,
+                                                uint8_t *room, size_t room_length);
+
+#ifdef __cplusplus
+}
+#endif
+
+#endif
