@@ -10,7 +10,7 @@ ghost use lib.ListN.{length};
 ghost use Rattle.engine.specs.Forwarding.{Turn, Turned, Forwarding, Ended};
 
 // How the pass ends: a situation is left after the last instant, none is after some instant, or the budget is passed.
-pub enum Outcome {
+pub(crate) enum Outcome {
     Passed { cost: u64 },
     Emptied { cost: u64, instant: u64 },
     Spent { instant: u64 },
@@ -48,7 +48,7 @@ fn instant<'a>(
 }
 
 // Fills the rows of a zeroed scratch, instant by instant, to the end or to where none is left or the budget is passed.
-pub fn forward<'a>(
+pub(crate) fn forward<'a>(
     table: &'a [u8],
     offsets: &'a [u16],
     recording: &'a [u8],

@@ -81,7 +81,7 @@ fn conclude<'a>(
     }
 }
 
-pub fn judge<'a>(
+pub(crate) fn judge<'a>(
     table: &'a [u8],
     recording: &'a [u8],
     h: Shape,

@@ -100,7 +100,7 @@ fn prune_at<'a>(
 }
 
 // Leaves in each row, of row bytes, the situations from which instant last can be reached.
-pub fn prune<'a>(
+pub(crate) fn prune<'a>(
     table: &'a [u8],
     offsets: &'a [u16],
     recording: &'a [u8],

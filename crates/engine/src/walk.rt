@@ -179,7 +179,7 @@ fn walk_on<'a>(
 }
 
 // Writes the preferred witness into the room, along the pruned rows, from the first situation's number. The result is the number of its rows.
-pub fn walk<'a>(
+pub(crate) fn walk<'a>(
     table: &'a [u8],
     offsets: &'a [u16],
     recording: &'a [u8],

@@ -5,7 +5,7 @@ ghost use Prim.Native.Nat.{_+_};
 ghost use Rattle.bits.specs.Member.{mem, PutIn};
 
 // Is z in the row? Nothing is past the end.
-pub fn has(s: &[u8], start: usize, z: usize) -> bool
+pub(crate) fn has(s: &[u8], start: usize, z: usize) -> bool
     ensures { λ r. ⌜ r ≡ mem (now (s .entry)) (start + z) ⌝ }
 {
     let at = start / 8 + z / 8;
@@ -16,7 +16,7 @@ pub fn has(s: &[u8], start: usize, z: usize) -> bool
 }
 
 // Puts z into the row, where there is a place for it.
-pub fn put(s: &mut [u8], start: usize, z: usize)
+pub(crate) fn put(s: &mut [u8], start: usize, z: usize)
     ensures { λ r. ⌜ PutIn (start + z) (now (s .entry)) (now (s .exit)) ⌝ }
 {
     let at = start / 8 + z / 8;

@@ -1,3 +1,4 @@
+use native.Mathlib.Omega.{arith}
 use borrow.Author.Needs.{needs}
 use Rattle.rewrite.proofs.Kept.{all-below, recording-fits, recording-read, recording-unwritten}
 use Rattle.rewrite.proofs.back.recording_back.Statement.{statement}
@@ -26,7 +27,7 @@ part-read-recording-start c = search needs
 
 -- src/back.rt:65:35
 part-read-recording-end : tie.Need-part-read-recording-end
-part-read-recording-end c = recording-fits _ _ _ _ _ _ (c .before .before .before .before .before .before .write-recording .ensures) (c .before .before .written .given .1)
+part-read-recording-end c = omega (arith, recording-fits _ _ _ _ _ _ (c .before .before .before .before .before .before .write-recording .ensures) (c .before .before .written .given .1))
 
 -- src/back.rt:65:13
 read-recording-requires : tie.Need-read-recording-requires

@@ -1,3 +1,4 @@
+use native.Mathlib.Omega.{arith}
 use mathlib.Core.Path.{sym, _∙_}
 use lib.ListN.{length-map}
 use borrow.Author.Needs.{needs}
@@ -28,7 +29,7 @@ part-read-table-start c = search needs
 
 -- src/back.rt:42:24
 part-read-table-end : tie.Need-part-read-table-end
-part-read-table-end c = table-fits _ _ _ _ _ (c .before .before .before .before .before .before .write-table .ensures) (c .before .before .written .given .1)
+part-read-table-end c = omega (arith, table-fits _ _ _ _ _ (c .before .before .before .before .before .before .write-table .ensures) (c .before .before .written .given .1))
 
 -- src/back.rt:42:13
 read-table-requires : tie.Need-read-table-requires

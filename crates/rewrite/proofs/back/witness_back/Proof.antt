@@ -1,3 +1,4 @@
+use native.Mathlib.Omega.{arith}
 use borrow.Author.Needs.{needs}
 use Rattle.rewrite.proofs.Kept.{all-below, witness-fits, witness-read, witness-unwritten}
 use Rattle.rewrite.proofs.back.witness_back.Statement.{statement}
@@ -26,7 +27,7 @@ part-read-witness-start c = search needs
 
 -- src/back.rt:88:26
 part-read-witness-end : tie.Need-part-read-witness-end
-part-read-witness-end c = witness-fits _ _ _ _ _ (c .before .before .before .before .before .before .write-witness .ensures) (c .before .before .written .given .1)
+part-read-witness-end c = omega (arith, witness-fits _ _ _ _ _ (c .before .before .before .before .before .before .write-witness .ensures) (c .before .before .written .given .1))
 
 -- src/back.rt:88:13
 read-witness-requires : tie.Need-read-witness-requires
