@@ -13,6 +13,7 @@ use std::io::{self, Write};
 use crate::call::{Call, ORDINARY};
 use crate::desk;
 use crate::generate::{calls, Rng};
+use crate::limits;
 use crate::papers::{PAPERS, SMALL_MONITOR};
 
 /// As many random calls as this, of which few are long.
@@ -46,6 +47,9 @@ pub fn cases(seed: u64) -> io::Result<Cases> {
     }
     for input in [vec![], vec![0; 3], vec![0; 4], vec![1; 8_192], vec![1; 8_193]] {
         cases.desk(&input)?;
+    }
+    for call in limits::calls() {
+        cases.call(call)?;
     }
     let mut rng = Rng::new(seed);
     let (mut made, mut long) = (0, 0);
@@ -110,7 +114,7 @@ impl Cases {
     fn desk_of(&mut self, call: &Call, made: usize) -> io::Result<()> {
         match call {
             Call::Validate { table, recording, budget, .. }
-                if made % 4 == 0 && table.len() + recording.len() < LONG =>
+                if made.is_multiple_of(4) && table.len() + recording.len() < LONG =>
             {
                 self.desk(&[&table[..], &recording[..], &budget.to_be_bytes()[..]].concat())
             }

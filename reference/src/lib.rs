@@ -18,6 +18,7 @@ pub mod generate;
 pub mod guard;
 pub mod instant;
 pub mod lent;
+pub mod limits;
 #[cfg(feature = "linked")]
 pub mod linked;
 pub mod moves;

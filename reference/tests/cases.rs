@@ -1,12 +1,15 @@
 //! The recorded cases: enough of them, every number often enough, and the paper's own first.
 
 use lutarosa_reference::cases::cases;
+use lutarosa_reference::limits::{sized, SIZES};
+use lutarosa_reference::situation::Space;
 
 #[test]
 fn every_number_comes_often_and_p5_is_printed_whole() {
     let made = cases(1).expect("writing to memory");
     assert!(made.numbers.values().sum::<usize>() >= 5_000);
-    let list = [0, 1, 2, 10, 11, 12, 13, 14, 15, 16, 20, 21, 22, 23, 24, 30, 31, 33, 40, 41, 42, 43];
+    let list =
+        [0, 1, 2, 10, 11, 12, 13, 14, 15, 16, 20, 21, 22, 23, 24, 30, 31, 33, 40, 41, 42, 43];
     for number in list {
         assert!(made.numbers.get(&number).is_some_and(|times| *times >= 20), "number {number}");
     }
@@ -18,4 +21,11 @@ fn every_number_comes_often_and_p5_is_printed_whole() {
 fn the_same_seed_makes_the_same_cases() {
     let (first, second) = (cases(2).expect("memory"), cases(2).expect("memory"));
     assert!(first.input == second.input && first.output == second.output);
+}
+
+#[test]
+fn tables_at_the_limit_have_the_size_that_is_said() {
+    for (states, variables, bounds, airtime, count) in SIZES {
+        assert_eq!(Space::of(&sized(states, variables, bounds, airtime)).count(), count);
+    }
 }

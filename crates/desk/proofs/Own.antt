@@ -3,7 +3,7 @@ use Prim.Native.Nat.{ℕ}
 use mathlib.Core.Path.{_≡_, ap₂, _∙_}
 use mathlib.Core.List.{List}
 use lib.ListN.{length}
-use Rattle.model.specs.Desk.{deskLines, deskScratch, deskRoom, linesFor, inText}
+use Rattle.model.specs.Desk.{deskScratch, deskRoom, linesFor, inText}
 use Rattle.lines.specs.Written.{Lines}
 use Rattle.desk.specs.Program.{Printed}
 

@@ -1,7 +1,7 @@
 -- A sound table and recording give the passes what they go by: the code's step is the definition's, and offsets find the triggers.
 use Prim.Native.Nat.{ℕ, zero, suc, _+_, _<_, _≤_}
 use native.Mathlib.Omega.{arith}
-use mathlib.Core.Path.{_≡_, refl, sym, ap, subst, fun-ext, _∙_}
+use mathlib.Core.Path.{_≡_, sym, ap, subst, fun-ext, _∙_}
 use mathlib.Core.List.{List, [], _∷_, _++_}
 use mathlib.Core.Option.{Option, some, Option·map, Option·some-injective}
 use lib.ListN.{getD, getElem?}

@@ -1,18 +1,16 @@
 -- What the forward pass came to, turned into a verdict; and judging a sound recording from a cleared scratch.
-use Prim.Native.Nat.{ℕ, _+_, _*_, _/_, _<_, _≤_}
-use native.Mathlib.Nat.{le-trans, le-refl}
+use Prim.Native.Nat.{ℕ, _+_, _*_, _≤_}
 use native.Mathlib.Omega.{arith}
 use mathlib.Core.Path.{_≡_, refl, sym, ap, subst, _∙_}
 use mathlib.Core.List.{List}
-use mathlib.Core.Bool.{false}
 use lib.ListN.{length, replicate, length-replicate}
 use Rattle.model.specs.Room.{over}
 use Rattle.model.specs.Size
-use Rattle.model.specs.Table.{monitorAt, tableParts}
-use Rattle.model.specs.Recording.{SoundRecording, packetsAt, endOf, lastTime}
+use Rattle.model.specs.Table.{monitorAt}
+use Rattle.model.specs.Recording.{packetsAt}
 use Rattle.model.specs.Situation.{firstBy, firstNumber}
 use Rattle.model.specs.Witness.{witnessBytes}
-use Rattle.model.specs.Validation.{preferred, verdict, roomBy}
+use Rattle.model.specs.Validation.{preferred}
 use Rattle.model.specs.declared.Verdict.{Verdict}
 use Rattle.model.specs.declared.Verdict.the-variants.{Accepted, Rejected, Exhausted}
 use Rattle.model.proofs.TableForm.{table-facts}
@@ -23,10 +21,9 @@ use Rattle.monitor.specs.From.{offsetsOf}
 use Rattle.situation.specs.declared.Shape.{Shape}
 use Rattle.situation.specs.Numbering.{numberBy}
 use Rattle.situation.specs.Steps.{cappedBy}
-use Rattle.engine.specs.Setting.{Setting, LayersUpTo}
-use Rattle.engine.specs.Forwarding.{RowsFit, Forwarding, Through, Ended}
-use Rattle.engine.specs.PruneRows.{PrunedRows}
-use Rattle.engine.specs.WalkRows.{Triggers, Ground}
+use Rattle.engine.specs.Setting.{Setting}
+use Rattle.engine.specs.Forwarding.{Forwarding, Through, Ended}
+use Rattle.engine.specs.WalkRows.{Triggers}
 use Rattle.engine.specs.Judging.{Judging, Ending, Concluded, Settled}
 use Rattle.engine.specs.declared.forward.Outcome.{Outcome}
 use Rattle.engine.specs.declared.forward.Outcome.the-variants.{Passed, Emptied, Spent}

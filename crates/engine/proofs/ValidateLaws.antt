@@ -3,11 +3,9 @@ use Prim.Native.Nat.{ℕ, _+_, _-_, _*_, _/_, _<_, _≤_, min}
 use native.Mathlib.Nat.{mul-comm}
 use native.Mathlib.Omega.{arith}
 use mathlib.Core.Path.{_≡_, refl, sym, ap, subst, _∙_}
-use mathlib.Core.List.{List, [], _∷_, _++_}
-use mathlib.Core.Bool.{true, false}
+use mathlib.Core.List.{List, _++_}
 use lib.ListN.{length, take, drop, replicate}
 use lib.Seq.{length-take-le}
-use lib.Dec.{leb}
 use borrow.Author.Tests.{le-leb, lt-leb}
 use Rattle.model.specs.Bytes.{tab}
 use Rattle.model.specs.Size
@@ -16,7 +14,6 @@ use Rattle.model.specs.Recording.{recordingAnswer, countAt, packetsAt, endOf}
 use Rattle.model.specs.Witness.{witnessBytes}
 use Rattle.model.specs.Validation.{refusal, validation, verdict, preferred, scratchWanted, roomWanted, scratchBy, roomBy, scratchAfter, roomAfter}
 use Rattle.model.specs.Claims.{ValuesOf, Judged}
-use Rattle.model.specs.declared.Reading.{Reading}
 use Rattle.model.specs.declared.Reading.the-variants.{Sound, Unsound}
 use Rattle.model.specs.declared.Refusal.{Refusal}
 use Rattle.model.specs.declared.Refusal.the-variants.{Scratch, WitnessRoom}

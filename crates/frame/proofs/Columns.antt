@@ -5,7 +5,7 @@ use native.Mathlib.Nat.{sub-zero, mul-zero, mul-suc, mul-le-mul}
 use native.Mathlib.Numerals.{add-one}
 use mathlib.Core.Path.{_≡_, refl, sym, ap, _∙_}
 use mathlib.Core.List.{List, [], _∷_, _++_, append-assoc}
-use lib.ListN.{length, drop, set, replicate, length-append, length-drop, length-replicate, replicate-append-replicate}
+use lib.ListN.{length, drop, set, replicate, length-append, length-replicate, replicate-append-replicate}
 use lib.Seq.{drop-cons, set-at}
 use Rattle.model.specs.Bytes.{tab, joined, padded}
 use Rattle.model.specs.Room.{over}
@@ -22,9 +22,6 @@ column-more f room i h =
     ∙ set-at (tab f i) _ (drop (suc i) room) (f i) i (length-tab f i)
     ∙ sym (append-assoc (tab f i) (f i ∷ []) (drop (suc i) room))
     ∙ rw add-one
-
-pub column-long : (f : ℕ → ℕ) (room : List ℕ) (i : ℕ) → i ≤ length room → length (tab f i ++ drop i room) ≡ length room
-column-long f room i h = length-append (tab f i) (drop i room) ∙ omega (arith, length-tab f i, length-drop i room)
 
 abbrev zeros : ℕ → List ℕ
 zeros n = replicate n 0
@@ -47,11 +44,6 @@ padded-over size l = ap (λ (z : List ℕ). l ++ z) (drop-zeros (length l) size)
 
 pub column-padded : (f : ℕ → ℕ) (n size : ℕ) → tab f n ++ drop n (zeros size) ≡ padded size (tab f n)
 column-padded f n size = ap (λ k. tab f n ++ drop k (zeros size)) (sym (length-tab f n)) ∙ padded-over size (tab f n)
-
-pub tab-same : (f g : ℕ → ℕ) → ((i : ℕ) → f i ≡ g i) → (n : ℕ) → tab f n ≡ tab g n
-unfolding tab
-tab-same f g e zero = refl
-tab-same f g e (suc n) = rw (tab-same f g e n, e n)
 
 pub step-bound : (step i : ℕ) → step < 256 → i < 65536 → step * i ≤ 16711425
 step-bound step i h k = omega (arith, mul-le-mul {n₂ = 255} {m₂ = 65535} (below step 255 h) (below i 65535 k))

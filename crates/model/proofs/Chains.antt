@@ -1,15 +1,15 @@
 -- What the theorems about validation speak of: lists of moves that can be carried, on numbers and with real clocks, and what a sound table and recording ensure.
-use Prim.Native.Nat.{ℕ, zero, suc, _+_, _<_, _≤_, _^_}
+use Prim.Native.Nat.{ℕ, suc, _<_, _≤_}
 use mathlib.Core.Path.{_≡_}
-use mathlib.Core.List.{List, [], _∷_, List·Memᴰ}
+use mathlib.Core.List.{List, [], _∷_}
 use mathlib.Core.Logic.{_⊎_}
-use mathlib.Core.Option.{Option, none, some}
+use mathlib.Core.Option.{Option, some}
 use lib.ListN.{length, getElem?}
 use Rattle.model.specs.Guard.{Guard, always, atMost, atLeast, variable, negation, conjunction}
 use Rattle.model.specs.Monitor.{Monitor, Transition}
 use Rattle.model.specs.Trace.{Packet, PacketTrace}
 use Rattle.model.specs.Recording.{endOf, rowLimit, lastTime}
-use Rattle.model.specs.Situation.{Move, moveOf, moveLimit, transitionLimit, stepBy, uncapped, recordedAt}
+use Rattle.model.specs.Situation.{moveOf, moveLimit, transitionLimit, stepBy, uncapped, recordedAt}
 use Rattle.model.specs.declared.Situation.{Situation}
 
 module _ (N K : ℕ) (step : ℕ → ℕ → ℕ → Option ℕ) where

@@ -1,15 +1,14 @@
 -- Document 003 says that trying kept rows first gives the most kept rows. It does not: here the preferred witness keeps one row, and another permitted one keeps two.
-use Prim.Native.Nat.{ℕ, zero, suc, _+_, _<_}
+use Prim.Native.Nat.{ℕ, _+_, _<_}
 use native.Mathlib.Omega.{arith}
 use mathlib.Core.Path.{_≡_, refl}
 use mathlib.Core.List.{List, [], _∷_}
 use mathlib.Core.Bool.{cond}
 use lib.Dec.{eqb}
-use Rattle.model.specs.Numbers.{values}
 use Rattle.model.specs.Recording.{packetsAt}
 use Rattle.model.specs.Table.{monitorAt}
-use Rattle.model.specs.Witness.{Row, kept, removed, added, noTransition, inForm, follows}
-use Rattle.model.specs.Rules.{sends, removes, keeps, adds, account, broken, begin, Permits}
+use Rattle.model.specs.Witness.{Row, kept, removed, noTransition, inForm, follows}
+use Rattle.model.specs.Rules.{sends, removes, keeps, adds, account, broken, Permits}
 use Rattle.model.specs.Validation.{preferred}
 use Rattle.model.proofs.Examples.{run}
 

@@ -2,8 +2,7 @@
 -- the answer's three values, and every lent byte. Scratch and room are lent dirty.
 use Prim.Native.Nat.{ℕ}
 use mathlib.Core.Path.{_≡_, refl}
-use mathlib.Core.List.{List, [], _∷_, _++_, map}
-use mathlib.Core.Bool.{Bool}
+use mathlib.Core.List.{List, [], _∷_, _++_}
 use mathlib.Core.Option.{bind}
 use lib.ListN.{length, drop, replicate}
 use Rattle.model.specs.Bytes.{tab, joined, padded}
@@ -15,7 +14,7 @@ use Rattle.model.specs.Recording.{clearOfBefore, recordedRow, recordedRo
 use Rattle.model.specs.Situation.{capped, sent, moved, stepBy, recordedAt, moveOf, number, situationOf, stepNumber}
 use Rattle.model.specs.Layers.{count, firstFrom, spread, image, layer, total, lastInstant, cost, passing, leads, live, walk, leastMoves}
 use Rattle.model.specs.Numbers.{Values, values, verdictValues}
-use Rattle.model.specs.Witness.{Row, rowsBytes, witnessBytes}
+use Rattle.model.specs.Witness.{rowsBytes, witnessBytes}
 use Rattle.model.specs.Validation.{rowsBy, rowsOf, preferred, verdict, refusal, validation, scratchAfter, roomAfter, possibleAfter}
 use Rattle.model.specs.Desk.{digits, rowLines, verdictLines, judgedLines, tableLength, linesFor, deskLines}
 

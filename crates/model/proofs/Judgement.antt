@@ -1,14 +1,14 @@
 -- Demand 3: the verdict of the definitions is right in the paper's words.
-use Prim.Native.Nat.{ℕ, zero, suc, _+_, _*_, _<_, _≤_}
+use Prim.Native.Nat.{ℕ, _+_, _*_, _<_, _≤_}
 use native.Mathlib.Nat.{le-trans, not-le-of-lt}
 use native.Mathlib.Omega.{arith}
 use mathlib.Core.Path.{_≡_, refl, sym, ap, subst, _∙_}
 use mathlib.Core.Logic.{_↔_, _⊎_, inl, inr}
-use mathlib.Core.List.{List, [], _∷_}
+use mathlib.Core.List.{List}
 use mathlib.Core.Bool.{Bool, true, false}
 use mathlib.Core.Option.{none}
 use lib.ListN.{length}
-use lib.Dec.{eqb, ltb}
+use lib.Dec.{ltb}
 use borrow.Author.Tests.{ltb-true, ltb-false, eqb-true, eqb-false}
 use Rattle.model.specs.Monitor.{Monitor}
 use Rattle.model.specs.Trace.{Packet, Possible}
@@ -19,16 +19,16 @@ use Rattle.model.specs.Witness.{Row}
 use Rattle.model.specs.Rules.{broken, begin, Permits}
 use Rattle.model.specs.Order.{Before, EndsBy, Preferred}
 use Rattle.model.specs.Situation.{firstBy, uncapped, moveLimit, stepNumber, firstNumber}
-use Rattle.model.specs.Layers.{count, cost, lastInstant, layer, isEmpty}
-use Rattle.model.specs.Validation.{rowsOf, movesOf, preferred, verdict, costOf, lastOf, passingOf, totalOf, possibleAfter}
-use Rattle.model.specs.Claims.{IsAccepted, IsRejected, IsExhausted, FirstEmpty, FirstPast, ValuesOf, Judged}
+use Rattle.model.specs.Layers.{count, isEmpty}
+use Rattle.model.specs.Validation.{rowsOf, movesOf, preferred, verdict, costOf, lastOf, passingOf, possibleAfter}
+use Rattle.model.specs.Claims.{FirstEmpty, FirstPast, Judged}
 use Rattle.model.specs.declared.Situation.{Situation}
 use Rattle.model.specs.declared.Verdict.{Verdict}
-use Rattle.model.specs.declared.Verdict.the-variants.{Accepted, Rejected, Exhausted, Refused}
-use Rattle.model.proofs.Chains.{Leads, Moves, Less, Sane, SaneRecording}
+use Rattle.model.specs.declared.Verdict.the-variants.{Accepted, Rejected, Exhausted}
+use Rattle.model.proofs.Chains.{Moves, Less, Sane, SaneRecording}
 use Rattle.model.proofs.TableForm.{sane-table}
 use Rattle.model.proofs.RecordingForm.{sound-table, sane-recording}
-use Rattle.model.proofs.LayerLaws.{reached, cost-le, last-le, last-before, last-end, passing-passes}
+use Rattle.model.proofs.LayerLaws.{reached, cost-le, last-le, last-before, passing-passes}
 use Rattle.model.proofs.LeastLaws.{least, length-least}
 use Rattle.model.proofs.Numbering.{first-number-below}
 use Rattle.model.proofs.Capping.{same-moves}

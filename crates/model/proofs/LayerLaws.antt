@@ -6,9 +6,9 @@ use native.Mathlib.Decide.{decLt}
 use mathlib.Core.Path.{_≡_, refl, _∙_}
 use mathlib.Core.List.{List, [], _∷_, _++_}
 use mathlib.Core.Bool.{Bool, true, false}
-use mathlib.Core.Option.{Option, none, some}
+use mathlib.Core.Option.{Option, some}
 use mathlib.Core.Logic.{_⊎_, inl, inr, _↔_}
-use lib.ListN.{length, getD, set, replicate, length-set, length-append, length-replicate}
+use lib.ListN.{length, getD, replicate, length-set, length-append, length-replicate}
 use lib.Seq.{getD-set-same}
 use lib.Dec.{ltb}
 use borrow.Author.Tests.{eqb-true, eqb-false, ltb-true, ltb-false}

@@ -10,12 +10,12 @@ use mathlib.Core.Option.{Option, none, some, Option·map, bind, bind-eq-some-iff
 use mathlib.Core.Logic.{⊎-elim}
 use lib.ListN.{length, getElem?}
 use lib.Dec.{eqb}
-use borrow.Author.Tests.{eqb-true, lt-ltb, le-ltb, eq-eqb, ne-eqb}
+use borrow.Author.Tests.{eqb-true, eq-eqb, ne-eqb}
 use Rattle.model.specs.Monitor.{Monitor, Config, Transition, start, wait, fires, enabled, after, toUnit, airtime}
 use Rattle.model.specs.Guard.{holds}
 use Rattle.model.specs.Trace.{Packet, Spaced, PacketTrace, Carries, Possible}
 use Rattle.model.specs.Recording.{endOf}
-use Rattle.model.specs.Situation.{keep, rest, add, configOf, withAir, uncapped, firstBy, sent, triggerOf, moved, tick, stepBy, recordedAt, transitionLimit, moveLimit, moveOf}
+use Rattle.model.specs.Situation.{configOf, withAir, uncapped, firstBy, sent, triggerOf, moved, tick, stepBy, recordedAt, transitionLimit, moveLimit, moveOf}
 use Rattle.model.specs.declared.Situation.{Situation}
 use Rattle.model.proofs.Basics.{and-left, and-right, getElem-within}
 use Rattle.model.proofs.Chains.{Moves, Sane, SaneRecording}

@@ -5,23 +5,21 @@ use native.Mathlib.Nat.{le-trans, le-refl, zero-add}
 use native.Mathlib.Decide.{decLt}
 use mathlib.Core.Path.{_≡_, refl, sym, ap, ap₂, subst, _∙_}
 use mathlib.Core.Logic.{_⊎_, inl, inr}
-use mathlib.Core.List.{List, [], _∷_}
+use mathlib.Core.List.{List}
 use mathlib.Core.Bool.{Bool, true, false, true≢false}
-use mathlib.Core.Option.{Option}
 use lib.ListN.{length}
-use lib.Dec.{eqb, ltb}
-use borrow.Author.Tests.{ltb-true, ltb-false, lt-ltb, le-ltb, eqb-true, eqb-false, eq-eqb, ne-eqb}
+use lib.Dec.{ltb}
+use borrow.Author.Tests.{lt-ltb, le-ltb, eqb-true, eq-eqb, ne-eqb}
 use Rattle.model.specs.Monitor.{Monitor}
 use Rattle.model.specs.Trace.{Packet}
 use Rattle.model.specs.Size.{size}
 use Rattle.model.specs.Recording.{endOf}
 use Rattle.model.specs.Situation.{moveLimit, stepNumber, firstNumber}
-use Rattle.model.specs.Layers.{count, isEmpty, layer, total, lastInstant, cost, passing}
+use Rattle.model.specs.Layers.{count, isEmpty, total, cost}
 use Rattle.model.specs.Validation.{verdict, preferred, costOf, lastOf, passingOf, totalOf, possibleAfter}
-use Rattle.model.specs.declared.Verdict.{Verdict}
-use Rattle.model.specs.declared.Verdict.the-variants.{Accepted, Rejected, Exhausted, Refused}
-use Rattle.model.proofs.SetLaws.{FirstOf, firstFrom-first}
-use Rattle.model.proofs.LayerLaws.{last-first, last-le, last-before, passing-first}
+use Rattle.model.specs.declared.Verdict.the-variants.{Accepted, Rejected, Exhausted}
+use Rattle.model.proofs.SetLaws.{FirstOf}
+use Rattle.model.proofs.LayerLaws.{last-first, passing-first}
 
 -- the first at which a test passes is t, if it passes at none before
 first-is : (test : ℕ → Bool) (n r t : ℕ) → FirstOf test n 0 r → t ≤ n → ((i : ℕ) → i < t → test i ≡ false) → (test t ≡ true) ⊎ (t ≡ n) → r ≡ t

@@ -1,7 +1,7 @@
 -- The monitor (Definition 2), and how it fires and waits. Clocks have no upper limit here.
 use Prim.Native.Nat.{ℕ, zero, suc, _+_, _*_, _/_, _%_}
 use mathlib.Core.List.{List, [], _∷_, map}
-use mathlib.Core.Bool.{Bool, true, false, cond, _&&_}
+use mathlib.Core.Bool.{Bool, false, cond, _&&_}
 use mathlib.Core.Option.{Option, none, some, bind}
 use lib.ListN.{getD, getElem?}
 use lib.Dec.{eqb}

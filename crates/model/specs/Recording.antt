@@ -1,8 +1,8 @@
 -- The recording, read and written against a table, whose numbers come first.
-use Prim.Native.Nat.{ℕ, zero, suc, _+_, _-_, _*_}
+use Prim.Native.Nat.{ℕ, zero, suc, _+_, _*_}
 use mathlib.Core.Path.{_≡_}
 use mathlib.Core.List.{List, [], _∷_, _++_}
-use mathlib.Core.Bool.{Bool, true, false, cond, _||_}
+use mathlib.Core.Bool.{Bool, true, cond}
 use lib.ListN.{length, getD, replicate}
 use lib.Dec.{leb, ltb, eqb}
 use Rattle.model.specs.Bytes.{byteAt, wordAt, wordBytes, tab, joined, padded}
@@ -10,7 +10,7 @@ use Rattle.model.specs.First.{unless, firstOf, isSound}
 use Rattle.model.specs.Room.{Lent, write}
 use Rattle.model.specs.Monitor.{airtime}
 use Rattle.model.specs.Trace.{Packet}
-use Rattle.model.specs.Table.{tableAnswer, tableParts, kindsAt, monitorAt}
+use Rattle.model.specs.Table.{tableAnswer, kindsAt, monitorAt}
 use Rattle.model.specs.declared.RecordingParts.{RecordingParts}
 use Rattle.model.specs.declared.RecordingReading.{RecordingReading}
 use Rattle.model.specs.declared.Reading.{Reading}

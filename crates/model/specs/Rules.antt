@@ -1,11 +1,11 @@
 -- The witness against a table and a recording: the rules for its rows, the checker's answer, and which witnesses are permitted.
-use Prim.Native.Nat.{ℕ, zero, suc, _+_, _-_, _≤_}
+use Prim.Native.Nat.{ℕ, suc, _+_, _-_, _≤_}
 use mathlib.Core.Path.{_≡_}
 use mathlib.Core.List.{List, [], _∷_}
 use mathlib.Core.Bool.{Bool, true, false, cond, not, _&&_}
 use mathlib.Core.Option.{Option, none, some, Option·map}
 use lib.ListN.{length}
-use lib.Dec.{leb, ltb, eqb}
+use lib.Dec.{leb, eqb}
 use Rattle.model.specs.First.{firstOf}
 use Rattle.model.specs.Monitor.{Monitor, Config, start, wait, fires, toUnit, airtime}
 use Rattle.model.specs.Trace.{Packet}

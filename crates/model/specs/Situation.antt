@@ -1,11 +1,11 @@
 -- Situations, their numbers, and moves (document 01, "Situations, cost and preference").
-use Prim.Native.Nat.{ℕ, zero, suc, _+_, _-_, _*_, _/_, _%_, _^_, min}
+use Prim.Native.Nat.{ℕ, _+_, _-_, _*_, _/_, _%_, _^_, min}
 use mathlib.Core.List.{List, [], _∷_, map}
-use mathlib.Core.Bool.{Bool, true, false, cond, not, _&&_}
+use mathlib.Core.Bool.{true, false, cond, not, _&&_}
 use mathlib.Core.Option.{Option, none, some, Option·map, bind}
 use lib.ListN.{getD, getElem?}
 use lib.Dec.{ltb, eqb}
-use Rattle.model.specs.Monitor.{Monitor, Config, Transition, fires, toUnit, airtime}
+use Rattle.model.specs.Monitor.{Monitor, Config, fires, toUnit, airtime}
 use Rattle.model.specs.Trace.{Packet}
 use Rattle.model.specs.Size.{cap}
 use Rattle.model.specs.declared.Situation.{Situation}

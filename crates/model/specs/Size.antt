@@ -1,5 +1,5 @@
 -- M, A, N and S of document 01.
-use Prim.Native.Nat.{ℕ, zero, suc, _+_, _*_, _/_, _^_, max}
+use Prim.Native.Nat.{ℕ, _+_, _*_, _/_, _^_, max}
 use mathlib.Core.List.{List, [], _∷_}
 use mathlib.Core.Bool.{cond}
 use lib.Dec.{ltb}

@@ -1,12 +1,12 @@
 -- The witness: its rows and its form, for which kind, and transition unless removed, may be any byte.
-use Prim.Native.Nat.{ℕ, zero, suc, _+_, _-_, _*_}
+use Prim.Native.Nat.{ℕ, suc, _+_, _*_}
 use mathlib.Core.Path.{_≡_}
 use mathlib.Core.List.{List, [], _∷_, _++_}
 use mathlib.Core.Bool.{Bool, true, false, cond, not, _&&_, _||_}
 use mathlib.Core.Option.{Option, none, some}
 use lib.ListN.{length, getD, replicate}
 use lib.Dec.{leb, ltb, eqb}
-use Rattle.model.specs.Bytes.{byteAt, wordAt, wordBytes, tab, joined, padded}
+use Rattle.model.specs.Bytes.{byteAt, wordAt, wordBytes, tab, padded}
 use Rattle.model.specs.First.{unless, firstOf, isSound}
 use Rattle.model.specs.Room.{Lent, write}
 use Rattle.model.specs.Recording.{lastTime}

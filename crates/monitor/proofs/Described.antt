@@ -1,21 +1,16 @@
 -- Of a sound table, the monitor read straight from its bytes is the monitor that the table describes; of any, the airtimes are its airtimes.
-use Prim.Native.Nat.{ℕ, zero, suc, _+_, _<_, _≤_, min}
+use Prim.Native.Nat.{ℕ, _+_, _<_, _≤_, min}
 use native.Mathlib.Omega.{arith}
-use mathlib.Core.Path.{_≡_, refl, sym, ap, ap₂, _∙_}
-use mathlib.Core.List.{List, [], _∷_, _++_}
+use mathlib.Core.Path.{_≡_, sym, ap, _∙_}
+use mathlib.Core.List.{List}
 use lib.ListN.{getD}
 use lib.Dec.{eqb}
 use Rattle.model.specs.Bytes.{byteAt, tab, padded}
 use Rattle.model.specs.Monitor.{airtime}
 use Rattle.model.specs.Table.{guardIn, transitionIn, monitorOf, kindsAt, transitionsAt, kindAt, transitionAt, tableParts, SoundTable, monitorAt}
-use Rattle.model.proofs.Places.{getD-column}
+use Rattle.model.proofs.Places.{getD-column, tab-same}
 use Rattle.model.proofs.TableForm.{TableFacts, table-facts, guard-again}
 use Rattle.monitor.specs.From.{guardFrom, transitionFrom, monitorFrom, offsetsOf}
-
-tab-same : {A : Type 0} (f g : ℕ → A) (n : ℕ) → ((i : ℕ) → i < n → f i ≡ g i) → tab f n ≡ tab g n
-unfolding tab
-tab-same f g zero h = refl
-tab-same f g (suc n) h = ap₂ (λ l x. l ++ (x ∷ [])) (tab-same f g n (λ i p. h i (omega arith))) (h n (omega arith))
 
 -- the columns of the kinds, of any table
 module _ (b : List ℕ) where

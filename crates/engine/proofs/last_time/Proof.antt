@@ -5,9 +5,6 @@ use Rattle.engine.proofs.PruneCursors.{end-time}
 use Rattle.engine.proofs.ValidateLaws.{no-end}
 use Rattle.engine.proofs.last_time.Statement.{statement}
 use Rattle.engine.proofs.last_time.Tie as tie
-use Rattle.engine.proofs.last_time.Reads as reads
-use Rattle.engine.proofs.last_time.Lts as lts
-use Rattle.wire.proofs.word.Reads as word-reads
 
 -- src/lib.rt:26:17
 word-requires : tie.Need-word-requires

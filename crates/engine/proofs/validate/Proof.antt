@@ -5,15 +5,6 @@ use Rattle.engine.proofs.ForwardRows.{product}
 use Rattle.engine.proofs.ValidateLaws.{unread, scratch-short, scratch-is, room-short, room-is, le-by, judging, judged-part}
 use Rattle.engine.proofs.validate.Statement.{statement}
 use Rattle.engine.proofs.validate.Tie as tie
-use Rattle.engine.proofs.validate.Reads as reads
-use Rattle.engine.proofs.validate.Lts as lts
-use Rattle.codec.proofs.recording.recording_answer.Reads as recording-answer-reads
-use Rattle.guard.proofs.size.table_size.Reads as table-size-reads
-use Rattle.codec.proofs.table.read_table.Reads as read-table-reads
-use Rattle.engine.proofs.judge.judge.Reads as judge-reads
-use Rattle.engine.proofs.last_time.Reads as last-time-reads
-use Rattle.situation.proofs.numbering.shape_of.Reads as shape-of-reads
-use Rattle.wire.proofs.word.Reads as word-reads
 
 -- src/lib.rt:43:9
 recording-answer-requires : tie.Need-recording-answer-requires

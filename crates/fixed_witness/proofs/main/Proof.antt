@@ -1,6 +1,6 @@
 -- What the engine ensures computes to P2's answer and bytes once all that `run` opens is open.
 use Prim.Native.Nat.{ℕ}
-use mathlib.Core.Path.{ap, _∙_}
+use mathlib.Core.Path.{ap}
 use mathlib.Core.List.{List}
 use lib.ListN.{take, drop}
 use borrow.Author.Needs.{needs}

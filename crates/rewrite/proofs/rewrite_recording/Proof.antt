@@ -3,10 +3,6 @@ use native.Mathlib.Omega.{arith}
 use Rattle.rewrite.proofs.Again.{recording-refused, recording-rewritten}
 use Rattle.rewrite.proofs.rewrite_recording.Statement.{statement}
 use Rattle.rewrite.proofs.rewrite_recording.Tie as tie
-use Rattle.rewrite.proofs.rewrite_recording.Reads as reads
-use Rattle.rewrite.proofs.rewrite_recording.Lts as lts
-use Rattle.codec.proofs.recording.read_recording.Reads as read-recording-reads
-use Rattle.codec.proofs.recording.write_recording.Reads as write-recording-reads
 
 -- src/lib.rt:31:9
 read-recording-requires : tie.Need-read-recording-requires

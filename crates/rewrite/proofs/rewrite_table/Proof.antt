@@ -3,10 +3,6 @@ use native.Mathlib.Omega.{arith}
 use Rattle.rewrite.proofs.Again.{table-refused, table-rewritten}
 use Rattle.rewrite.proofs.rewrite_table.Statement.{statement}
 use Rattle.rewrite.proofs.rewrite_table.Tie as tie
-use Rattle.rewrite.proofs.rewrite_table.Reads as reads
-use Rattle.rewrite.proofs.rewrite_table.Lts as lts
-use Rattle.codec.proofs.table.read_table.Reads as read-table-reads
-use Rattle.codec.proofs.table.write_table.Reads as write-table-reads
 
 -- src/lib.rt:19:9
 read-table-requires : tie.Need-read-table-requires

@@ -3,10 +3,6 @@ use native.Mathlib.Omega.{arith}
 use Rattle.rewrite.proofs.Again.{witness-refused, witness-rewritten}
 use Rattle.rewrite.proofs.rewrite_witness.Statement.{statement}
 use Rattle.rewrite.proofs.rewrite_witness.Tie as tie
-use Rattle.rewrite.proofs.rewrite_witness.Reads as reads
-use Rattle.rewrite.proofs.rewrite_witness.Lts as lts
-use Rattle.witness.proofs.read_witness.Reads as read-witness-reads
-use Rattle.witness.proofs.write_witness.Reads as write-witness-reads
 
 -- src/lib.rt:43:9
 read-witness-requires : tie.Need-read-witness-requires

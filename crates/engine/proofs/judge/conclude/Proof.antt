@@ -2,10 +2,6 @@ use borrow.Author.Needs.{needs}
 use Rattle.engine.proofs.JudgeLaws.{spent, emptied, through, passed}
 use Rattle.engine.proofs.judge.conclude.Statement.{statement}
 use Rattle.engine.proofs.judge.conclude.Tie as tie
-use Rattle.engine.proofs.judge.conclude.Reads as reads
-use Rattle.engine.proofs.judge.conclude.Lts as lts
-use Rattle.engine.proofs.prune.prune.Reads as prune-reads
-use Rattle.engine.proofs.walk.walk.Reads as walk-reads
 
 -- src/judge.rt:61:26
 enum-known-outcome : tie.Need-enum-known-outcome

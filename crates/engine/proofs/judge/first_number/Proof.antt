@@ -6,10 +6,6 @@ use Rattle.situation.specs.Numbering.{numberBy}
 use Rattle.situation.specs.Steps.{cappedBy}
 use Rattle.engine.proofs.judge.first_number.Statement.{statement}
 use Rattle.engine.proofs.judge.first_number.Tie as tie
-use Rattle.engine.proofs.judge.first_number.Reads as reads
-use Rattle.engine.proofs.judge.first_number.Lts as lts
-use Rattle.engine.proofs.judge.first_clock.Reads as first-clock-reads
-use Rattle.situation.proofs.numbering.number.Reads as number-reads
 
 -- src/judge.rt:30:19
 first-clock-requires : tie.Need-first-clock-requires

@@ -4,13 +4,6 @@ use lib.ListN.{length, length-replicate}
 use Rattle.engine.proofs.JudgeLaws.{forwarding, ending, settled}
 use Rattle.engine.proofs.judge.judge.Statement.{statement}
 use Rattle.engine.proofs.judge.judge.Tie as tie
-use Rattle.engine.proofs.judge.judge.Reads as reads
-use Rattle.engine.proofs.judge.judge.Lts as lts
-use Rattle.bits.proofs.clear.Reads as clear-reads
-use Rattle.engine.proofs.forward.forward.Reads as forward-reads
-use Rattle.engine.proofs.judge.conclude.Reads as conclude-reads
-use Rattle.engine.proofs.judge.first_number.Reads as first-number-reads
-use Rattle.monitor.proofs.offsets.Reads as offsets-reads
 
 -- src/judge.rt:88:5
 clear-requires : tie.Need-clear-requires

@@ -3,11 +3,6 @@ use borrow.Author.Needs.{needs}
 use Rattle.rewrite.proofs.Kept.{all-below, recording-fits, recording-read, recording-unwritten}
 use Rattle.rewrite.proofs.back.recording_back.Statement.{statement}
 use Rattle.rewrite.proofs.back.recording_back.Tie as tie
-use Rattle.rewrite.proofs.back.recording_back.Reads as reads
-use Rattle.rewrite.proofs.back.recording_back.Lts as lts
-use Rattle.codec.proofs.recording.read_recording.Reads as read-recording-reads
-use Rattle.codec.proofs.recording.write_recording.Reads as write-recording-reads
-use Rattle.rewrite.proofs.back.refused_recording.Reads as refused-recording-reads
 
 -- src/back.rt:61:9
 write-recording-requires : tie.Need-write-recording-requires

@@ -3,9 +3,6 @@ use borrow.Author.Needs.{needs}
 use Rattle.rewrite.proofs.Kept.{no-recording-read}
 use Rattle.rewrite.proofs.back.refused_recording.Statement.{statement}
 use Rattle.rewrite.proofs.back.refused_recording.Tie as tie
-use Rattle.rewrite.proofs.back.refused_recording.Reads as reads
-use Rattle.rewrite.proofs.back.refused_recording.Lts as lts
-use Rattle.codec.proofs.recording.read_recording.Reads as read-recording-reads
 
 -- src/back.rt:52:34
 slice-aggregate-read-recording : tie.Need-slice-aggregate-read-recording

@@ -3,9 +3,6 @@ use borrow.Author.Needs.{needs}
 use Rattle.rewrite.proofs.Kept.{no-table-read}
 use Rattle.rewrite.proofs.back.refused_table.Statement.{statement}
 use Rattle.rewrite.proofs.back.refused_table.Tie as tie
-use Rattle.rewrite.proofs.back.refused_table.Reads as reads
-use Rattle.rewrite.proofs.back.refused_table.Lts as lts
-use Rattle.codec.proofs.table.read_table.Reads as read-table-reads
 
 -- src/back.rt:29:30
 slice-aggregate-read-table : tie.Need-slice-aggregate-read-table

@@ -3,9 +3,6 @@ use borrow.Author.Needs.{needs}
 use Rattle.rewrite.proofs.Kept.{no-witness-read}
 use Rattle.rewrite.proofs.back.refused_witness.Statement.{statement}
 use Rattle.rewrite.proofs.back.refused_witness.Tie as tie
-use Rattle.rewrite.proofs.back.refused_witness.Reads as reads
-use Rattle.rewrite.proofs.back.refused_witness.Lts as lts
-use Rattle.witness.proofs.read_witness.Reads as read-witness-reads
 
 -- src/back.rt:75:32
 slice-aggregate-read-witness : tie.Need-slice-aggregate-read-witness

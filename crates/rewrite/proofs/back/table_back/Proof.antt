@@ -5,11 +5,6 @@ use borrow.Author.Needs.{needs}
 use Rattle.rewrite.proofs.Kept.{table-fits, table-read, table-unwritten}
 use Rattle.rewrite.proofs.back.table_back.Statement.{statement}
 use Rattle.rewrite.proofs.back.table_back.Tie as tie
-use Rattle.rewrite.proofs.back.table_back.Reads as reads
-use Rattle.rewrite.proofs.back.table_back.Lts as lts
-use Rattle.codec.proofs.table.read_table.Reads as read-table-reads
-use Rattle.codec.proofs.table.write_table.Reads as write-table-reads
-use Rattle.rewrite.proofs.back.refused_table.Reads as refused-table-reads
 
 -- src/back.rt:38:9
 write-table-requires : tie.Need-write-table-requires

@@ -3,11 +3,6 @@ use borrow.Author.Needs.{needs}
 use Rattle.rewrite.proofs.Kept.{all-below, witness-fits, witness-read, witness-unwritten}
 use Rattle.rewrite.proofs.back.witness_back.Statement.{statement}
 use Rattle.rewrite.proofs.back.witness_back.Tie as tie
-use Rattle.rewrite.proofs.back.witness_back.Reads as reads
-use Rattle.rewrite.proofs.back.witness_back.Lts as lts
-use Rattle.witness.proofs.read_witness.Reads as read-witness-reads
-use Rattle.witness.proofs.write_witness.Reads as write-witness-reads
-use Rattle.rewrite.proofs.back.refused_witness.Reads as refused-witness-reads
 
 -- src/back.rt:84:9
 write-witness-requires : tie.Need-write-witness-requires

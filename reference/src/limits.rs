@@ -1,0 +1,135 @@
+//! Calls at the limits of the paper, and one beyond each.
+
+use crate::answer::Answer;
+use crate::call::{Call, ORDINARY};
+use crate::generate::encode_table;
+use crate::papers::{recording, ACK, DATA, RETRY, SMALL_MONITOR};
+use crate::table::{Kind, Table, Transition};
+
+/// Enough for every call here.
+const SCRATCH: usize = 65_536;
+const ROOM: usize = 23_045;
+
+/// States, variables, the largest number that each clock is compared with, the largest airtime,
+/// and N.
+pub const SIZES: [(u8, u8, &[u8], u8, usize); 8] = [
+    (1, 0, &[255, 253], 0, 65_535),
+    (1, 0, &[254, 254], 0, 65_536),
+    (16, 4, &[14, 14], 0, 65_536),
+    (16, 4, &[14], 15, 65_536),
+    (5, 2, &[27, 111], 0, 65_540),
+    (15, 0, &[36, 113], 0, 65_550),
+    (1, 0, &[255, 254], 0, 65_792),
+    (16, 4, &[14, 15], 0, 69_632),
+];
+
+/// A table of that size: a kind from the unit, one to it, and two transitions a state.
+pub fn sized(states: u8, variables: u8, bounds: &[u8], airtime: u8) -> Table {
+    let from_state = |state: u8| {
+        let next = (state + 1) % states;
+        let bit = if variables == 0 { 0 } else { 1 << (state % variables) };
+        let base = Transition { from: state, ..Transition::default() };
+        [
+            Transition { to: next, kind: 0, set: bit, guard: all(&[1], bounds), ..base.clone() },
+            Transition {
+                to: next,
+                kind: 1,
+                clear: bit,
+                reset: 1,
+                guard: all(&[4, 2], bounds),
+                ..base
+            },
+        ]
+    };
+    Table {
+        states,
+        variables,
+        clocks: bounds.len() as u8,
+        kinds: vec![Kind { direction: 0, airtime }, Kind { direction: 1, airtime: 0 }],
+        transitions: (0..states).flat_map(from_state).collect(),
+    }
+}
+
+/// These codes of each clock and its bound, all of them.
+fn all(codes: &[u8], bounds: &[u8]) -> Vec<u8> {
+    let with = |guard: Vec<u8>, (clock, bound): (u8, &u8)| {
+        [&[5][..], codes, &[clock, *bound], &guard[..]].concat()
+    };
+    (0..).zip(bounds).fold(vec![0], with)
+}
+
+pub fn calls() -> Vec<Call> {
+    let mut calls = Vec::new();
+    for (states, variables, bounds, airtime, _) in SIZES {
+        let table = encode_table(&sized(states, variables, bounds, airtime));
+        for rows in [&[][..], &[(1, 0)], &[(1, 1), (2, 0)], &[(1, 0), (6, 1)], &[(7, 0)]] {
+            judged(&mut calls, &table, &recording(rows));
+        }
+    }
+    for rows in recordings() {
+        judged(&mut calls, &SMALL_MONITOR, &recording(&rows));
+    }
+    for table in counts() {
+        calls.push(validation(&table, &recording(&[(1, DATA)]), 10_000));
+        calls.push(Call::RewriteTable { bytes: table, room: vec![0; ROOM] });
+    }
+    calls
+}
+
+fn validation(table: &[u8], recording: &[u8], budget: u32) -> Call {
+    Call::Validate {
+        table: table.to_vec(),
+        recording: recording.to_vec(),
+        budget,
+        scratch: vec![0; SCRATCH],
+        room: vec![0; ROOM],
+    }
+}
+
+/// With every budget and more, with the cost and its neighbours, and the witness checked.
+fn judged(calls: &mut Vec<Call>, table: &[u8], recording: &[u8]) {
+    let whole = validation(table, recording, u32::MAX);
+    let outcome = whole.run(&ORDINARY);
+    let Answer { number, second: cost, third: rows } = outcome.answer;
+    calls.push(whole);
+    if number > 1 {
+        return;
+    }
+    for budget in cost.saturating_sub(1)..=cost + 1 {
+        calls.push(validation(table, recording, budget as u32));
+    }
+    if number == 0 {
+        let witness = outcome.room[..5 + 5 * rows as usize].to_vec();
+        let (table, recording) = (table.to_vec(), recording.to_vec());
+        calls.push(Call::RewriteWitness { bytes: witness.clone(), room: vec![0; ROOM] });
+        calls.push(Call::Check { table, recording, witness });
+    }
+}
+
+/// Times and row counts at their limits and one beyond.
+fn recordings() -> Vec<Vec<(u16, u8)>> {
+    let every = |rows: u16, pace: u16, kind: u8| (1..=rows).map(|n| (n * pace, kind)).collect();
+    vec![
+        vec![(4_096, DATA)],
+        vec![(1, DATA), (4_096, ACK)],
+        vec![(1, DATA), (4_095, DATA), (4_097, DATA)],
+        vec![(0, DATA)],
+        vec![(1, 3)],
+        vec![(1, DATA), (4, ACK), (4_096, RETRY)],
+        every(512, 8, DATA),
+        every(512, 1, ACK),
+        every(512, 8, RETRY),
+        every(513, 1, ACK),
+    ]
+}
+
+/// The small monitor with each count one below and one above its limits.
+fn counts() -> Vec<Vec<u8>> {
+    let spoilt = [(3, 0), (3, 17), (4, 5), (5, 3), (6, 0), (6, 33), (7, 65), (3, 16), (4, 4)];
+    let with = |(offset, count): (usize, u8)| {
+        let mut table = SMALL_MONITOR.to_vec();
+        table[offset] = count;
+        table
+    };
+    spoilt.into_iter().map(with).collect()
+}
