@@ -9,7 +9,6 @@ use crate::situation::Space;
 use crate::table;
 use crate::wide::{wide_recording, wide_table};
 
-const RUNS: usize = 7;
 const ROOM: usize = 23_045;
 
 /// The input and the lent buffers, the same for every run.
@@ -31,12 +30,12 @@ struct Timed {
 }
 
 /// The lines of the measurement, and whether everything was as it should be.
-pub fn bench(verified: Option<&Engine>) -> (String, bool) {
+pub fn bench(verified: Option<&Engine>, runs: usize) -> (String, bool) {
     let mut desk = Desk::new();
     let (mut ours, mut theirs) = (Timed::default(), Timed::default());
     // In turn, so that whatever else the computer does falls on both. The first round is
     // thrown away: it meets memory for the first time.
-    for _ in 0..=RUNS {
+    for _ in 0..=runs {
         desk.run(&ORDINARY, &mut ours);
         if let Some(verified) = verified {
             desk.run(verified, &mut theirs);
@@ -99,7 +98,8 @@ impl Timed {
     fn line(&self, name: &str) -> String {
         let milliseconds = |times: &[Duration]| median(times).as_secs_f64() * 1e3;
         let (wall, processor) = (milliseconds(&self.wall), milliseconds(&self.processor));
-        format!("{name}: median of {RUNS} runs {wall:.0} ms, on the processor {processor:.0} ms\n")
+        let runs = self.wall.len() - 1;
+        format!("{name}: median of {runs} runs {wall:.0} ms, on the processor {processor:.0} ms\n")
     }
 }
 

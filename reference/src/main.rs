@@ -12,7 +12,7 @@ const USAGE: &str = "\
 reference desk                             standard input to the desk's lines
 reference selftest [SECONDS] [SEED]        the paper's values and the brute-force search
 reference compare [FOLDER] SECONDS [SEED]  random calls against the verified library
-reference bench                            the time of the wide input
+reference bench [RUNS]                     the time of the wide input
 reference wide FOLDER                      the wide input as files
 reference cases FOLDER                     the recorded cases: stdin and stdout of the batch program
 ";
@@ -24,7 +24,7 @@ fn main() -> ExitCode {
         ["desk"] => desk::run(io::stdin(), io::stdout()).map_err(|it| it.to_string()),
         ["selftest", rest @ ..] => run_selftest(rest),
         ["compare", rest @ ..] => run_compare(rest),
-        ["bench"] => run_bench(),
+        ["bench", rest @ ..] => run_bench(rest),
         ["wide", folder] => write_wide(Path::new(folder)),
         ["cases", folder] => write_cases(Path::new(folder)),
         _ => {
@@ -67,8 +67,10 @@ fn run_compare(arguments: &[&str]) -> Result<(), String> {
     Ok(())
 }
 
-fn run_bench() -> Result<(), String> {
-    let (text, as_expected) = bench::bench(verified().as_ref());
+/// Seven runs where nothing is said.
+fn run_bench(arguments: &[&str]) -> Result<(), String> {
+    let runs = number(arguments, 0, 7)?.max(1) as usize;
+    let (text, as_expected) = bench::bench(verified().as_ref(), runs);
     print!("{text}");
     as_expected.then_some(()).ok_or_else(|| "the input or an answer is not as it should be".into())
 }
@@ -93,11 +95,14 @@ fn write_cases(folder: &Path) -> Result<(), String> {
 
 /// 20 seconds and seed 1 where nothing is said.
 fn time_and_seed(arguments: &[&str]) -> Result<(Duration, u64), String> {
-    let number = |place: usize, usual: u64| match arguments.get(place) {
+    Ok((Duration::from_secs(number(arguments, 0, 20)?), number(arguments, 1, 1)?))
+}
+
+fn number(arguments: &[&str], place: usize, usual: u64) -> Result<u64, String> {
+    match arguments.get(place) {
         Some(text) => text.parse().map_err(|_| format!("not a number: {text}")),
         None => Ok(usual),
-    };
-    Ok((Duration::from_secs(number(0, 20)?), number(1, 1)?))
+    }
 }
 
 #[cfg(feature = "linked")]

@@ -1,8 +1,9 @@
 // Document 01's table of numbers: the number, second and third value of each answer.
 ghost use mathlib.Core.Path.{_≡_};
-ghost use Rattle.model.specs.Numbers.{values, refusalValues, writingValues, checkingValues, verdictValues};
+ghost use Rattle.model.specs.Numbers.{values, refusalValues, readingValues, writingValues, checkingValues, verdictValues};
 ghost use Rattle.numbers.specs.Told.{told};
 use model::Checking;
+use model::Reading;
 use model::Refusal;
 use model::Verdict;
 use model::Writing;
@@ -48,6 +49,15 @@ pub fn refusal_numbers(refusal: Refusal) -> Answer
         Refusal::WitnessVersion => numbered(41, 2, 0),
         Refusal::WitnessCount => numbered(42, 3, 0),
         Refusal::WitnessRow { row } => numbered(43, row, 0),
+    }
+}
+
+pub fn reading_numbers(reading: Reading) -> Answer
+    ensures { λ r. ⌜ told r ≡ readingValues reading ⌝ }
+{
+    match reading {
+        Reading::Sound => numbered(0, 0, 0),
+        Reading::Unsound(refusal) => refusal_numbers(refusal),
     }
 }
 
