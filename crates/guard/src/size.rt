@@ -43,8 +43,8 @@ pub fn largest_airtime(t: TableParts) -> u64
     most as u64
 }
 
-// The numbers at which a clock is written, 1 for a clock that the table does not have.
-fn clock_numbers(t: TableParts, clock: usize) -> u64
+// How many values a clock is written with: 0 to M + 1, and 0 alone for a clock that the table does not have.
+pub fn clock_values(t: TableParts, clock: usize) -> u64
     ensures { λ r. ⌜ (r ≡ cap (monitorOf t) clock + 1) × (r ≤ 257) ⌝ }
 {
     if clock < t.clocks as usize {
@@ -72,8 +72,8 @@ pub fn table_size(t: TableParts) -> u64
     ensures { λ r. ⌜ r ≡ min (size (monitorOf t)) 65537 ⌝ }
 {
     let clocks = times(
-        clock_numbers(t, 0),
-        times(clock_numbers(t, 1), largest_airtime(t) + 1),
+        clock_values(t, 0),
+        times(clock_values(t, 1), largest_airtime(t) + 1),
     );
     times(t.states as u64, times(power(t.variables), clocks))
 }

@@ -1,13 +1,11 @@
 // A situation's number: its parts as digits, the first the lowest.
 use crate::Shape;
-use guard::size::largest_bound;
+use guard::size::clock_values;
 use model::Situation;
 use model::TableParts;
 use wire::short;
 ghost use mathlib.Core.Path.{_≡_};
 ghost use Prim.Native.Nat.{_+_, _*_, _≤_, _<_};
-ghost use Rattle.model.specs.Size.{cap};
-ghost use Rattle.model.specs.Table.{monitorOf};
 ghost use Rattle.situation.specs.Numbering.{masksOf, shapeOf, digitBy, restBy, numberBy, situationBy};
 
 fn masks_of(variables: u8) -> u8
@@ -16,24 +14,14 @@ fn masks_of(variables: u8) -> u8
     if variables <= 4 { 1 << variables } else { 0 }
 }
 
-// The values at which a clock is written.
-fn values_of(t: TableParts, clock: usize) -> u16
-    ensures { λ r. ⌜ r ≡ cap (monitorOf t) clock + 1 ⌝ }
-{
-    if clock < t.clocks as usize {
-        return (largest_bound(t, clock) + 2) as u16;
-    }
-    1
-}
-
 pub fn shape_of(t: TableParts) -> Shape
     ensures { λ r. ⌜ r ≡ shapeOf t ⌝ }
 {
     Shape {
         states: t.states,
         masks: masks_of(t.variables),
-        first: values_of(t, 0),
-        second: values_of(t, 1),
+        first: clock_values(t, 0) as u16,
+        second: clock_values(t, 1) as u16,
     }
 }
 

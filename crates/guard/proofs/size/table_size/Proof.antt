@@ -7,11 +7,11 @@ use borrow.Author.Needs.{needs}
 use Rattle.guard.proofs.size.table_size.Statement.{statement}
 use Rattle.guard.proofs.size.table_size.Tie as tie
 
-clock-numbers-requires : tie.Need-clock-numbers-requires
-clock-numbers-requires c κs = search needs
+clock-values-requires : tie.Need-clock-values-requires
+clock-values-requires c κs = search needs
 
-clock-numbers-requires-2 : tie.Need-clock-numbers-requires-2
-clock-numbers-requires-2 c κs = search needs
+clock-values-requires-2 : tie.Need-clock-values-requires-2
+clock-values-requires-2 c κs = search needs
 
 largest-airtime-requires : tie.Need-largest-airtime-requires
 largest-airtime-requires c κs = search needs
@@ -43,8 +43,8 @@ returns c = let t = c .before .before .before .before .before .before .before .b
     let m = monitorOf t in
     product-least (t .states) (2 ^ (t .variables)) (cap m 0 + 1) (cap m 1 + 1) (largestAirtime m + 1) 65537
     (c .before .before .power .result) (c .before .before .before .before .before .times .result) (c .before .before .before .before .times2 .result) (c .before .times3 .result) (c .times4 .result)
-    (c .before .before .before .before .before .times .ensures .0 ∙ rw (c .before .before .before .before .before .before .before .clock-numbers2 .ensures .0, c .before .before .before .before .before .before .largest-airtime .ensures .0))
-    (c .before .before .before .before .times2 .ensures .0 ∙ rw (c .before .before .before .before .before .before .before .before .clock-numbers .ensures .0))
+    (c .before .before .before .before .before .times .ensures .0 ∙ rw (c .before .before .before .before .before .before .before .clock-values2 .ensures .0, c .before .before .before .before .before .before .largest-airtime .ensures .0))
+    (c .before .before .before .before .times2 .ensures .0 ∙ rw (c .before .before .before .before .before .before .before .before .clock-values .ensures .0))
     (c .before .before .power .ensures .0)
     (c .before .times3 .ensures .0)
     (c .times4 .ensures .0)
@@ -53,8 +53,8 @@ pub table-size-spec : {M : Type 1} → statement M
 table-size-spec =
     tie.close
     (tie.spec
-    clock-numbers-requires
-    clock-numbers-requires-2
+    clock-values-requires
+    clock-values-requires-2
     largest-airtime-requires
     add-times
     times-requires

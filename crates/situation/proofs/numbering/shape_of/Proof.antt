@@ -6,11 +6,17 @@ use Rattle.situation.proofs.numbering.shape_of.Tie as tie
 masks-of-requires : tie.Need-masks-of-requires
 masks-of-requires c κs = search needs
 
-values-of-requires : tie.Need-values-of-requires
-values-of-requires c κs = search needs
+clock-values-requires : tie.Need-clock-values-requires
+clock-values-requires c κs = search needs
 
-values-of-requires-2 : tie.Need-values-of-requires-2
-values-of-requires-2 c κs = search needs
+cast-t4 : tie.Need-cast-t4
+cast-t4 c = search needs
+
+clock-values-requires-2 : tie.Need-clock-values-requires-2
+clock-values-requires-2 c κs = search needs
+
+cast-t6 : tie.Need-cast-t6
+cast-t6 c = search needs
 
 returns : tie.Need-returns
 unfolding shapeOf
@@ -18,4 +24,11 @@ returns c = cc
 
 pub shape-of-spec : {M : Type 1} → statement M
 shape-of-spec =
-    tie.close (tie.spec masks-of-requires values-of-requires values-of-requires-2 returns)
+    tie.close
+    (tie.spec
+    masks-of-requires
+    clock-values-requires
+    cast-t4
+    clock-values-requires-2
+    cast-t6
+    returns)
