@@ -7,7 +7,7 @@ use mathlib.Core.Option.{Option, none, some}
 use lib.ListN.{length, getD, drop}
 use lib.Dec.{eqb}
 use Rattle.model.specs.Trace.{Packet}
-use Rattle.model.specs.Recording.{lastTime}
+use Rattle.model.specs.Recording.{timeLimit}
 use Rattle.model.specs.Monitor.{Monitor}
 use Rattle.model.specs.Witness.{Row, badRow}
 use Rattle.model.specs.Rules.{Progress, begin, broken, checked}
@@ -38,7 +38,7 @@ stepOf recording s = cond (s .sound) (some (progressOf recording (s .to))) none
 -- the clocks read at most the ticks until the monitor last fired, and no time is past the last
 pub record Bounded (s : Standing) : Type 0 where
   pub fired : s .now ≤ s .before .time
-  pub last : s .before .time ≤ lastTime
+  pub last : s .before .time ≤ timeLimit
   pub free : s .free ≤ 4352
   pub clocks : length (s .config .clocks) ≡ 2
   pub first : getD (s .config .clocks) 0 0 ≤ s .now
@@ -48,7 +48,7 @@ pub record Bounded (s : Standing) : Type 0 where
 pub record Ready (s : Standing) (e : Entry) : Type 0 where
   pub bounded : Bounded s
   pub behind : s .before .time ≤ e .time
-  pub last : e .time ≤ lastTime
+  pub last : e .time ≤ timeLimit
   pub first : 1 ≤ e .time
 
 -- a step is the model's, and leaves the state in its bounds

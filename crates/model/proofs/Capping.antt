@@ -14,11 +14,12 @@ use borrow.Author.Tests.{le-leb, lt-leb, lt-ltb, eq-eqb}
 use Rattle.model.specs.Guard.{Guard, always, atMost, atLeast, variable, negation, conjunction, holds, largest}
 use Rattle.model.specs.Monitor.{Monitor, Transition, fires, after, enabled, reset, toUnit}
 use Rattle.model.specs.Size.{largestIn, largestBound, cap, size}
-use Rattle.model.specs.Situation.{Move, keep, rest, add, configOf, capped, uncapped, firstBy, firstNumber, sent, triggerOf, moved, tick, stepBy, recordedAt, moveOf, moveLimit, number, stepNumber}
+use Rattle.model.specs.Situation.{TwoClocks, InRange, Move, keep, rest, add, configOf, capped, uncapped, firstBy, firstNumber, sent, triggerOf, moved, tick, stepBy, recordedAt, moveOf, moveLimit, number, stepNumber}
 use Rattle.model.specs.Trace.{Packet}
 use Rattle.model.specs.declared.Situation.{Situation}
-use Rattle.model.proofs.Chains.{Sane, Closed, Leads, Moves}
-use Rattle.model.proofs.Numbering.{TwoClocks, InRange, outcome, sending, number-below, back, every-step, step-in-range, first-in-range}
+use Rattle.model.specs.Sane.{Sane, Closed}
+use Rattle.model.proofs.Chains.{Leads, Moves}
+use Rattle.model.proofs.Numbering.{outcome, sending, number-below, back, every-step, step-in-range, first-in-range}
 
 -- a situation with its clocks as they are written
 abbrev pub written : Monitor → Situation → Situation

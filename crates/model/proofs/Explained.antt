@@ -8,16 +8,13 @@ use mathlib.Core.Option.{Option, none, some, Option·map}
 use mathlib.Core.Logic.{_↔_, _⊎_, inl, inr, ⊎-elim}
 use lib.Dec.{leb, ltb, eqb}
 use borrow.Author.Tests.{ltb-true, leb-true, eqb-true, le-leb, eq-eqb, ne-eqb}
+use Rattle.model.specs.Limits.{timeLimit}
 use Rattle.model.specs.Monitor.{Monitor, Config, start, wait, fires, toUnit, airtime}
 use Rattle.model.specs.Trace.{Packet, Spaced, PacketTrace, Carries, Possible}
-use Rattle.model.specs.Witness.{Row, kept, removed, added, noTransition, isRemoved, inForm, follows, inPlace, misformed, Formed}
-use Rattle.model.specs.Recording.{lastTime}
+use Rattle.model.specs.Witness.{Row, kept, removed, added, noTransition, isRemoved, inForm, follows, inPlace, misformed, Formed, marked}
 use Rattle.model.specs.Rules.{Progress, begin, noneBefore, isNext, noneAt, others, sends, removes, keeps, adds, account, broken}
 use Rattle.model.specs.Claims.{packetOf, heard, sentRows, packets, CarriedBy, Explains}
 use Rattle.model.proofs.Basics.{and-left, and-right, both-true}
-
-abbrev rowOf : (mark time kind transition : ℕ) → Row
-rowOf mark t k j = record { mark = mark; time = t; kind = k; transition = j }
 
 -- tests and options
 
@@ -46,7 +43,7 @@ module _ {A : Type 0} where
 form-limits : (r : Row) → inForm r ≡ true → (r .mark ≤ 2) × (1 ≤ r .time)
 unfolding inForm
 form-limits r e =
-    let h = and-first (leb (r .mark) 2) (leb 1 (r .time)) (leb (r .time) lastTime) (not (isRemoved r) || eqb (r .transition) noTransition) e in
+    let h = and-first (leb (r .mark) 2) (leb 1 (r .time)) (leb (r .time) timeLimit) (not (isRemoved r) || eqb (r .transition) noTransition) e in
     (leb-true (r .mark) 2 (h .0), leb-true 1 (r .time) (h .1))
 
 -- a row behind b is later, or b is removed and it has the same time
@@ -184,10 +181,10 @@ account-some m p r e =
     (and-left (inPlace (p .before) r) _ (h .0), h .1)
 
 module _ (m : Monitor) (rs : List Row) where
-  continues-cons : (mark t k j : ℕ) (p q : Progress) → account m p (rowOf mark t k j) ≡ some q → Continues m q rs → Continues m p (rowOf mark t k j ∷ rs)
+  continues-cons : (mark t k j : ℕ) (p q : Progress) → account m p (marked mark t k j) ≡ some q → Continues m q rs → Continues m p (marked mark t k j ∷ rs)
   unfolding keeps removes adds heard sentRows packets
   continues-cons zero t k j p q e c =
-      let r : Row = rowOf 0 t k j in
+      let r : Row = marked 0 t k j in
       let a = account-some m p r e in
       let n = cond-some (isNext (p .left) r) (sends m p r (others (p .left))) (a .1) in
       let f = sent-continues m p r (others (p .left)) rs (inPlace-form (p .before) r (a .0)) (n .1) c in
@@ -198,7 +195,7 @@ module _ (m : Monitor) (rs : List Row) where
         carried = f .2;
       }
   continues-cons (suc zero) t k j p q e c =
-      let r : Row = rowOf 1 t k j in
+      let r : Row = marked 1 t k j in
       let a = account-some m p r e in
       let n = cond-some (isNext (p .left) r && toUnit m k) (some (removedTo p r)) (a .1) in
       let same : removedTo p r ≡ q = cc in
@@ -210,7 +207,7 @@ module _ (m : Monitor) (rs : List Row) where
         carried = d .carried;
       }
   continues-cons (suc (suc zero)) t k j p q e c =
-      let r : Row = rowOf 2 t k j in
+      let r : Row = marked 2 t k j in
       let a = account-some m p r e in
       let n = cond-some (noneAt (p .left) t) (sends m p r (p .left)) (a .1) in
       let f = sent-continues m p r (p .left) rs (inPlace-form (p .before) r (a .0)) (n .1) c in
@@ -221,7 +218,7 @@ module _ (m : Monitor) (rs : List Row) where
         carried = f .2;
       }
   continues-cons (suc (suc (suc n))) t k j p q e c =
-      let r : Row = rowOf (suc (suc (suc n))) t k j in
+      let r : Row = marked (suc (suc (suc n))) t k j in
       let h : suc (suc (suc n)) ≤ 2 = form-limits r (inPlace-form (p .before) r (account-some m p r e .0)) .0 in
       absurd (omega arith)
 
@@ -249,10 +246,10 @@ cons-next left r l e =
     (both-true (eqb (r .time) (r .time)) (eqb (r .kind) (r .kind)) (eq-eqb (r .time) (r .time) refl) (eq-eqb (r .kind) (r .kind) refl), refl)
 
 module _ (m : Monitor) (rs : List Row) where
-  account-cons : (mark t k j : ℕ) (p : Progress) (i : ℕ) → misformed (p .before) i (rowOf mark t k j ∷ rs) ≡ none → Continues m p (rowOf mark t k j ∷ rs) → Accounted m p (rowOf mark t k j) rs
+  account-cons : (mark t k j : ℕ) (p : Progress) (i : ℕ) → misformed (p .before) i (marked mark t k j ∷ rs) ≡ none → Continues m p (marked mark t k j ∷ rs) → Accounted m p (marked mark t k j) rs
   unfolding keeps removes adds heard sentRows packets
   account-cons zero t k j p i e c =
-      let r : Row = rowOf 0 t k j in
+      let r : Row = marked 0 t k j in
       let n = cons-next (p .left) r (heard rs) (c .accounts) in
       let d = c .carried in
       record {
@@ -262,7 +259,7 @@ module _ (m : Monitor) (rs : List Row) where
         continues = continues-sent m p r (others (p .left)) rs (n .1) (λ s l. c .inbound s (List·Memᴰ·tail l)) (c .clear) d;
       }
   account-cons (suc zero) t k j p i e c =
-      let r : Row = rowOf 1 t k j in
+      let r : Row = marked 1 t k j in
       let n = cons-next (p .left) r (heard rs) (c .accounts) in
       record {
         next = removedTo p r;
@@ -271,7 +268,7 @@ module _ (m : Monitor) (rs : List Row) where
         continues = record { accounts = n .1; inbound = λ s l. c .inbound s (List·Memᴰ·tail l); clear = c .clear; carried = c .carried };
       }
   account-cons (suc (suc zero)) t k j p i e c =
-      let r : Row = rowOf 2 t k j in
+      let r : Row = marked 2 t k j in
       let d = c .carried in
       let f = misformed-cons (p .before) i r rs e .1 in
       let n : noneAt (p .left) t ≡ true = subst (λ (l : List Packet). noneAt l t ≡ true) (c .accounts) (none-at (heard rs) t (heard-from (suc t) (some r) (suc i) rs f (from-past r (suc i) rs refl f))) in
@@ -282,7 +279,7 @@ module _ (m : Monitor) (rs : List Row) where
         continues = continues-sent m p r (p .left) rs (c .accounts) (λ s l. c .inbound s (List·Memᴰ·tail l)) (c .clear) d;
       }
   account-cons (suc (suc (suc n))) t k j p i e c =
-      let r : Row = rowOf (suc (suc (suc n))) t k j in
+      let r : Row = marked (suc (suc (suc n))) t k j in
       let h : suc (suc (suc n)) ≤ 2 = form-limits r (inPlace-form (p .before) r (misformed-cons (p .before) i r rs e .0)) .0 in
       absurd (omega arith)
 

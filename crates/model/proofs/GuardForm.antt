@@ -12,7 +12,7 @@ use borrow.Author.Tests.{leb-true, ltb-true, eqb-true, lt-ltb, le-ltb, le-leb, n
 use Rattle.model.specs.Bytes.{byteAt}
 use Rattle.model.specs.Guard.{Guard, always, atMost, atLeast, variable, negation, conjunction, guardBytes, GuardRead, malformed, upTo, thenRead, leafAt, guardAt, endsAt, guardOf}
 use Rattle.model.specs.Monitor.{Monitor}
-use Rattle.model.proofs.Chains.{Closed}
+use Rattle.model.specs.Sane.{Closed}
 use Rattle.model.proofs.Places.{Stands, stands-nil, stands-cons, stands-head, stands-tail, stands-append, stands-left, stands-right, stands-moved, part-stands}
 
 -- a guard names no clock and no variable beyond these counts

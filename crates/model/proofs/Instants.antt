@@ -5,8 +5,9 @@ use mathlib.Core.Path.{_≡_, refl}
 use mathlib.Core.List.{List, _∷_}
 use mathlib.Core.Option.{some}
 use borrow.Author.Tests.{lt-ltb, le-ltb, eq-eqb, ne-eqb}
+use Rattle.model.specs.Limits.{transitionLimit}
 use Rattle.model.specs.Trace.{Packet}
-use Rattle.model.specs.Situation.{keep, rest, add, recordedAt, transitionLimit, moveOf}
+use Rattle.model.specs.Situation.{keep, rest, add, recordedAt, moveOf}
 
 -- moves as numbers
 

@@ -25,12 +25,13 @@ use Rattle.model.specs.Claims.{FirstEmpty, FirstPast, Judged}
 use Rattle.model.specs.declared.Situation.{Situation}
 use Rattle.model.specs.declared.Verdict.{Verdict}
 use Rattle.model.specs.declared.Verdict.the-variants.{Accepted, Rejected, Exhausted}
-use Rattle.model.proofs.Chains.{Moves, Less, Sane, SaneRecording}
+use Rattle.model.specs.Sane.{Sane, SaneRecording}
+use Rattle.model.proofs.Chains.{Moves, Less}
 use Rattle.model.proofs.TableForm.{sane-table}
 use Rattle.model.proofs.RecordingForm.{sound-table, sane-recording}
 use Rattle.model.proofs.LayerLaws.{reached, cost-le, last-le, last-before, passing-passes}
 use Rattle.model.proofs.LeastLaws.{least, length-least}
-use Rattle.model.proofs.Numbering.{first-number-below}
+use Rattle.model.proofs.Numbering.{first-number-below, numbered}
 use Rattle.model.proofs.Capping.{same-moves}
 use Rattle.model.proofs.Explained.{unbroken-formed, explained, explains-possible}
 use Rattle.model.proofs.Ordered.{rows-before}
@@ -168,6 +169,7 @@ module _ (m : Monitor) (recording : List Packet) (sane : Sane m) (sound : SaneRe
         witnessed = λ x. absurd x;
         short = short;
         bounded = bounded;
+        distinct = numbered sane;
       }
   by-tests budget false true p q =
       let h : costOf m recording ≤ budget = ltb-false budget (costOf m recording) p in
@@ -179,6 +181,7 @@ module _ (m : Monitor) (recording : List Packet) (sane : Sane m) (sound : SaneRe
         witnessed = λ x. absurd x;
         short = short;
         bounded = bounded;
+        distinct = numbered sane;
       }
   by-tests budget false false p q =
       let h : costOf m recording ≤ budget = ltb-false budget (costOf m recording) p in
@@ -190,6 +193,7 @@ module _ (m : Monitor) (recording : List Packet) (sane : Sane m) (sound : SaneRe
         witnessed = λ _. preferred-first (left-carried (some-left q));
         short = short;
         bounded = bounded;
+        distinct = numbered sane;
       }
 
   pub judged : (budget : ℕ) → Judged m recording budget (verdict m recording budget)

@@ -10,7 +10,7 @@ use mathlib.Core.Option.{Option, some}
 use mathlib.Core.Logic.{_⊎_, inl, inr, _↔_}
 use lib.ListN.{length, getD, replicate, length-replicate, getD-replicate}
 use Rattle.model.specs.Bytes.{tab}
-use Rattle.model.specs.Layers.{leadsInto, firstFrom, leads, live, arrived, walk, later, leastMoves}
+use Rattle.model.specs.Layers.{leadsInto, firstFrom, leads, live, alive, arrived, walk, later, leastFrom, leastMoves}
 use Rattle.model.proofs.Basics.{length-tab, getD-tab}
 use Rattle.model.proofs.Chains.{Leads, Less}
 use Rattle.model.proofs.SetLaws.{member-within, leadsInto-member, or-cases, or-left, or-right, FirstOf, firstFrom-first}
@@ -42,10 +42,6 @@ module _ (N K : ℕ) (step : ℕ → ℕ → ℕ → Option ℕ) where
               let p : w .0 ≡ k = omega (arith, w .2) in
               or-right (leads N K step s t n k) (leadsInto s (step t n k)) (now .1 (w .1, cc (w .3), w .4))
 
-  -- the situations from which the end can be reached, after instant t with left instants to go
-  abbrev pub alive : (left t : ℕ) → List Bool
-  alive left t = getD (live N K step left t) 0 []
-
   live-cons : (left t : ℕ) → (s : List Bool) × (ss : List (List Bool)) × (live N K step left t ≡ s ∷ ss)
   unfolding live
   live-cons zero t = (replicate N true, [], refl)
@@ -53,13 +49,13 @@ module _ (N K : ℕ) (step : ℕ → ℕ → ℕ → Option ℕ) where
       let (s, ss, e) = live-cons left (suc t) in
       (tab (λ n. leads N K step s (suc t) n K) N, s ∷ ss, rw e)
 
-  pub live-suc : (left t : ℕ) → live N K step (suc left) t ≡ tab (λ n. leads N K step (alive left (suc t)) (suc t) n K) N ∷ live N K step left (suc t)
+  pub live-suc : (left t : ℕ) → live N K step (suc left) t ≡ tab (λ n. leads N K step (alive N K step left (suc t)) (suc t) n K) N ∷ live N K step left (suc t)
   unfolding live
   live-suc left t =
       let (s, ss, e) = live-cons left (suc t) in
       rw e
 
-  pub live-first : (left t : ℕ) → live N K step left t ≡ alive left t ∷ later N K step (live N K step left t)
+  pub live-first : (left t : ℕ) → live N K step left t ≡ alive N K step left t ∷ later N K step (live N K step left t)
   live-first left t =
       let (s, ss, e) = live-cons left t in
       rw e
@@ -69,36 +65,36 @@ module _ (N K : ℕ) (step : ℕ → ℕ → ℕ → Option ℕ) where
   length-live zero t = refl
   length-live (suc left) t = rw (live-suc left t) (ap suc (length-live left (suc t)))
 
-  pub length-alive : (left t : ℕ) → length (alive left t) ≡ N
+  pub length-alive : (left t : ℕ) → length (alive N K step left t) ≡ N
   unfolding live
   length-alive zero t = length-replicate N true
-  length-alive (suc left) t = rw (live-suc left t) (length-tab (λ n. leads N K step (alive left (suc t)) (suc t) n K) N)
+  length-alive (suc left) t = rw (live-suc left t) (length-tab (λ n. leads N K step (alive N K step left (suc t)) (suc t) n K) N)
 
-  pub alive-suc : (left t n : ℕ) → n < N → getD (alive (suc left) t) n false ≡ leads N K step (alive left (suc t)) (suc t) n K
-  alive-suc left t n h = rw (live-suc left t) (getD-tab (λ x. leads N K step (alive left (suc t)) (suc t) x K) false N n h)
+  pub alive-suc : (left t n : ℕ) → n < N → getD (alive N K step (suc left) t) n false ≡ leads N K step (alive N K step left (suc t)) (suc t) n K
+  alive-suc left t n h = rw (live-suc left t) (getD-tab (λ x. leads N K step (alive N K step left (suc t)) (suc t) x K) false N n h)
 
   -- some list of left moves can be carried from n, the first at instant t + 1
   abbrev pub Carries : (left t n : ℕ) → Type 0
   Carries left t n = (ks : List ℕ) × (z : ℕ) × (length ks ≡ left) × Leads N K step t n ks z
 
-  pub alive-carries : (left t n : ℕ) → n < N → (getD (alive left t) n false ≡ true) ↔ Carries left t n
+  pub alive-carries : (left t n : ℕ) → n < N → (getD (alive N K step left t) n false ≡ true) ↔ Carries left t n
   unfolding live
   alive-carries zero t n h = (λ e. ([], n, refl, refl), λ w. getD-replicate N n true false h)
-  alive-carries (suc left) t n h = go (λ x. alive-carries left (suc t) x) (leads-enters (alive left (suc t)) (suc t) n K)
+  alive-carries (suc left) t n h = go (λ x. alive-carries left (suc t) x) (leads-enters (alive N K step left (suc t)) (suc t) n K)
     where
-      go : ((x : ℕ) → x < N → (getD (alive left (suc t)) x false ≡ true) ↔ Carries left (suc t) x)
-          → (leads N K step (alive left (suc t)) (suc t) n K ≡ true) ↔ Enters (alive left (suc t)) (suc t) n K
-          → (getD (alive (suc left) t) n false ≡ true) ↔ Carries (suc left) t n
+      go : ((x : ℕ) → x < N → (getD (alive N K step left (suc t)) x false ≡ true) ↔ Carries left (suc t) x)
+          → (leads N K step (alive N K step left (suc t)) (suc t) n K ≡ true) ↔ Enters (alive N K step left (suc t)) (suc t) n K
+          → (getD (alive N K step (suc left) t) n false ≡ true) ↔ Carries (suc left) t n
       go after now = (there, λ w. back (w .0) (w .1) (w .2) (w .3))
         where
-          there : getD (alive (suc left) t) n false ≡ true → Carries (suc left) t n
+          there : getD (alive N K step (suc left) t) n false ≡ true → Carries (suc left) t n
           there e =
               let (j, x, l, p, m) = now .0 (sym (alive-suc left t n h) ∙ e) in
-              let i : x < N = omega (arith, member-within (alive left (suc t)) x m, length-alive left (suc t)) in
+              let i : x < N = omega (arith, member-within (alive N K step left (suc t)) x m, length-alive left (suc t)) in
               let (ks, z, o, c) = after x i .0 m in
               (j ∷ ks, z, omega arith, (x, l, p, i, c))
 
-          back : (ks : List ℕ) (z : ℕ) → length ks ≡ suc left → Leads N K step t n ks z → getD (alive (suc left) t) n false ≡ true
+          back : (ks : List ℕ) (z : ℕ) → length ks ≡ suc left → Leads N K step t n ks z → getD (alive N K step (suc left) t) n false ≡ true
           back [] z o c = absurd (omega arith)
           back (k ∷ ks) z o c =
               let (x, l, p, i, d) = c in
@@ -130,35 +126,31 @@ module _ (N K : ℕ) (step : ℕ → ℕ → ℕ → Option ℕ) where
   unfolding walk
   walk-step s ss t n = refl
 
-  -- the least moves from n after instant t, with left instants to go
-  abbrev pub leastFrom : (left t n : ℕ) → List ℕ
-  leastFrom left t n = walk N K step (later N K step (live N K step left t)) t n
-
-  pub leastFrom-zero : (t n : ℕ) → leastFrom 0 t n ≡ []
+  pub leastFrom-zero : (t n : ℕ) → leastFrom N K step 0 t n ≡ []
   unfolding live walk
   leastFrom-zero t n = refl
 
   pub leastFrom-suc : (left t n : ℕ)
-      → leastFrom (suc left) t n
-      ≡ leastInto (alive left (suc t)) t n ∷ leastFrom left (suc t) (arrived N K step (step (suc t) n (leastInto (alive left (suc t)) t n)))
+      → leastFrom N K step (suc left) t n
+      ≡ leastInto (alive N K step left (suc t)) t n ∷ leastFrom N K step left (suc t) (arrived N K step (step (suc t) n (leastInto (alive N K step left (suc t)) t n)))
   leastFrom-suc left t n =
       let (s, ss, e) = live-cons left (suc t) in
       rw (live-suc left t, e) (walk-step s ss t n)
 
-  pub leastMoves-from : (first T : ℕ) → leastMoves N K step first T ≡ leastFrom T 0 first
+  pub leastMoves-from : (first T : ℕ) → leastMoves N K step first T ≡ leastFrom N K step T 0 first
   unfolding leastMoves
   leastMoves-from first T = refl
 
-  pub length-leastFrom : (left t n : ℕ) → length (leastFrom left t n) ≡ left
+  pub length-leastFrom : (left t n : ℕ) → length (leastFrom N K step left t n) ≡ left
   length-leastFrom zero t n = ap length (leastFrom-zero t n)
   length-leastFrom (suc left) t n =
-      ap length (leastFrom-suc left t n) ∙ ap suc (length-leastFrom left (suc t) (arrived N K step (step (suc t) n (leastInto (alive left (suc t)) t n))))
+      ap length (leastFrom-suc left t n) ∙ ap suc (length-leastFrom left (suc t) (arrived N K step (step (suc t) n (leastInto (alive N K step left (suc t)) t n))))
 
   -- the moves ls can be carried from n, the first at instant t + 1, and ks comes not before them
   abbrev pub Foremost : (t n : ℕ) → List ℕ → List ℕ → Type 0
   Foremost t n ls ks = ((y : ℕ) × Leads N K step t n ls y) × ((ks ≡ ls) ⊎ Less ls ks)
 
-  pub least-foremost : (left t n : ℕ) (ks : List ℕ) (z : ℕ) → length ks ≡ left → Leads N K step t n ks z → Foremost t n (leastFrom left t n) ks
+  pub least-foremost : (left t n : ℕ) (ks : List ℕ) (z : ℕ) → length ks ≡ left → Leads N K step t n ks z → Foremost t n (leastFrom N K step left t n) ks
   unfolding live walk
   least-foremost zero t n [] z o c = ((n, refl), inl refl)
   least-foremost zero t n (k ∷ ks) z o c = absurd (omega arith)
@@ -169,7 +161,7 @@ module _ (N K : ℕ) (step : ℕ → ℕ → ℕ → Option ℕ) where
       rw (leastFrom-suc left t n) (start y h e g (λ ls w q d. least-foremost left (suc t) y ls w q d))
     where
       s : List Bool
-      s = alive left (suc t)
+      s = alive N K step left (suc t)
 
       m : ℕ
       m = leastInto s t n
@@ -179,8 +171,8 @@ module _ (N K : ℕ) (step : ℕ → ℕ → ℕ → Option ℕ) where
       same ls r (inr b) = inr (inr (sym r, b))
 
       start : (y : ℕ) → m ≤ k → step (suc t) n m ≡ some y → getD s y false ≡ true
-          → ((ls : List ℕ) (w : ℕ) → length ls ≡ left → Leads N K step (suc t) y ls w → Foremost (suc t) y (leastFrom left (suc t) y) ls)
-          → Foremost t n (m ∷ leastFrom left (suc t) (arrived N K step (step (suc t) n m))) (k ∷ ks)
+          → ((ls : List ℕ) (w : ℕ) → length ls ≡ left → Leads N K step (suc t) y ls w → Foremost (suc t) y (leastFrom N K step left (suc t) y) ls)
+          → Foremost t n (m ∷ leastFrom N K step left (suc t) (arrived N K step (step (suc t) n m))) (k ∷ ks)
       start y h e g after =
           let b : y < N = omega (arith, member-within s y g, length-alive left (suc t)) in
           let (ls, w, q, d) = alive-carries left (suc t) y b .0 g in
@@ -188,12 +180,12 @@ module _ (N K : ℕ) (step : ℕ → ℕ → ℕ → Option ℕ) where
           let a : arrived N K step (step (suc t) n m) ≡ y = rw e in
           rw a ((v .0, (y, omega arith, e, b, v .1)), order (decLt m k))
         where
-          order : Dec (m < k) → (k ∷ ks ≡ m ∷ leastFrom left (suc t) y) ⊎ Less (m ∷ leastFrom left (suc t) y) (k ∷ ks)
+          order : Dec (m < k) → (k ∷ ks ≡ m ∷ leastFrom N K step left (suc t) y) ⊎ Less (m ∷ leastFrom N K step left (suc t) y) (k ∷ ks)
           order (yes f) = inr (inl f)
           order (no f) =
               let r : k ≡ m = omega arith in
               let b : x ≡ y = cc in
-              same (leastFrom left (suc t) y) r (after ks z (omega arith) (rw b at c) .1)
+              same (leastFrom N K step left (suc t) y) r (after ks z (omega arith) (rw b at c) .1)
 
   pub length-least : (first T : ℕ) → length (leastMoves N K step first T) ≡ T
   unfolding leastMoves

@@ -11,17 +11,19 @@ use mathlib.Core.Logic.{⊎-elim}
 use lib.ListN.{length, length-append}
 use lib.Dec.{leb, eqb}
 use borrow.Author.Tests.{eqb-true, eqb-false, leb-true, leb-false, le-leb, lt-ltb, le-ltb, eq-eqb, ne-eqb}
+use Rattle.model.specs.Limits.{timeLimit}
 use Rattle.model.specs.Monitor.{Monitor, Config, wait, fires, toUnit, airtime}
 use Rattle.model.specs.Trace.{Packet, PacketTrace, Spaced}
-use Rattle.model.specs.Recording.{endOf, lastTime}
-use Rattle.model.specs.Witness.{Row, kept, removed, added, noTransition, inForm, follows, inPlace}
+use Rattle.model.specs.Recording.{endOf}
+use Rattle.model.specs.Witness.{Row, kept, removed, added, noTransition, marked, inForm, follows, inPlace}
 use Rattle.model.specs.Rules.{Progress, begin, noneBefore, isNext, noneAt, others, sends, keeps, removes, adds, account, broken}
 use Rattle.model.specs.Order.{EndsBy}
 use Rattle.model.specs.Situation.{Move, keep, rest, add, moveOf, moved, sent, stepBy, tick, uncapped, firstBy, withAir, triggerOf, recordedAt}
-use Rattle.model.specs.Validation.{rowsBy, rowsOf, keptRow, removedRow, addedRow}
+use Rattle.model.specs.Validation.{rowsBy, HasRows, rowsOf, keptRow, removedRow, addedRow}
 use Rattle.model.specs.declared.Situation.{Situation}
 use Rattle.model.proofs.Basics.{both-true}
-use Rattle.model.proofs.Chains.{Moves, Sane, SaneRecording}
+use Rattle.model.specs.Sane.{Sane, SaneRecording}
+use Rattle.model.proofs.Chains.{Moves}
 use Rattle.model.proofs.Instants.{recorded-here, recorded-later}
 
 -- the recorded rows still to come
@@ -175,8 +177,6 @@ air-free free t = go (leb free (suc t)) refl
 
 -- one instant
 
-abbrev pub marked : ℕ → ℕ → ℕ → ℕ → Row
-marked mark t k j = record { mark = mark; time = t; kind = k; transition = j }
 
 -- what rows come to, none where one breaks a rule
 unfoldable pub accounts : Monitor → Progress → List Row → Option Progress
@@ -225,13 +225,6 @@ module _ (m : Monitor) (t : ℕ) where
   sends-tied recording p mark k j left q a e =
       subst (Tied recording (suc t)) (sends-fires m p (marked mark (suc t) k j) left q e .2) (record { early = omega arith; past = omega arith; ahead = a })
 
--- a kept row is recorded, and an added one has its transition's trigger as its kind
-abbrev pub Fits : Monitor → Option ℕ → Move → Type 0
-Fits m none (keep j) = ⊥
-Fits m (some k) (keep j) = Unit {0}
-Fits m recorded rest = Unit {0}
-Fits m recorded (add j) = (a : ℕ) × (triggerOf m j ≡ some a)
-
 -- a move at instant t + 1 and a tick lead to the situation of what the rows of that move come to
 pub record Instant (m : Monitor) (recording : List Packet) (t : ℕ) (p : Progress) (recorded : Option ℕ) (a : Move) : Type 0 where
   pub step : stepBy m uncapped recorded (situationAt t p) a ≡ Option·map (situationAt (suc t)) (accounts m p (rowsBy m recorded (suc t) a))
@@ -257,9 +250,9 @@ one-row m p r = go (account m p r)
     go none = refl
     go (some q) = refl
 
-module _ (m : Monitor) (recording : List Packet) (t : ℕ) (p : Progress) (limit : suc t ≤ lastTime) (tied : Tied recording t p) where
-  formed : leb 1 (suc t) && leb (suc t) lastTime && true ≡ true
-  formed = rw (le-leb 1 (suc t) (omega arith), le-leb (suc t) lastTime limit)
+module _ (m : Monitor) (recording : List Packet) (t : ℕ) (p : Progress) (limit : suc t ≤ timeLimit) (tied : Tied recording t p) where
+  formed : leb 1 (suc t) && leb (suc t) timeLimit && true ≡ true
+  formed = rw (le-leb 1 (suc t) (omega arith), le-leb (suc t) timeLimit limit)
 
   in-place : (mark k j : ℕ) → inForm (marked mark (suc t) k j) ≡ true → inPlace (p .before) (marked mark (suc t) k j) ≡ true
   unfolding follows
@@ -287,7 +280,7 @@ module _ (m : Monitor) (recording : List Packet) (t : ℕ) (p : Progress) (limit
     unfolding inForm adds
     account-added k j = account-by added k j formed ∙ rw (none-at (suc t) (p .left) (ahead .rising))
 
-    quiet-instant : (a : Move) → Fits m none a → Instant m recording t p none a
+    quiet-instant : (a : Move) → HasRows m none a → Instant m recording t p none a
     unfolding accounts rowsBy stepBy moved bind
     quiet-instant (keep j) f = absurd f
     quiet-instant rest f =
@@ -341,7 +334,7 @@ module _ (m : Monitor) (recording : List Packet) (t : ℕ) (p : Progress) (limit
         go true = one-row m (without p (suc t) k) (marked added (suc t) b j) ∙ account-swapped b j
         go false = refl
 
-    heard-instant : (b : Move) → Fits m (some k) b → Instant m recording t p (some k) b
+    heard-instant : (b : Move) → HasRows m (some k) b → Instant m recording t p (some k) b
     unfolding rowsBy stepBy moved bind
     heard-instant (keep j) f =
         instant-by (some k) (keep j) (sends m p (marked kept (suc t) k j) (others (p .left))) (one-row m p (marked kept (suc t) k j) ∙ account-kept j)
@@ -359,10 +352,10 @@ module _ (m : Monitor) (recording : List Packet) (t : ℕ) (p : Progress) (limit
         (sent-sends m t (without p (suc t) k) added (f .0) j (others (p .left)))))
         (λ q h. sends-tied m t recording (without p (suc t) k) added (f .0) j (others (p .left)) q ahead-others (cond-some (toUnit m k && not (eqb (f .0) k)) _ q h .1))
 
-  pub instant : (a : Move) → Fits m (recordedAt recording (suc t)) a → Instant m recording t p (recordedAt recording (suc t)) a
+  pub instant : (a : Move) → HasRows m (recordedAt recording (suc t)) a → Instant m recording t p (recordedAt recording (suc t)) a
   instant a = go (coming recording t (p .left) (tied .ahead))
     where
-      go : Coming recording t (p .left) → Fits m (recordedAt recording (suc t)) a → Instant m recording t p (recordedAt recording (suc t)) a
+      go : Coming recording t (p .left) → HasRows m (recordedAt recording (suc t)) a → Instant m recording t p (recordedAt recording (suc t)) a
       go (quiet e b) = rw e (quiet-instant b a)
       go (heard k l e f b) = rw e (heard-instant k l f b a)
 
@@ -374,7 +367,7 @@ unfolding bind
 bound none f x e = absurd (Option·none-ne-some x e)
 bound (some a) f x e = (a, refl)
 
-fits-step : (m : Monitor) (recorded : Option ℕ) (s : Situation) (a : Move) (x : Situation) → stepBy m uncapped recorded s a ≡ some x → Fits m recorded a
+fits-step : (m : Monitor) (recorded : Option ℕ) (s : Situation) (a : Move) (x : Situation) → stepBy m uncapped recorded s a ≡ some x → HasRows m recorded a
 unfolding stepBy moved
 fits-step m none s (keep j) x e = Option·none-ne-some x e
 fits-step m (some k) s (keep j) x e = tt

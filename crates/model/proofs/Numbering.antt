@@ -11,22 +11,10 @@ use lib.Arith.{digits-lt}
 use lib.Dec.{eqb}
 use Rattle.model.specs.Monitor.{Monitor, Config, Transition, changed, fires, after, enabled, airtime, toUnit}
 use Rattle.model.specs.Size.{greatest, largestAirtime, cap, size}
-use Rattle.model.specs.Situation.{Move, keep, rest, add, configOf, withAir, capped, firstBy, firstNumber, sent, triggerOf, moved, tick, stepBy, number, situationOf}
+use Rattle.model.specs.Situation.{InRange, Move, keep, rest, add, configOf, withAir, capped, firstBy, firstNumber, sent, triggerOf, moved, tick, stepBy, number, situationOf}
 use Rattle.model.specs.declared.Situation.{Situation}
-use Rattle.model.proofs.Chains.{Sane}
-
--- a list of two clocks, one for each place of the format
-abbrev pub TwoClocks : List ℕ → Type 0
-TwoClocks c = c ≡ getD c 0 0 ∷ getD c 1 0 ∷ []
-
--- what a situation's number can hold: two clocks, each at most as large as it is written
-pub record InRange (m : Monitor) (s : Situation) : Type 0 where
-  pub state : s .state < m .states
-  pub variables : s .variables < 2 ^ (m .variables)
-  pub clocks : TwoClocks (s .clocks)
-  pub first : getD (s .clocks) 0 0 ≤ cap m 0
-  pub second : getD (s .clocks) 1 0 ≤ cap m 1
-  pub air : s .air ≤ largestAirtime m
+use Rattle.model.specs.Sane.{Sane}
+use Rattle.model.specs.Claims.{Numbered}
 
 -- a number by its lowest digit d, of base r, and the rest q
 
@@ -193,3 +181,13 @@ module _ {m : Monitor} (sane : Sane m) where
 
   pub first-number-below : firstNumber m < size m
   first-number-below = number-below first-in-range
+
+  pub numbered : Numbered m
+  numbered =
+      record {
+        below = λ s r. number-below r;
+        back = λ s r. back r;
+        forth = forth sane;
+        first = first-in-range;
+        step = λ recorded a s x r e. step-in-range recorded a r e;
+      }

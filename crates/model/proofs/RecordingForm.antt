@@ -6,28 +6,29 @@ use mathlib.Core.Path.{_≡_, refl, sym, ap, _∙_}
 use mathlib.Core.List.{List, [], _∷_, _++_}
 use mathlib.Core.Bool.{true}
 use lib.ListN.{length, getD}
-use lib.Dec.{leb, ltb, eqb}
+use lib.Dec.{leb, ltb}
 use borrow.Author.Tests.{ltb-true}
-use Rattle.model.specs.Bytes.{byteAt, wordAt, wordBytes, tab, joined}
-use Rattle.model.specs.First.{unless}
+use Rattle.model.specs.Limits.{rowLimit, timeLimit}
+use Rattle.model.specs.Bytes.{byteAt, wordBytes, tab, joined}
+use Rattle.model.specs.First.{unless, firstOf}
 use Rattle.model.specs.Monitor.{Monitor, airtime}
 use Rattle.model.specs.Trace.{Packet, Spaced}
 use Rattle.model.specs.Table.{tableAnswer, kindsAt, SoundTable, monitorAt}
-use Rattle.model.specs.Recording.{rowLimit, lastTime, countAt, timeAt, rowKindAt, clearOfBefore, recordedRow, recordedRows, recordingAnswer, recordingParts, SoundRecording, packetsOf, packetsAt, endOf, rowBytes, recordingBytes}
+use Rattle.model.specs.Recording.{countAt, timeAt, rowKindAt, clearOfBefore, recordedRow, recordedRows, recordingFrame, recordingScan, recordingAnswer, recordingParts, SoundRecording, packetsOf, packetsAt, endOf, recordedBytes, recordingBytes}
 use Rattle.model.specs.Same.{SameRecording, RecordingZero}
 use Rattle.model.specs.declared.RecordingParts.{RecordingParts}
 use Rattle.model.specs.declared.Reading.{Reading}
 use Rattle.model.specs.declared.Reading.the-variants.{Sound}
 use Rattle.model.specs.declared.Refusal.the-variants.{RecordingFrame, RecordingVersion, RecordingCount, RecordingRange, RecordingOrder}
 use Rattle.model.proofs.Basics.{unless-sound, length-tab}
-use Rattle.model.proofs.Chains.{SaneRecording}
-use Rattle.model.proofs.Tests.{test, le-test, lt-test, eq-test}
+use Rattle.model.specs.Sane.{SaneRecording}
+use Rattle.model.proofs.Tests.{test, le-test, lt-test, FramedRows, rows-facts}
 use Rattle.model.proofs.Places.{AllBytes, Stands, stands-nil, stands-cons, stands-left, stands-append, stands-moved, stands-self, stands-whole, word-at, word-back, getD-column, getD-column-past, stands-joined, joined-stands, length-joined, tab-same, tab-cons, stands-headed, headed-count, headed-rows}
 
 -- row i
 pub record SoundRow (table b : List ℕ) (i : ℕ) : Type 0 where
   pub some : 1 ≤ timeAt b i
-  pub last : timeAt b i ≤ lastTime
+  pub last : timeAt b i ≤ timeLimit
   pub kind : rowKindAt b i < kindsAt table
   pub clear : clearOfBefore table b i ≡ true
 
@@ -36,7 +37,7 @@ unfolding recordedRow
 soundRow table b i e =
     let l : List Reading =
     unless (leb 1 (timeAt b i)) (RecordingRange i)
-    ∷ unless (leb (timeAt b i) lastTime) (RecordingRange i)
+    ∷ unless (leb (timeAt b i) timeLimit) (RecordingRange i)
     ∷ unless (ltb (rowKindAt b i) (kindsAt table)) (RecordingRange i)
     ∷ unless (clearOfBefore table b i) (RecordingOrder i)
     ∷ []
@@ -62,34 +63,19 @@ rows-sound (suc n) table b i k e p q =
 -- all that a sound recording ensures of its bytes
 pub record RecordingFacts (table b : List ℕ) : Type 0 where
   pub sound : SoundTable table
-  pub frame : 5 ≤ length b
-  pub framed : wordAt b 0 + 2 ≡ length b
-  pub version : byteAt b 2 ≡ 1
-  pub count : countAt b ≤ rowLimit
-  pub sized : wordAt b 0 ≡ 3 + 3 * countAt b
+  pub rows : FramedRows b 3 rowLimit
   pub row : (i : ℕ) → i < countAt b → SoundRow table b i
 
 pub recording-facts : (table b : List ℕ) → SoundRecording table b → RecordingFacts table b
-unfolding recordingAnswer
+unfolding recordingAnswer recordingScan recordingFrame
 recording-facts table b e =
-    let l : List Reading =
-    tableAnswer table
-    ∷ unless (leb 5 (length b)) RecordingFrame
-    ∷ unless (eqb (wordAt b 0 + 2) (length b)) RecordingFrame
-    ∷ unless (eqb (byteAt b 2) 1) RecordingVersion
-    ∷ unless (leb (countAt b) rowLimit) RecordingCount
-    ∷ unless (eqb (wordAt b 0) (3 + 3 * countAt b)) RecordingCount
-    ∷ recordedRows (countAt b) table b 0
-    ∷ []
-    in
+    let all : List Reading = tableAnswer table ∷ recordingScan table b ∷ [] in
+    let l : List Reading = recordingFrame b ∷ recordedRows (countAt b) table b 0 ∷ [] in
+    let s : firstOf l ≡ Sound = test all e 1 in
     record {
-      sound = test l e 0;
-      frame = le-test _ _ RecordingFrame (test l e 1);
-      framed = eq-test _ _ RecordingFrame (test l e 2);
-      version = eq-test _ _ RecordingVersion (test l e 3);
-      count = le-test _ _ RecordingCount (test l e 4);
-      sized = eq-test _ _ RecordingCount (test l e 5);
-      row = λ i h. rows-sound (countAt b) table b 0 i (test l e 6) (omega arith) (omega arith);
+      sound = test all e 0;
+      rows = rows-facts b 3 rowLimit RecordingFrame RecordingVersion RecordingCount (test l s 0);
+      row = λ i h. rows-sound (countAt b) table b 0 i (test l s 1) (omega arith) (omega arith);
     }
 
 pub sound-table : (table b : List ℕ) → SoundRecording table b → SoundTable table
@@ -141,12 +127,12 @@ module _ (table b : List ℕ) where
   pub sane-recording : SoundRecording table b → SaneRecording (monitorAt table) (packetsAt b)
   sane-recording e =
       let facts : RecordingFacts table b = recording-facts table b e in
-      rw (packets-tab b) (sane-rows (countAt b) (facts .count) (facts .row))
+      rw (packets-tab b) (sane-rows (countAt b) (facts .rows .count) (facts .row))
 
 -- Round trips
 
-rows-length : (r : RecordingParts) (n : ℕ) → length (joined (rowBytes r) n) ≡ 3 * n
-rows-length r n = length-joined (rowBytes r) 3 n (λ i h. refl)
+rows-length : (r : RecordingParts) (n : ℕ) → length (joined (recordedBytes (r .times) (r .kinds)) n) ≡ 3 * n
+rows-length r n = length-joined (recordedBytes (r .times) (r .kinds)) 3 n (λ i h. refl)
 
 pub recording-length : (r : RecordingParts) → length (recordingBytes r) ≡ 5 + 3 * r .count
 unfolding recordingBytes
@@ -159,15 +145,15 @@ recording-again table b all e =
     let facts : RecordingFacts table b = recording-facts table b e in
     let r : RecordingParts = recordingParts b in
     stands-whole b (recordingBytes r) (omega (arith, recording-length r))
-    (stands-headed b (3 + 3 * countAt b) (countAt b) (joined (rowBytes r) (countAt b))
-    (word-at b 0 (3 + 3 * countAt b) all (facts .sized)) (facts .version) (word-at b 3 (countAt b) all refl)
-    (stands-joined (rowBytes r) b 5 (countAt b) (λ i h. row i h (omega (arith, rows-length r i)))))
+    (stands-headed b (3 + 3 * countAt b) (countAt b) (joined (recordedBytes (r .times) (r .kinds)) (countAt b))
+    (word-at b 0 (3 + 3 * countAt b) all (facts .rows .sized)) (facts .rows .head .version) (word-at b 3 (countAt b) all refl)
+    (stands-joined (recordedBytes (r .times) (r .kinds)) b 5 (countAt b) (λ i h. row i h (omega (arith, rows-length r i)))))
   where
-    row : (i : ℕ) → i < countAt b → {at : ℕ} → 5 + 3 * i ≡ at → Stands b at (rowBytes (recordingParts b) i)
+    row : (i : ℕ) → i < countAt b → {at : ℕ} → 5 + 3 * i ≡ at → Stands b at (recordedBytes (recordingParts b .times) (recordingParts b .kinds) i)
     row i h {at} p =
         let time : ℕ = byteAt (recordingParts b .times) i in
         let kind : ℕ = byteAt (recordingParts b .kinds) i in
-        stands-moved b (5 + 3 * i) at (rowBytes (recordingParts b) i) p
+        stands-moved b (5 + 3 * i) at (recordedBytes (recordingParts b .times) (recordingParts b .kinds) i) p
         (stands-append b (5 + 3 * i) (wordBytes time) (kind ∷ [])
         (word-at b (5 + 3 * i) time all (sym (getD-column 512 (timeAt b) (countAt b) i h)))
         (stands-cons b (5 + 3 * i + 2) kind [] (ap (λ (k : ℕ). getD b k 0) (omega arith) ∙ sym (getD-column 512 (rowKindAt b) (countAt b) i h)) (stands-nil b (5 + 3 * i + 2 + 1))))
@@ -178,15 +164,15 @@ module _ (r : RecordingParts) (few : r .count ≤ rowLimit) (times : (i : ℕ) �
   unfolding recordingBytes
   written-count =
       word-back (recordingBytes r) 3 (r .count) (omega arith)
-      (headed-count (recordingBytes r) (3 + 3 * r .count) (r .count) (joined (rowBytes r) (r .count)) (stands-self (recordingBytes r)))
+      (headed-count (recordingBytes r) (3 + 3 * r .count) (r .count) (joined (recordedBytes (r .times) (r .kinds)) (r .count)) (stands-self (recordingBytes r)))
 
-  written-row : (i : ℕ) → i < r .count → Stands (recordingBytes r) (5 + 3 * i) (rowBytes r i)
+  written-row : (i : ℕ) → i < r .count → Stands (recordingBytes r) (5 + 3 * i) (recordedBytes (r .times) (r .kinds) i)
   unfolding recordingBytes
   written-row i h =
       let b : List ℕ = recordingBytes r in
-      let e : 5 + length (joined (rowBytes r) i) ≡ 5 + 3 * i = omega (arith, rows-length r i) in
-      stands-moved b (5 + length (joined (rowBytes r) i)) (5 + 3 * i) (rowBytes r i) e
-      (joined-stands (rowBytes r) b 5 (r .count) i h (headed-rows b (3 + 3 * r .count) (r .count) (joined (rowBytes r) (r .count)) (stands-self b)))
+      let e : 5 + length (joined (recordedBytes (r .times) (r .kinds)) i) ≡ 5 + 3 * i = omega (arith, rows-length r i) in
+      stands-moved b (5 + length (joined (recordedBytes (r .times) (r .kinds)) i)) (5 + 3 * i) (recordedBytes (r .times) (r .kinds) i) e
+      (joined-stands (recordedBytes (r .times) (r .kinds)) b 5 (r .count) i h (headed-rows b (3 + 3 * r .count) (r .count) (joined (recordedBytes (r .times) (r .kinds)) (r .count)) (stands-self b)))
 
   written-time : (i : ℕ) → i < r .count → timeAt (recordingBytes r) i ≡ byteAt (r .times) i
   written-time i h =

@@ -9,20 +9,22 @@ use mathlib.Core.Option.{Option, none, some, Option·map, bind, Option·none-ne-
 use lib.ListN.{length, getElem?}
 use lib.Dec.{leb, ltb, eqb}
 use borrow.Author.Tests.{eqb-true, eqb-false, leb-true, ltb-true, eq-eqb}
+use Rattle.model.specs.Limits.{timeLimit, transitionLimit}
 use Rattle.model.specs.Monitor.{Monitor, Config, Transition, after, wait, enabled, fires, toUnit}
 use Rattle.model.specs.Guard.{holds}
 use Rattle.model.specs.Trace.{Packet}
-use Rattle.model.specs.Recording.{endOf, lastTime}
-use Rattle.model.specs.Witness.{Row, kept, removed, added, noTransition, isRemoved, inForm, follows, inPlace}
+use Rattle.model.specs.Recording.{endOf}
+use Rattle.model.specs.Witness.{Row, kept, removed, added, noTransition, marked, isRemoved, inForm, follows, inPlace}
 use Rattle.model.specs.Rules.{Progress, begin, noneBefore, isNext, noneAt, others, sends, keeps, removes, adds, account, broken}
 use Rattle.model.specs.Order.{EndsBy}
-use Rattle.model.specs.Situation.{Move, keep, rest, add, moveOf, moveLimit, transitionLimit, uncapped, firstBy, triggerOf, recordedAt}
-use Rattle.model.specs.Validation.{rowsBy, rowsOf}
+use Rattle.model.specs.Situation.{Move, keep, rest, add, moveOf, moveLimit, uncapped, firstBy, triggerOf, recordedAt}
+use Rattle.model.specs.Validation.{rowsBy, HasRows, rowsOf}
 use Rattle.model.specs.declared.Situation.{Situation}
 use Rattle.model.proofs.Basics.{and-left, and-right, getElem-within}
-use Rattle.model.proofs.Chains.{Moves, Sane, SaneRecording}
+use Rattle.model.specs.Sane.{Sane, SaneRecording}
+use Rattle.model.proofs.Chains.{Moves}
 use Rattle.model.proofs.Instants.{moveOf-keep, moveOf-add}
-use Rattle.model.proofs.MoveRows.{Rising, Coming, quiet, heard, coming, Tied, tied-first, situationAt, marked, accounts, one-row, cond-some, sends-fires, broken-next, Fits, instant}
+use Rattle.model.proofs.MoveRows.{Rising, Coming, quiet, heard, coming, Tied, tied-first, situationAt, accounts, one-row, cond-some, sends-fires, broken-next, instant}
 
 -- what a row that keeps the rules says
 
@@ -40,7 +42,7 @@ record InForm (r : Row) : Type 0 where
 in-form : (o : Option Row) (r : Row) → inPlace o r ≡ true → InForm r
 unfolding inForm
 in-form o r e =
-    let f = four-true (leb (r .mark) 2) (leb 1 (r .time)) (leb (r .time) lastTime) (not (isRemoved r) || eqb (r .transition) noTransition) (form o e) in
+    let f = four-true (leb (r .mark) 2) (leb 1 (r .time)) (leb (r .time) timeLimit) (not (isRemoved r) || eqb (r .transition) noTransition) (form o e) in
     record {
       mark = leb-true (r .mark) 2 (f .0);
       time = leb-true 1 (r .time) (f .1);
@@ -175,7 +177,7 @@ as-marked r mark t k j a b c d = sym (λ i. marked (a i) (b i) (c i) (d i))
 record Split (m : Monitor) (recording : List Packet) (t : ℕ) (p : Progress) (rows : List Row) : Type 0 where
   move : ℕ
   small : move < moveLimit
-  fits : Fits m (recordedAt recording (suc t)) (moveOf move)
+  fits : HasRows m (recordedAt recording (suc t)) (moveOf move)
   next : Progress
   comes : accounts m p (rowsBy m (recordedAt recording (suc t)) (suc t) (moveOf move)) ≡ some next
   more : List Row
@@ -186,7 +188,7 @@ record Split (m : Monitor) (recording : List Packet) (t : ℕ) (p : Progress) (r
 
 module _ (m : Monitor) (recording : List Packet) (table : Sane m) (t : ℕ) (p : Progress) (tied : Tied recording t p) where
   split-by : (rows : List Row) (recorded : Option ℕ) (n : ℕ) (a : Move) → recordedAt recording (suc t) ≡ recorded → moveOf n ≡ a → n < moveLimit
-      → Fits m recorded a → (q : Progress) → accounts m p (rowsBy m recorded (suc t) a) ≡ some q
+      → HasRows m recorded a → (q : Progress) → accounts m p (rowsBy m recorded (suc t) a) ≡ some q
       → (more : List Row) → rowsBy m recorded (suc t) a ++ more ≡ rows → (i : ℕ) → broken m q i more ≡ none → StartsAfter (suc t) more
       → Split m recording t p rows
   split-by rows recorded n a e f l g q c more r i u b =

@@ -9,43 +9,45 @@ use mathlib.Core.Bool.{Bool, true}
 use mathlib.Core.Option.{some}
 use lib.ListN.{length, take, drop, length-take, length-drop}
 use lib.Seq.{length-take-le}
-use lib.Dec.{leb, ltb, eqb}
-use Rattle.model.specs.Bytes.{byteAt, wordAt, tab, joined}
+use lib.Dec.{leb, ltb}
+use Rattle.model.specs.Limits.{stateLimit, variableLimit, clockLimit, kindLimit, transitionLimit, guardLimit, sizeLimit}
+use Rattle.model.specs.Bytes.{byteAt, tab, joined}
 use Rattle.model.specs.First.{unless, firstOf}
+use Rattle.model.specs.Frame.{framed}
 use Rattle.model.specs.Guard.{upTo, guardAt, endsAt, guardOf}
 use Rattle.model.specs.Monitor.{Transition}
-use Rattle.model.specs.Size.{size, sizeLimit}
-use Rattle.model.specs.Table.{guardIn, transitionIn, monitorOf, statesAt, variablesAt, clocksAt, kindsAt, transitionsAt, tableCounts, kindRecord, kindRecords, apart, guardLengthAt, transitionFields, transitionRecord, transitionRecords, kindAt, transitionAt, guardPlace, tableParts, tableAnswer, SoundTable, monitorAt}
+use Rattle.model.specs.Size.{size}
+use Rattle.model.specs.Table.{guardIn, transitionIn, monitorOf, statesAt, variablesAt, clocksAt, kindsAt, transitionsAt, tableCounts, countsOf, kindRecord, kindRecords, apart, guardLengthAt, transitionFields, guardRecord, transitionRecord, transitionRecords, kindAt, transitionAt, guardPlace, tableParts, tableScan, tableAnswer, SoundTable, monitorAt}
 use Rattle.model.specs.declared.Reading.{Reading}
 use Rattle.model.specs.declared.Reading.the-variants.{Sound}
 use Rattle.model.specs.declared.Refusal.the-variants.{TableFrame, TableVersion, TableCount, TableLength, TableField, TableGuard, TableSize}
 use Rattle.model.proofs.Basics.{unless-sound, length-tab, getElem-tab, getElem-within}
-use Rattle.model.proofs.Chains.{Sane, SaneTransition}
-use Rattle.model.proofs.Tests.{test, le-test, lt-test, eq-test}
+use Rattle.model.specs.Sane.{Sane, SaneTransition}
+use Rattle.model.proofs.Tests.{test, le-test, lt-test, eq-test, Framed, framed-facts}
 use Rattle.model.proofs.Places.{stands-part, length-padded, getD-padded, getD-column, length-joined, getD-joined}
 use Rattle.model.proofs.GuardForm.{closed-names, guard-names, guard-moved, moved-guard, ends-read}
 
 -- the limits of the counts
 pub record SoundCounts (b : List ℕ) : Type 0 where
   pub states-some : 1 ≤ statesAt b
-  pub states : statesAt b ≤ 16
-  pub variables : variablesAt b ≤ 4
-  pub clocks : clocksAt b ≤ 2
+  pub states : statesAt b ≤ stateLimit
+  pub variables : variablesAt b ≤ variableLimit
+  pub clocks : clocksAt b ≤ clockLimit
   pub kinds-some : 1 ≤ kindsAt b
-  pub kinds : kindsAt b ≤ 32
-  pub transitions : transitionsAt b ≤ 64
+  pub kinds : kindsAt b ≤ kindLimit
+  pub transitions : transitionsAt b ≤ transitionLimit
 
 counts : (b : List ℕ) → tableCounts b ≡ Sound → SoundCounts b
-unfolding tableCounts
+unfolding countsOf
 counts b e =
     let l : List Reading =
     unless (leb 1 (statesAt b)) (TableCount 3)
-    ∷ unless (leb (statesAt b) 16) (TableCount 3)
-    ∷ unless (leb (variablesAt b) 4) (TableCount 4)
-    ∷ unless (leb (clocksAt b) 2) (TableCount 5)
+    ∷ unless (leb (statesAt b) stateLimit) (TableCount 3)
+    ∷ unless (leb (variablesAt b) variableLimit) (TableCount 4)
+    ∷ unless (leb (clocksAt b) clockLimit) (TableCount 5)
     ∷ unless (leb 1 (kindsAt b)) (TableCount 6)
-    ∷ unless (leb (kindsAt b) 32) (TableCount 6)
-    ∷ unless (leb (transitionsAt b) 64) (TableCount 7)
+    ∷ unless (leb (kindsAt b) kindLimit) (TableCount 6)
+    ∷ unless (leb (transitionsAt b) transitionLimit) (TableCount 7)
     ∷ []
     in
     record {
@@ -89,20 +91,24 @@ pub record SoundTransition (b : List ℕ) (at : ℕ) : Type 0 where
   pub resets : byteAt b (at + 5) < 2 ^ clocksAt b
   pub disjoint : apart (variablesAt b) (byteAt b (at + 3)) (byteAt b (at + 4)) ≡ true
   pub some : 1 ≤ guardLengthAt b at
-  pub few : guardLengthAt b at ≤ 32
+  pub few : guardLengthAt b at ≤ guardLimit
   pub fits : at + 7 + guardLengthAt b at ≤ length b
   pub guard : endsAt (guardAt 32 (variablesAt b) (clocksAt b) b (at + 7) (at + 7 + guardLengthAt b at)) (at + 7 + guardLengthAt b at) ≡ true
 
 soundTransition : (b : List ℕ) (at : ℕ) → transitionRecord b at ≡ Sound → SoundTransition b at
-unfolding transitionRecord transitionFields
+unfolding transitionRecord transitionFields guardRecord
 soundTransition b at e =
     let parsed : Bool = endsAt (guardAt 32 (variablesAt b) (clocksAt b) b (at + 7) (at + 7 + guardLengthAt b at)) (at + 7 + guardLengthAt b at) in
     let separate : Bool = apart (variablesAt b) (byteAt b (at + 3)) (byteAt b (at + 4)) in
     let l : List Reading =
     unless (leb (at + 7) (length b)) (TableLength at)
     ∷ transitionFields b at
-    ∷ unless (leb 1 (guardLengthAt b at)) (TableGuard at)
-    ∷ unless (leb (guardLengthAt b at) 32) (TableGuard at)
+    ∷ guardRecord b at
+    ∷ []
+    in
+    let guards : List Reading =
+    unless (leb 1 (guardLengthAt b at)) (TableGuard at)
+    ∷ unless (leb (guardLengthAt b at) guardLimit) (TableGuard at)
     ∷ unless (leb (at + 7 + guardLengthAt b at) (length b)) (TableLength at)
     ∷ unless parsed (TableGuard at)
     ∷ []
@@ -118,6 +124,7 @@ soundTransition b at e =
     ∷ []
     in
     let f : firstOf fields ≡ Sound = test l e 1 in
+    let g : firstOf guards ≡ Sound = test l e 2 in
     record {
       source = lt-test _ _ (TableField at) (test fields f 0);
       target = lt-test _ _ (TableField at) (test fields f 1);
@@ -126,10 +133,10 @@ soundTransition b at e =
       clears = lt-test _ _ (TableField at) (test fields f 4);
       resets = lt-test _ _ (TableField at) (test fields f 5);
       disjoint = unless-sound separate (TableField at) (test fields f 6);
-      some = le-test _ _ (TableGuard at) (test l e 2);
-      few = le-test _ _ (TableGuard at) (test l e 3);
-      fits = le-test _ _ (TableLength at) (test l e 4);
-      guard = unless-sound parsed (TableGuard at) (test l e 5);
+      some = le-test _ _ (TableGuard at) (test guards g 0);
+      few = le-test _ _ (TableGuard at) (test guards g 1);
+      fits = le-test _ _ (TableLength at) (test guards g 2);
+      guard = unless-sound parsed (TableGuard at) (test guards g 3);
     }
 
 -- every record from number i on
@@ -168,9 +175,7 @@ transitions-end (suc n) b i e =
 
 -- all that a sound table ensures of its bytes
 pub record TableFacts (b : List ℕ) : Type 0 where
-  pub frame : 8 ≤ length b
-  pub framed : wordAt b 0 + 2 ≡ length b
-  pub version : byteAt b 2 ≡ 1
+  pub head : Framed b 8
   pub counts : SoundCounts b
   pub kind : (i : ℕ) → i < kindsAt b → SoundKind b (kindAt i)
   pub transition : (j : ℕ) → j < transitionsAt b → SoundTransition b (transitionAt b j)
@@ -178,27 +183,24 @@ pub record TableFacts (b : List ℕ) : Type 0 where
   pub small : size (monitorAt b) ≤ sizeLimit
 
 pub table-facts : (b : List ℕ) → SoundTable b → TableFacts b
-unfolding tableAnswer transitionAt
+unfolding tableAnswer tableScan transitionAt
 table-facts b e =
+    let all : List Reading = tableScan b ∷ unless (leb (size (monitorOf (tableParts b))) sizeLimit) TableSize ∷ [] in
     let l : List Reading =
-    unless (leb 8 (length b)) TableFrame
-    ∷ unless (eqb (wordAt b 0 + 2) (length b)) TableFrame
-    ∷ unless (eqb (byteAt b 2) 1) TableVersion
+    framed b 8 TableFrame TableVersion
     ∷ tableCounts b
     ∷ kindRecords (kindsAt b) b (kindAt 0)
     ∷ transitionRecords (transitionsAt b) b (kindAt (kindsAt b))
-    ∷ unless (leb (size (monitorOf (tableParts b))) sizeLimit) TableSize
     ∷ []
     in
+    let s : firstOf l ≡ Sound = test all e 0 in
     record {
-      frame = le-test _ _ TableFrame (test l e 0);
-      framed = eq-test _ _ TableFrame (test l e 1);
-      version = eq-test _ _ TableVersion (test l e 2);
-      counts = counts b (test l e 3);
-      kind = λ i h. kinds-sound (kindsAt b) b 0 i (test l e 4) (omega arith) (omega arith);
-      transition = λ j h. transitions-sound (transitionsAt b) b 0 j (test l e 5) (omega arith) (omega arith);
-      end = ap (λ (x : ℕ). transitionAt b x) (sym (zero-add (transitionsAt b))) ∙ transitions-end (transitionsAt b) b 0 (test l e 5);
-      small = le-test _ _ TableSize (test l e 6);
+      head = framed-facts b 8 TableFrame TableVersion (test l s 0);
+      counts = counts b (test l s 1);
+      kind = λ i h. kinds-sound (kindsAt b) b 0 i (test l s 2) (omega arith) (omega arith);
+      transition = λ j h. transitions-sound (transitionsAt b) b 0 j (test l s 3) (omega arith) (omega arith);
+      end = ap (λ (x : ℕ). transitionAt b x) (sym (zero-add (transitionsAt b))) ∙ transitions-end (transitionsAt b) b 0 (test l s 3);
+      small = le-test _ _ TableSize (test all e 1);
     }
 
 -- the parts, where the counts reach

@@ -9,15 +9,15 @@ use Rattle.model.specs.Bytes.{byteAt, tab, wordAt, wordBytes, joined}
 use lib.Dec.{eqb}
 use Rattle.model.specs.Guard.{guardAt, guardOf}
 use Rattle.model.proofs.GuardForm.{guard-moved, moved-guard}
-use Rattle.model.specs.Table.{guardIn, transitionIn, monitorOf, monitorAt, statesAt, variablesAt, clocksAt, kindsAt, transitionsAt, guardLengthAt, kindAt, transitionAt, guardPlace, tableParts, SoundTable, kindColumn, transitionColumn, kindBytes, transitionBytes, tableBody, tableBytes}
+use Rattle.model.specs.Table.{guardIn, transitionIn, monitorOf, monitorAt, statesAt, variablesAt, clocksAt, kindsAt, transitionsAt, guardLengthAt, kindAt, transitionAt, guardPlace, tableParts, SoundTable, kindColumn, transitionColumn, kindBytes, fieldBytes, guardBytesIn, transitionBytes, countBytes, tableBody, tableBytes}
 use Rattle.model.specs.Same.{Zero, SameTable, TableZero}
 use Rattle.model.specs.declared.TableParts.{TableParts}
 use Rattle.model.proofs.Places.{AllBytes, Stands, stands-append, stands-left, stands-right, stands-moved, stands-self, stands-whole, word-at, length-padded, getD-padded-past, getD-column, getD-column-past, length-joined, stands-joined, joined-stands, tab-same}
 use Rattle.model.proofs.TableForm.{SoundTransition, TableFacts, table-facts, places-length, guard-place, guard-byte}
 
--- the guard of transition j as it is written: the first bytes of its 32 places
+-- the guard of transition j as it is written
 abbrev guardOut : TableParts → ℕ → List ℕ
-guardOut t j = take (byteAt (t .lengths) j) (take 32 (drop (32 * j) (t .guards)))
+guardOut t j = guardBytesIn (t .guards) (byteAt (t .lengths) j) j
 
 module _ (t : TableParts) (full : length (t .guards) ≡ 2048) (j : ℕ) (h : j < 64) (few : byteAt (t .lengths) j ≤ 32) where
   guardOut-length : length (guardOut t j) ≡ byteAt (t .lengths) j
@@ -36,18 +36,6 @@ guardOut-byte t j i few h =
 
 kinds-length : (t : TableParts) (n : ℕ) → length (joined (kindBytes t) n) ≡ 2 * n
 kinds-length t n = length-joined (kindBytes t) 2 n (λ i h. refl)
-
--- the seven bytes before a guard
-fieldsOut : TableParts → ℕ → List ℕ
-fieldsOut t j =
-    byteAt (t .sources) j
-    ∷ byteAt (t .targets) j
-    ∷ byteAt (t .triggers) j
-    ∷ byteAt (t .sets) j
-    ∷ byteAt (t .clears) j
-    ∷ byteAt (t .resets) j
-    ∷ byteAt (t .lengths) j
-    ∷ []
 
 -- the parts of a sound table, written again
 module _ (b : List ℕ) (facts : TableFacts b) where
@@ -84,8 +72,8 @@ module _ (b : List ℕ) (facts : TableFacts b) where
   column : (j : ℕ) → j < transitionsAt b → (k : ℕ) → byteAt b (transitionAt b j + k) ≡ byteAt (transitionColumn b k) j
   column j h k = sym (getD-column 64 (λ i. byteAt b (transitionAt b i + k)) (transitionsAt b) j h)
 
-  fields-stand : (j : ℕ) → j < transitionsAt b → Stands b (transitionAt b j) (fieldsOut (tableParts b) j)
-  unfolding tableParts fieldsOut
+  fields-stand : (j : ℕ) → j < transitionsAt b → Stands b (transitionAt b j) (fieldBytes (tableParts b) j)
+  unfolding tableParts
   fields-stand j h zero p = column j h 0
   fields-stand j h (suc zero) p = column j h 1
   fields-stand j h (suc (suc zero)) p = column j h 2
@@ -103,8 +91,7 @@ module _ (b : List ℕ) (facts : TableFacts b) where
       sym (guardOut-byte (tableParts b) j i (length-few j h) (omega arith) ∙ guard-byte b facts j h i (omega arith))
 
   transition-stands : (j : ℕ) → j < transitionsAt b → Stands b (transitionAt b j) (transitionBytes (tableParts b) j)
-  unfolding fieldsOut
-  transition-stands j h = stands-append b (transitionAt b j) (fieldsOut (tableParts b) j) (guardOut (tableParts b) j) (fields-stand j h) (guard-stands j h)
+  transition-stands j h = stands-append b (transitionAt b j) (fieldBytes (tableParts b) j) (guardOut (tableParts b) j) (fields-stand j h) (guard-stands j h)
 
   body-length : 2 + length (tableBody (tableParts b)) ≡ length b
   unfolding tableBody tableParts
@@ -114,8 +101,9 @@ module _ (b : List ℕ) (facts : TableFacts b) where
       let f : transitionAt b (transitionsAt b) ≡ length b = facts .end in
       omega (arith, length-append (joined (kindBytes t) (kindsAt b)) (joined (transitionBytes t) (transitionsAt b)), kinds-length t (kindsAt b))
 
-  counts-stand : Stands b 2 (1 ∷ statesAt b ∷ variablesAt b ∷ clocksAt b ∷ kindsAt b ∷ transitionsAt b ∷ [])
-  counts-stand zero p = facts .version
+  counts-stand : Stands b 2 (countBytes (tableParts b))
+  unfolding tableParts
+  counts-stand zero p = facts .head .version
   counts-stand (suc zero) p = refl
   counts-stand (suc (suc zero)) p = refl
   counts-stand (suc (suc (suc zero))) p = refl
@@ -127,7 +115,7 @@ module _ (b : List ℕ) (facts : TableFacts b) where
   unfolding tableBody tableParts
   body-stands =
       let t : TableParts = tableParts b in
-      let counts : List ℕ = 1 ∷ statesAt b ∷ variablesAt b ∷ clocksAt b ∷ kindsAt b ∷ transitionsAt b ∷ [] in
+      let counts : List ℕ = countBytes t in
       let kinds : List ℕ = joined (kindBytes t) (kindsAt b) in
       let transitions : List ℕ = joined (transitionBytes t) (transitionsAt b) in
       let end : kindAt (kindsAt b) ≡ 2 + length (counts ++ kinds) = omega (arith, kinds-length t (kindsAt b)) in
@@ -144,7 +132,7 @@ unfolding tableBytes
 table-again b all s =
     let facts : TableFacts b = table-facts b s in
     let n : 2 + length (tableBody (tableParts b)) ≡ length b = body-length b facts in
-    let f : wordAt b 0 + 2 ≡ length b = facts .framed in
+    let f : wordAt b 0 + 2 ≡ length b = facts .head .framed in
     stands-whole b (tableBytes (tableParts b)) (omega arith)
     (stands-append b 0 (wordBytes (length (tableBody (tableParts b)))) (tableBody (tableParts b))
     (word-at b 0 (length (tableBody (tableParts b))) all (omega arith)) (body-stands b facts))
@@ -184,33 +172,30 @@ module _ (b : List ℕ) where
 
 -- the bytes of parts, read
 
-abbrev countsOut : TableParts → List ℕ
-countsOut t = 1 ∷ t .states ∷ t .variables ∷ t .clocks ∷ t .kinds ∷ t .transitions ∷ []
-
 module _ (t : TableParts) where
-  written-body : Stands (tableBytes t) 2 (countsOut t ++ joined (kindBytes t) (t .kinds) ++ joined (transitionBytes t) (t .transitions))
+  written-body : Stands (tableBytes t) 2 (countBytes t ++ joined (kindBytes t) (t .kinds) ++ joined (transitionBytes t) (t .transitions))
   unfolding tableBytes tableBody
   written-body = stands-right (tableBytes t) 0 (wordBytes (length (tableBody t))) (tableBody t) (stands-self (tableBytes t))
 
-  written-counts : Stands (tableBytes t) 2 (countsOut t)
+  written-counts : Stands (tableBytes t) 2 (countBytes t)
   written-counts =
-      stands-left (tableBytes t) 2 (countsOut t) (joined (kindBytes t) (t .kinds))
-      (stands-left (tableBytes t) 2 (countsOut t ++ joined (kindBytes t) (t .kinds)) (joined (transitionBytes t) (t .transitions)) written-body)
+      stands-left (tableBytes t) 2 (countBytes t) (joined (kindBytes t) (t .kinds))
+      (stands-left (tableBytes t) 2 (countBytes t ++ joined (kindBytes t) (t .kinds)) (joined (transitionBytes t) (t .transitions)) written-body)
 
   written-kind : (i : ℕ) → i < t .kinds → Stands (tableBytes t) (kindAt i) (kindBytes t i)
   written-kind i h =
       stands-moved (tableBytes t) (8 + length (joined (kindBytes t) i)) (kindAt i) (kindBytes t i) (omega (arith, kinds-length t i))
       (joined-stands (kindBytes t) (tableBytes t) 8 (t .kinds) i h
-      (stands-right (tableBytes t) 2 (countsOut t) (joined (kindBytes t) (t .kinds))
-      (stands-left (tableBytes t) 2 (countsOut t ++ joined (kindBytes t) (t .kinds)) (joined (transitionBytes t) (t .transitions)) written-body)))
+      (stands-right (tableBytes t) 2 (countBytes t) (joined (kindBytes t) (t .kinds))
+      (stands-left (tableBytes t) 2 (countBytes t ++ joined (kindBytes t) (t .kinds)) (joined (transitionBytes t) (t .transitions)) written-body)))
 
   written-transition : (j : ℕ) → j < t .transitions → Stands (tableBytes t) (kindAt (t .kinds) + length (joined (transitionBytes t) j)) (transitionBytes t j)
   written-transition j h =
       let kinds : List ℕ = joined (kindBytes t) (t .kinds) in
       let transitions : List ℕ = joined (transitionBytes t) (t .transitions) in
       joined-stands (transitionBytes t) (tableBytes t) (kindAt (t .kinds)) (t .transitions) j h
-      (stands-moved (tableBytes t) (2 + length (countsOut t ++ kinds)) (kindAt (t .kinds)) transitions (omega (arith, kinds-length t (t .kinds)))
-      (stands-right (tableBytes t) 2 (countsOut t ++ kinds) transitions written-body))
+      (stands-moved (tableBytes t) (2 + length (countBytes t ++ kinds)) (kindAt (t .kinds)) transitions (omega (arith, kinds-length t (t .kinds)))
+      (stands-right (tableBytes t) 2 (countBytes t ++ kinds) transitions written-body))
 
 module _ (t : TableParts) (full : length (t .guards) ≡ 2048) (facts : TableFacts (tableBytes t)) where
   few-transitions : t .transitions ≤ 64
@@ -251,13 +236,12 @@ module _ (t : TableParts) (full : length (t .guards) ≡ 2048) (facts : TableFac
 
   back-guard :
       (j : ℕ) → j < t .transitions → (i : ℕ) → i < byteAt (t .lengths) j → byteAt (tableParts (tableBytes t) .guards) (32 * j + i) ≡ byteAt (t .guards) (32 * j + i)
-  unfolding fieldsOut
   back-guard j h i p =
       let b : List ℕ = tableBytes t in
       let e : guardLengthAt b (transitionAt b j) ≡ byteAt (t .lengths) j = back j h 6 (omega arith) in
       let n : length (guardOut t j) ≡ byteAt (t .lengths) j = guardOut-length t full j (omega (arith, few-transitions)) (back-few j h) in
       guard-byte b facts j (rw (written-counts t 5 (omega arith)) h) i (omega arith)
-      ∙ stands-right b (transitionAt b j) (fieldsOut t j) (guardOut t j) (back j h) i (omega arith)
+      ∙ stands-right b (transitionAt b j) (fieldBytes t j) (guardOut t j) (back j h) i (omega arith)
       ∙ guardOut-byte t j i (back-few j h) p
 
 pub table-back : (t : TableParts) → length (t .guards) ≡ 2048 → SoundTable (tableBytes t) → SameTable (tableParts (tableBytes t)) t

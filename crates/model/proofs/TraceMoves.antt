@@ -11,14 +11,16 @@ use mathlib.Core.Logic.{⊎-elim}
 use lib.ListN.{length, getElem?}
 use lib.Dec.{eqb}
 use borrow.Author.Tests.{eqb-true, eq-eqb, ne-eqb}
+use Rattle.model.specs.Limits.{transitionLimit}
 use Rattle.model.specs.Monitor.{Monitor, Config, Transition, start, wait, fires, enabled, after, toUnit, airtime}
 use Rattle.model.specs.Guard.{holds}
 use Rattle.model.specs.Trace.{Packet, Spaced, PacketTrace, Carries, Possible}
 use Rattle.model.specs.Recording.{endOf}
-use Rattle.model.specs.Situation.{configOf, withAir, uncapped, firstBy, sent, triggerOf, moved, tick, stepBy, recordedAt, transitionLimit, moveLimit, moveOf}
+use Rattle.model.specs.Situation.{configOf, withAir, uncapped, firstBy, sent, triggerOf, moved, tick, stepBy, recordedAt, moveLimit, moveOf}
 use Rattle.model.specs.declared.Situation.{Situation}
 use Rattle.model.proofs.Basics.{and-left, and-right, getElem-within}
-use Rattle.model.proofs.Chains.{Moves, Sane, SaneRecording}
+use Rattle.model.specs.Sane.{Sane, SaneRecording}
+use Rattle.model.proofs.Chains.{Moves}
 use Rattle.model.proofs.Instants.{moveOf-keep, moveOf-rest, moveOf-add, recorded-here, recorded-later}
 
 -- what is recorded at an instant is in the recording

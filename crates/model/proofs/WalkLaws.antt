@@ -10,15 +10,10 @@ use mathlib.Core.Option.{Option, none, some}
 use lib.ListN.{getD}
 use lib.Dec.{ltb}
 use borrow.Author.Tests.{lt-ltb, le-ltb}
-use Rattle.model.specs.Layers.{firstFrom, layer, leadsInto, leads}
+use Rattle.model.specs.Layers.{firstFrom, layer, into, leadsInto, leads, alive}
 use Rattle.model.proofs.SetLaws.{FirstOf, firstFrom-first, firstFrom-hit, firstFrom-miss, leadsInto-member, member-within}
 use Rattle.model.proofs.LayerLaws.{layer-suc}
-use Rattle.model.proofs.LeastLaws.{alive, alive-suc, length-alive, leads-enters, leastInto, leastInto-leads}
-
--- where a step arrives, tested
-abbrev pub into : (ℕ → Bool) → Option ℕ → Bool
-into test none = false
-into test (some z) = test z
+use Rattle.model.proofs.LeastLaws.{alive-suc, length-alive, leads-enters, leastInto, leastInto-leads}
 
 -- tests that agree have the same first
 pub firstFrom-same : (f g : ℕ → Bool) (n t : ℕ) → ((i : ℕ) → i < t + n → f i ≡ g i) → firstFrom f n t ≡ firstFrom g n t

@@ -5,47 +5,29 @@ use mathlib.Core.Path.{_≡_, refl, sym, ap, ap₂, subst, _∙_}
 use mathlib.Core.List.{List, [], _∷_, _++_, append-assoc}
 use mathlib.Core.Option.{Option, none, some}
 use lib.ListN.{length, getD, getElem?}
-use lib.Dec.{leb, eqb}
+use Rattle.model.specs.Limits.{witnessLimit}
 use Rattle.model.specs.Bytes.{byteAt, wordAt, wordBytes, tab, joined}
-use Rattle.model.specs.First.{unless, firstOf}
-use Rattle.model.specs.Witness.{Row, witnessLimit, misformed, Formed, witnessCountAt, rowAt, rowsAt, badRow, witnessFrame, witnessAnswer, SoundForm, witnessParts, rowBytes, rowsBytes, witnessBytes, rowIn, rowsIn}
+use Rattle.model.specs.Witness.{Row, misformed, Formed, witnessCountAt, rowAt, rowsAt, badRow, witnessFrame, witnessAnswer, SoundForm, witnessParts, rowBytes, rowsBytes, witnessBytes, rowIn, rowsIn}
 use Rattle.model.specs.Same.{SameWitness, WitnessZero}
 use Rattle.model.specs.declared.WitnessParts.{WitnessParts}
 use Rattle.model.specs.declared.Reading.{Reading}
 use Rattle.model.specs.declared.Reading.the-variants.{Sound}
 use Rattle.model.specs.declared.Refusal.the-variants.{WitnessFrame, WitnessVersion, WitnessCount}
 use Rattle.model.proofs.Basics.{length-tab, getElem-getD}
-use Rattle.model.proofs.Tests.{test, le-test, eq-test}
+use Rattle.model.proofs.Tests.{test, FramedRows, rows-facts}
 use Rattle.model.proofs.Places.{AllBytes, Stands, stands-nil, stands-cons, stands-left, stands-right, stands-append, stands-moved, stands-self, stands-whole, word-at, word-back, getD-column, getD-column-past, stands-joined, joined-stands, length-joined, tab-same, tab-getD, stands-headed, headed-count, headed-rows}
 
 -- all that a witness in form ensures of its bytes
 pub record WitnessFacts (b : List ℕ) : Type 0 where
-  pub frame : 5 ≤ length b
-  pub framed : wordAt b 0 + 2 ≡ length b
-  pub version : byteAt b 2 ≡ 1
-  pub count : witnessCountAt b ≤ witnessLimit
-  pub sized : wordAt b 0 ≡ 3 + 5 * witnessCountAt b
+  pub rows : FramedRows b 5 witnessLimit
   pub formed : Formed (rowsAt b)
 
 pub witness-facts : (b : List ℕ) → SoundForm b → WitnessFacts b
 unfolding witnessAnswer witnessFrame
 witness-facts b e =
     let l : List Reading = witnessFrame b ∷ badRow (misformed none 0 (rowsAt b)) ∷ [] in
-    let frame : List Reading =
-    unless (leb 5 (length b)) WitnessFrame
-    ∷ unless (eqb (wordAt b 0 + 2) (length b)) WitnessFrame
-    ∷ unless (eqb (byteAt b 2) 1) WitnessVersion
-    ∷ unless (leb (witnessCountAt b) witnessLimit) WitnessCount
-    ∷ unless (eqb (wordAt b 0) (3 + 5 * witnessCountAt b)) WitnessCount
-    ∷ []
-    in
-    let f : firstOf frame ≡ Sound = test l e 0 in
     record {
-      frame = le-test _ _ WitnessFrame (test frame f 0);
-      framed = eq-test _ _ WitnessFrame (test frame f 1);
-      version = eq-test _ _ WitnessVersion (test frame f 2);
-      count = le-test _ _ WitnessCount (test frame f 3);
-      sized = eq-test _ _ WitnessCount (test frame f 4);
+      rows = rows-facts b 5 witnessLimit WitnessFrame WitnessVersion WitnessCount (test l e 0);
       formed = good (misformed none 0 (rowsAt b)) (test l e 1);
     }
   where
@@ -107,7 +89,7 @@ witness-again b all e =
     let rows : List ℕ = joined (λ i. rowBytes (rowAt b i)) n in
     witness-tab (rowAt b) n
     ∙ stands-whole b (wordBytes (3 + 5 * n) ++ (1 ∷ []) ++ wordBytes n ++ rows) (omega (arith, rows-length (rowAt b) n))
-    (stands-headed b (3 + 5 * n) n rows (word-at b 0 (3 + 5 * n) all (facts .sized)) (facts .version) (word-at b 3 n all refl)
+    (stands-headed b (3 + 5 * n) n rows (word-at b 0 (3 + 5 * n) all (facts .rows .sized)) (facts .rows .head .version) (word-at b 3 n all refl)
     (stands-joined (λ i. rowBytes (rowAt b i)) b 5 n
     (λ i h. stands-moved b (5 + 5 * i) (5 + length (joined (λ i. rowBytes (rowAt b i)) i)) (rowBytes (rowAt b i)) (omega (arith, rows-length (rowAt b) i)) (row-stands b i all))))
 

@@ -4,16 +4,18 @@ use mathlib.Core.Path.{_≡_}
 use mathlib.Core.Logic.{_↔_}
 use mathlib.Core.List.{List, [], _∷_, List·Memᴰ}
 use mathlib.Core.Bool.{true, cond}
-use mathlib.Core.Option.{some}
+use mathlib.Core.Option.{Option, some}
 use lib.ListN.{length}
 use Rattle.model.specs.Monitor.{Monitor, Config, start, wait, fires, toUnit}
 use Rattle.model.specs.Trace.{Packet, PacketTrace, Possible}
 use Rattle.model.specs.Size.{size}
+use Rattle.model.specs.Situation.{Move, capped, firstBy, stepBy, InRange, number, situationOf}
 use Rattle.model.specs.Recording.{endOf}
 use Rattle.model.specs.Witness.{Row, added, removed, isRemoved}
 use Rattle.model.specs.Order.{Preferred}
 use Rattle.model.specs.Layers.{count}
 use Rattle.model.specs.Validation.{costOf, totalOf, possibleAfter, preferred}
+use Rattle.model.specs.declared.Situation.{Situation}
 use Rattle.model.specs.declared.Verdict.{Verdict}
 use Rattle.model.specs.declared.Verdict.the-variants.{Accepted, Rejected, Exhausted, Refused}
 use lib.Dec.{eqb}
@@ -90,6 +92,15 @@ ValuesOf m recording budget (Rejected cost instant) = (cost ≡ costOf m recordi
 ValuesOf m recording budget (Exhausted limit instant) = (limit ≡ budget) × FirstPast m recording budget instant
 ValuesOf m recording budget (Refused r) = ⊥
 
+-- "The work of an instant is the number of distinct situations": a situation of the table and its number, which is below N, determine each other, and each
+-- possible situation is one of the table. So counting numbers counts situations
+pub record Numbered (m : Monitor) : Type 0 where
+  pub below : (s : Situation) → InRange m s → number m s < size m
+  pub back : (s : Situation) → InRange m s → situationOf m (number m s) ≡ s
+  pub forth : (n : ℕ) → n < size m → (number m (situationOf m n) ≡ n) × InRange m (situationOf m n)
+  pub first : InRange m (firstBy (capped m))
+  pub step : (recorded : Option ℕ) (a : Move) (s x : Situation) → InRange m s → stepBy m (capped m) recorded s a ≡ some x → InRange m x
+
 -- "exhausted exactly when the cost is above the budget; within budget accepted exactly when some mutation trace of any length, at any positive times, satisfies the
 -- monitor, else rejected; [..] the preferred witness is permitted, has no row after the last recorded time, and comes before every other such one. A budget of T
 -- times N always suffices"
@@ -101,3 +112,4 @@ pub record Judged (m : Monitor) (recording : List Packet) (budget : ℕ) (v : Ve
   pub witnessed : IsAccepted v → Preferred m recording (preferred m recording)
   pub short : length (preferred m recording) ≤ endOf recording + length recording
   pub bounded : costOf m recording ≤ endOf recording * size m
+  pub distinct : Numbered m

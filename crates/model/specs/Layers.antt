@@ -20,9 +20,13 @@ abbrev pub mark : List Bool → Option ℕ → List Bool
 mark s none = s
 mark s (some n) = set s n true
 
+-- where a step arrives, tested
+abbrev pub into : (ℕ → Bool) → Option ℕ → Bool
+into test none = false
+into test (some n) = test n
+
 abbrev pub leadsInto : List Bool → Option ℕ → Bool
-leadsInto s none = false
-leadsInto s (some n) = getD s n false
+leadsInto s o = into (λ n. getD s n false) o
 
 -- the first of t, t + 1, .. (n of them) at which a test passes; t + n if none
 unfoldable pub firstFrom : (ℕ → Bool) → ℕ → ℕ → ℕ
@@ -77,6 +81,10 @@ module _ (N K : ℕ) (step : ℕ → ℕ → ℕ → Option ℕ) where
       earlier u [] = []
       earlier u (s ∷ ss) = tab (λ n. leads s u n K) N ∷ s ∷ ss
 
+  -- those after instant t, with left instants to go
+  abbrev pub alive : (left t : ℕ) → List Bool
+  alive left t = getD (live left t) 0 []
+
   abbrev pub arrived : Option ℕ → ℕ
   arrived none = 0
   arrived (some n) = n
@@ -92,6 +100,10 @@ module _ (N K : ℕ) (step : ℕ → ℕ → ℕ → Option ℕ) where
   later [] = []
   later (s ∷ ss) = ss
 
+  -- the least moves from n after instant t, with left instants to go
+  abbrev pub leastFrom : (left t n : ℕ) → List ℕ
+  leastFrom left t n = walk (later (live left t)) t n
+
   -- the least list of T moves that can be carried from the first situation to the end
   unfoldable pub leastMoves : (first T : ℕ) → List ℕ
-  leastMoves first T = walk (later (live T 0)) 0 first
+  leastMoves first T = leastFrom T 0 first

@@ -1,5 +1,7 @@
+pub mod Limits
 pub mod Bytes
 pub mod First
+pub mod Frame
 pub mod Guard
 pub mod Monitor
 pub mod Trace
@@ -11,9 +13,11 @@ pub mod Witness
 pub mod Same
 pub mod Rules
 pub mod Situation
+pub mod Sane
 pub mod Layers
 pub mod Order
 pub mod Validation
 pub mod Numbers
+pub mod Answers
 pub mod Desk
 pub mod Claims

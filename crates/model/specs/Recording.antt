@@ -5,8 +5,10 @@ use mathlib.Core.List.{List, [], _∷_, _++_}
 use mathlib.Core.Bool.{Bool, true, cond}
 use lib.ListN.{length, getD, replicate}
 use lib.Dec.{leb, ltb, eqb}
+use Rattle.model.specs.Limits.{rowLimit, timeLimit}
 use Rattle.model.specs.Bytes.{byteAt, wordAt, wordBytes, tab, joined, padded}
 use Rattle.model.specs.First.{unless, firstOf, isSound}
+use Rattle.model.specs.Frame.{framedRows, rowsFrame}
 use Rattle.model.specs.Room.{Lent, write}
 use Rattle.model.specs.Monitor.{airtime}
 use Rattle.model.specs.Trace.{Packet}
@@ -18,12 +20,6 @@ use Rattle.model.specs.declared.Reading.the-variants.{Sound}
 use Rattle.model.specs.declared.Refusal.the-variants.{RecordingFrame, RecordingVersion, RecordingCount, RecordingRange, RecordingOrder}
 
 -- "two-byte count n (0 to 512), then n rows of two-byte time (1 to 4,096) and kind"
-abbrev pub rowLimit : ℕ
-rowLimit = 512
-
-abbrev pub lastTime : ℕ
-lastTime = 4096
-
 abbrev pub countAt : List ℕ → ℕ
 countAt b = wordAt b 3
 
@@ -43,7 +39,7 @@ unfoldable pub recordedRow : List ℕ → List ℕ → ℕ → Reading
 recordedRow table b i =
     firstOf
     (unless (leb 1 (timeAt b i)) (RecordingRange i)
-    ∷ unless (leb (timeAt b i) lastTime) (RecordingRange i)
+    ∷ unless (leb (timeAt b i) timeLimit) (RecordingRange i)
     ∷ unless (ltb (rowKindAt b i) (kindsAt table)) (RecordingRange i)
     ∷ unless (clearOfBefore table b i) (RecordingOrder i)
     ∷ [])
@@ -53,29 +49,28 @@ unfoldable pub recordedRows : ℕ → List ℕ → List ℕ → ℕ → Reading
 recordedRows zero table b i = Sound
 recordedRows (suc n) table b i = firstOf (recordedRow table b i ∷ recordedRows n table b (suc i) ∷ [])
 
--- the table's numbers, then 20 to 24
+-- 20, 21 and 22
+unfoldable pub recordingFrame : List ℕ → Reading
+recordingFrame b = framedRows b 3 rowLimit RecordingFrame RecordingVersion RecordingCount
+
+-- 20 to 24, the recording's own numbers
+unfoldable pub recordingScan : List ℕ → List ℕ → Reading
+recordingScan table b = firstOf (recordingFrame b ∷ recordedRows (countAt b) table b 0 ∷ [])
+
+-- the table's numbers, then the recording's
 unfoldable pub recordingAnswer : List ℕ → List ℕ → Reading
-recordingAnswer table b =
-    firstOf
-    (tableAnswer table
-    ∷ unless (leb 5 (length b)) RecordingFrame
-    ∷ unless (eqb (wordAt b 0 + 2) (length b)) RecordingFrame
-    ∷ unless (eqb (byteAt b 2) 1) RecordingVersion
-    ∷ unless (leb (countAt b) rowLimit) RecordingCount
-    ∷ unless (eqb (wordAt b 0) (3 + 3 * countAt b)) RecordingCount
-    ∷ recordedRows (countAt b) table b 0
-    ∷ [])
+recordingAnswer table b = firstOf (tableAnswer table ∷ recordingScan table b ∷ [])
 
 unfoldable pub recordingParts : List ℕ → RecordingParts
 recordingParts b =
     record {
       count = countAt b;
-      times = padded 512 (tab (timeAt b) (countAt b));
-      kinds = padded 512 (tab (rowKindAt b) (countAt b));
+      times = padded rowLimit (tab (timeAt b) (countAt b));
+      kinds = padded rowLimit (tab (rowKindAt b) (countAt b));
     }
 
 unfoldable pub noRecording : RecordingParts
-noRecording = record { count = 0; times = replicate 512 0; kinds = replicate 512 0 }
+noRecording = record { count = 0; times = replicate rowLimit 0; kinds = replicate rowLimit 0 }
 
 unfoldable pub readRecording : List ℕ → List ℕ → RecordingReading
 readRecording table b =
@@ -101,20 +96,19 @@ endOf (p ∷ q ∷ r) = endOf (q ∷ r)
 
 -- the bytes of parts
 
-abbrev pub rowBytes : RecordingParts → ℕ → List ℕ
-rowBytes r i = wordBytes (getD (r .times) i 0) ++ (getD (r .kinds) i 0 ∷ [])
+abbrev pub recordedBytes : (times kinds : List ℕ) → ℕ → List ℕ
+recordedBytes times kinds i = wordBytes (getD times i 0) ++ (getD kinds i 0 ∷ [])
 
 unfoldable pub recordingBytes : RecordingParts → List ℕ
-recordingBytes r = wordBytes (3 + 3 * r .count) ++ (1 ∷ []) ++ wordBytes (r .count) ++ joined (rowBytes r) (r .count)
+recordingBytes r = rowsFrame 3 (r .count) ++ joined (recordedBytes (r .times) (r .kinds)) (r .count)
 
--- writing: the table's numbers; 22 for a count outside its limits; the numbers that reading the same bytes would give
+-- writing: the table's numbers, then 22 for a count outside its limits
+unfoldable pub recordingEarly : List ℕ → (count : ℕ) → Reading
+recordingEarly table count = firstOf (tableAnswer table ∷ unless (leb count rowLimit) RecordingCount ∷ [])
+
+-- .. then the numbers that reading the same bytes would give
 unfoldable pub recordingWritable : List ℕ → RecordingParts → Reading
-recordingWritable table r =
-    firstOf
-    (tableAnswer table
-    ∷ unless (leb (r .count) rowLimit) RecordingCount
-    ∷ recordingAnswer table (recordingBytes r)
-    ∷ [])
+recordingWritable table r = firstOf (recordingEarly table (r .count) ∷ recordingAnswer table (recordingBytes r) ∷ [])
 
 unfoldable pub writeRecording : List ℕ → RecordingParts → List ℕ → Lent
 writeRecording table r room = write (recordingWritable table r) (recordingBytes r) room

@@ -6,12 +6,13 @@ use mathlib.Core.Bool.{Bool, true, false, cond, not, _&&_}
 use mathlib.Core.Option.{Option, none, some, Option·map}
 use lib.ListN.{length}
 use lib.Dec.{leb, eqb}
+use Rattle.model.specs.Limits.{witnessLimit}
 use Rattle.model.specs.First.{firstOf}
 use Rattle.model.specs.Monitor.{Monitor, Config, start, wait, fires, toUnit, airtime}
 use Rattle.model.specs.Trace.{Packet}
 use Rattle.model.specs.Table.{monitorAt}
 use Rattle.model.specs.Recording.{recordingAnswer, packetsAt}
-use Rattle.model.specs.Witness.{Row, kept, isRemoved, inPlace, rowsAt, badRow, witnessFrame, witnessLimit}
+use Rattle.model.specs.Witness.{Row, kept, isRemoved, inPlace, rowsAt, badRow, witnessFrame}
 use Rattle.model.specs.declared.Reading.{Reading}
 use Rattle.model.specs.declared.Reading.the-variants.{Sound, Unsound}
 use Rattle.model.specs.declared.Checking.{Checking}

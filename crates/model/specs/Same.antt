@@ -3,6 +3,7 @@
 use Prim.Native.Nat.{ℕ, _+_, _*_, _<_, _≤_}
 use mathlib.Core.Path.{_≡_}
 use mathlib.Core.List.{List}
+use Rattle.model.specs.Limits.{guardLimit}
 use Rattle.model.specs.Bytes.{byteAt}
 use Rattle.model.specs.declared.TableParts.{TableParts}
 use Rattle.model.specs.declared.RecordingParts.{RecordingParts}
@@ -32,7 +33,7 @@ pub record SameTable (t u : TableParts) : Type 0 where
   pub clears : Agree (u .transitions) (t .clears) (u .clears)
   pub resets : Agree (u .transitions) (t .resets) (u .resets)
   pub lengths : Agree (u .transitions) (t .lengths) (u .lengths)
-  pub guards : (j : ℕ) → j < u .transitions → (i : ℕ) → i < byteAt (u .lengths) j → byteAt (t .guards) (32 * j + i) ≡ byteAt (u .guards) (32 * j + i)
+  pub guards : (j : ℕ) → j < u .transitions → (i : ℕ) → i < byteAt (u .lengths) j → byteAt (t .guards) (guardLimit * j + i) ≡ byteAt (u .guards) (guardLimit * j + i)
 
 -- a table's parts are 0 beyond its counts and guard lengths
 pub record TableZero (t : TableParts) : Type 0 where
@@ -45,8 +46,8 @@ pub record TableZero (t : TableParts) : Type 0 where
   pub clears : Zero (t .transitions) (t .clears)
   pub resets : Zero (t .transitions) (t .resets)
   pub lengths : Zero (t .transitions) (t .lengths)
-  pub guards : (j : ℕ) → j < t .transitions → (i : ℕ) → byteAt (t .lengths) j ≤ i → i < 32 → byteAt (t .guards) (32 * j + i) ≡ 0
-  pub no-guards : Zero (32 * t .transitions) (t .guards)
+  pub guards : (j : ℕ) → j < t .transitions → (i : ℕ) → byteAt (t .lengths) j ≤ i → i < guardLimit → byteAt (t .guards) (guardLimit * j + i) ≡ 0
+  pub no-guards : Zero (guardLimit * t .transitions) (t .guards)
 
 pub record SameRecording (r s : RecordingParts) : Type 0 where
   pub count : r .count ≡ s .count

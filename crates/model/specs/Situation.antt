@@ -1,13 +1,15 @@
 -- Situations, their numbers, and moves (document 01, "Situations, cost and preference").
-use Prim.Native.Nat.{ℕ, _+_, _-_, _*_, _/_, _%_, _^_, min}
+use Prim.Native.Nat.{ℕ, _+_, _-_, _*_, _/_, _%_, _^_, _<_, _≤_, min}
+use mathlib.Core.Path.{_≡_}
 use mathlib.Core.List.{List, [], _∷_, map}
 use mathlib.Core.Bool.{true, false, cond, not, _&&_}
 use mathlib.Core.Option.{Option, none, some, Option·map, bind}
 use lib.ListN.{getD, getElem?}
 use lib.Dec.{ltb, eqb}
+use Rattle.model.specs.Limits.{transitionLimit}
 use Rattle.model.specs.Monitor.{Monitor, Config, fires, toUnit, airtime}
 use Rattle.model.specs.Trace.{Packet}
-use Rattle.model.specs.Size.{cap}
+use Rattle.model.specs.Size.{cap, largestAirtime}
 use Rattle.model.specs.declared.Situation.{Situation}
 
 abbrev pub configOf : Situation → Config
@@ -22,6 +24,10 @@ capped m c = min (getD c 0 0) (cap m 0) ∷ min (getD c 1 0) (cap m 1) ∷ []
 
 abbrev pub uncapped : List ℕ → List ℕ
 uncapped c = c
+
+-- a list of two clocks, one for each place of the format
+abbrev pub TwoClocks : List ℕ → Type 0
+TwoClocks c = c ≡ getD c 0 0 ∷ getD c 1 0 ∷ []
 
 -- "Just before instant 1 one situation is possible: state 0, variables false, clocks 1, air 0"
 abbrev pub firstBy : (List ℕ → List ℕ) → Situation
@@ -63,16 +69,28 @@ unfoldable pub recordedAt : List Packet → ℕ → Option ℕ
 recordedAt [] t = none
 recordedAt (p ∷ ps) t = elim (eqb (p .time) t) [ true ↦ some (p .kind) | false ↦ recordedAt ps t ]
 
--- moves as numbers, the preferred first: a table has at most 64 transitions
+-- moves as numbers, the preferred first: keep by each transition that a table can have, nothing, add by each transition
 
-abbrev pub transitionLimit : ℕ
-transitionLimit = 64
+abbrev pub restMove : ℕ
+restMove = transitionLimit
+
+abbrev pub firstAdd : ℕ
+firstAdd = restMove + 1
 
 abbrev pub moveLimit : ℕ
-moveLimit = 129
+moveLimit = firstAdd + transitionLimit
 
 unfoldable pub moveOf : ℕ → Move
-moveOf n = cond (ltb n transitionLimit) (keep n) (cond (eqb n transitionLimit) rest (add (n - 65)))
+moveOf n = cond (ltb n restMove) (keep n) (cond (eqb n restMove) rest (add (n - firstAdd)))
+
+-- a situation of the table: a state, variables and two clocks as they are written, and at most A ticks of taken air
+pub record InRange (m : Monitor) (s : Situation) : Type 0 where
+  pub state : s .state < m .states
+  pub variables : s .variables < 2 ^ (m .variables)
+  pub clocks : TwoClocks (s .clocks)
+  pub first : getD (s .clocks) 0 0 ≤ cap m 0
+  pub second : getD (s .clocks) 1 0 ≤ cap m 1
+  pub air : s .air ≤ largestAirtime m
 
 -- situations as numbers below N, and back: state, variables, clocks, air, the first the lowest digit
 

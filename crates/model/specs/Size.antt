@@ -30,10 +30,6 @@ cap m i = cond (ltb i (m .clocks)) (largestBound m i + 1) 0
 unfoldable pub size : Monitor → ℕ
 size m = m .states * (2 ^ (m .variables) * ((cap m 0 + 1) * ((cap m 1 + 1) * (largestAirtime m + 1))))
 
--- "S being N/8 rounded up"
-abbrev pub rowBytes : ℕ → ℕ
-rowBytes n = (n + 7) / 8
-
--- "it must be at most 65,536"
-abbrev pub sizeLimit : ℕ
-sizeLimit = 65536
+-- "S being N/8 rounded up": the bytes of a set of situations
+abbrev pub setBytes : ℕ → ℕ
+setBytes n = (n + 7) / 8

@@ -5,12 +5,14 @@ use mathlib.Core.Bool.{Bool, true, cond, not, _&&_}
 use lib.ListN.{length, getD, take, drop, replicate}
 use lib.Dec.{leb, ltb, eqb}
 use mathlib.Core.Path.{_≡_}
-use Rattle.model.specs.Bytes.{byteAt, wordAt, wordBytes, tab, joined, padded}
+use Rattle.model.specs.Limits.{stateLimit, variableLimit, clockLimit, kindLimit, transitionLimit, airtimeLimit, guardLimit, sizeLimit}
+use Rattle.model.specs.Bytes.{byteAt, wordBytes, tab, joined, padded}
 use Rattle.model.specs.First.{unless, firstOf, isSound}
+use Rattle.model.specs.Frame.{framed}
 use Rattle.model.specs.Guard.{Guard, guardAt, endsAt, guardOf}
 use Rattle.model.specs.Monitor.{Monitor, Transition}
 use Rattle.model.specs.Room.{Lent, write}
-use Rattle.model.specs.Size.{size, sizeLimit}
+use Rattle.model.specs.Size.{size}
 use Rattle.model.specs.declared.TableParts.{TableParts}
 use Rattle.model.specs.declared.TableReading.{TableReading}
 use Rattle.model.specs.declared.Reading.{Reading}
@@ -20,7 +22,7 @@ use Rattle.model.specs.declared.Refusal.the-variants.{TableFrame, TableV
 -- the monitor of a table's parts
 
 unfoldable pub guardIn : TableParts → ℕ → Guard
-guardIn t j = guardOf (guardAt 32 (t .variables) (t .clocks) (t .guards) (32 * j) (32 * j + getD (t .lengths) j 0))
+guardIn t j = guardOf (guardAt guardLimit (t .variables) (t .clocks) (t .guards) (guardLimit * j) (guardLimit * j + getD (t .lengths) j 0))
 
 unfoldable pub transitionIn : TableParts → ℕ → Transition
 transitionIn t j =
@@ -63,17 +65,20 @@ abbrev pub transitionsAt : List ℕ → ℕ
 transitionsAt b = byteAt b 7
 
 -- "number of states (1 to 16), variables (0 to 4), clocks (0 to 2), kinds (1 to 32), transitions (0 to 64)"; "Counts go front to back"
-unfoldable pub tableCounts : List ℕ → Reading
-tableCounts b =
+unfoldable pub countsOf : (states variables clocks kinds transitions : ℕ) → Reading
+countsOf states variables clocks kinds transitions =
     firstOf
-    (unless (leb 1 (statesAt b)) (TableCount 3)
-    ∷ unless (leb (statesAt b) 16) (TableCount 3)
-    ∷ unless (leb (variablesAt b) 4) (TableCount 4)
-    ∷ unless (leb (clocksAt b) 2) (TableCount 5)
-    ∷ unless (leb 1 (kindsAt b)) (TableCount 6)
-    ∷ unless (leb (kindsAt b) 32) (TableCount 6)
-    ∷ unless (leb (transitionsAt b) 64) (TableCount 7)
+    (unless (leb 1 states) (TableCount 3)
+    ∷ unless (leb states stateLimit) (TableCount 3)
+    ∷ unless (leb variables variableLimit) (TableCount 4)
+    ∷ unless (leb clocks clockLimit) (TableCount 5)
+    ∷ unless (leb 1 kinds) (TableCount 6)
+    ∷ unless (leb kinds kindLimit) (TableCount 6)
+    ∷ unless (leb transitions transitionLimit) (TableCount 7)
     ∷ [])
+
+abbrev pub tableCounts : List ℕ → Reading
+tableCounts b = countsOf (statesAt b) (variablesAt b) (clocksAt b) (kindsAt b) (transitionsAt b)
 
 -- "per kind: direction (0 from the unit, 1 to it) and airtime (0 to 15)"
 unfoldable pub kindRecord : List ℕ → ℕ → Reading
@@ -81,7 +86,7 @@ kindRecord b at =
     firstOf
     (unless (leb (at + 2) (length b)) (TableLength at)
     ∷ unless (leb (byteAt b at) 1) (TableField at)
-    ∷ unless (leb (byteAt b (at + 1)) 15) (TableField at)
+    ∷ unless (leb (byteAt b (at + 1)) airtimeLimit) (TableField at)
     ∷ [])
 
 -- the n kind records from an offset on
@@ -111,16 +116,23 @@ transitionFields b at =
     ∷ unless (apart (variablesAt b) (byteAt b (at + 3)) (byteAt b (at + 4))) (TableField at)
     ∷ [])
 
+-- the guard of the record at an offset: its length, its bytes and its form
+unfoldable pub guardRecord : List ℕ → ℕ → Reading
+guardRecord b at =
+    firstOf
+    (unless (leb 1 (guardLengthAt b at)) (TableGuard at)
+    ∷ unless (leb (guardLengthAt b at) guardLimit) (TableGuard at)
+    ∷ unless (leb (at + 7 + guardLengthAt b at) (length b)) (TableLength at)
+    ∷ unless (endsAt (guardAt guardLimit (variablesAt b) (clocksAt b) b (at + 7) (at + 7 + guardLengthAt b at)) (at + 7 + guardLengthAt b at)) (TableGuard at)
+    ∷ [])
+
 -- "each: seven or two bytes present (13), fields (14), guard length (15), guard present (13), guard form (15)"
 unfoldable pub transitionRecord : List ℕ → ℕ → Reading
 transitionRecord b at =
     firstOf
     (unless (leb (at + 7) (length b)) (TableLength at)
     ∷ transitionFields b at
-    ∷ unless (leb 1 (guardLengthAt b at)) (TableGuard at)
-    ∷ unless (leb (guardLengthAt b at) 32) (TableGuard at)
-    ∷ unless (leb (at + 7 + guardLengthAt b at) (length b)) (TableLength at)
-    ∷ unless (endsAt (guardAt 32 (variablesAt b) (clocksAt b) b (at + 7) (at + 7 + guardLengthAt b at)) (at + 7 + guardLengthAt b at)) (TableGuard at)
+    ∷ guardRecord b at
     ∷ [])
 
 -- the n transition records from an offset on, and no byte behind them
@@ -139,14 +151,14 @@ transitionAt b (suc j) = transitionAt b j + 7 + guardLengthAt b (transitionAt b 
 -- the parts of sound bytes
 
 abbrev pub kindColumn : List ℕ → ℕ → List ℕ
-kindColumn b field = padded 32 (tab (λ i. byteAt b (kindAt i + field)) (kindsAt b))
+kindColumn b field = padded kindLimit (tab (λ i. byteAt b (kindAt i + field)) (kindsAt b))
 
 abbrev pub transitionColumn : List ℕ → ℕ → List ℕ
-transitionColumn b field = padded 64 (tab (λ j. byteAt b (transitionAt b j + field)) (transitionsAt b))
+transitionColumn b field = padded transitionLimit (tab (λ j. byteAt b (transitionAt b j + field)) (transitionsAt b))
 
--- guard j in its 32 places
+-- guard j in its places
 unfoldable pub guardPlace : List ℕ → ℕ → List ℕ
-guardPlace b j = padded 32 (take (guardLengthAt b (transitionAt b j)) (drop (transitionAt b j + 7) b))
+guardPlace b j = padded guardLimit (take (guardLengthAt b (transitionAt b j)) (drop (transitionAt b j + 7) b))
 
 unfoldable pub tableParts : List ℕ → TableParts
 tableParts b =
@@ -165,7 +177,7 @@ tableParts b =
       clears = transitionColumn b 4;
       resets = transitionColumn b 5;
       lengths = transitionColumn b 6;
-      guards = padded 2048 (joined (guardPlace b) (transitionsAt b));
+      guards = padded (guardLimit * transitionLimit) (joined (guardPlace b) (transitionsAt b));
     }
 
 -- "in a refused reading every number of the parts is 0"
@@ -177,28 +189,33 @@ noTable =
       clocks = 0;
       kinds = 0;
       transitions = 0;
-      directions = replicate 32 0;
-      airtimes = replicate 32 0;
-      sources = replicate 64 0;
-      targets = replicate 64 0;
-      triggers = replicate 64 0;
-      sets = replicate 64 0;
-      clears = replicate 64 0;
-      resets = replicate 64 0;
-      lengths = replicate 64 0;
-      guards = replicate 2048 0;
+      directions = replicate kindLimit 0;
+      airtimes = replicate kindLimit 0;
+      sources = replicate transitionLimit 0;
+      targets = replicate transitionLimit 0;
+      triggers = replicate transitionLimit 0;
+      sets = replicate transitionLimit 0;
+      clears = replicate transitionLimit 0;
+      resets = replicate transitionLimit 0;
+      lengths = replicate transitionLimit 0;
+      guards = replicate (guardLimit * transitionLimit) 0;
     }
+
+-- the numbers 10 to 15: length and version, counts, records
+unfoldable pub tableScan : List ℕ → Reading
+tableScan b =
+    firstOf
+    (framed b 8 TableFrame TableVersion
+    ∷ tableCounts b
+    ∷ kindRecords (kindsAt b) b (kindAt 0)
+    ∷ transitionRecords (transitionsAt b) b (kindAt (kindsAt b))
+    ∷ [])
 
 -- the numbers 10 to 16, in their order
 unfoldable pub tableAnswer : List ℕ → Reading
 tableAnswer b =
     firstOf
-    (unless (leb 8 (length b)) TableFrame
-    ∷ unless (eqb (wordAt b 0 + 2) (length b)) TableFrame
-    ∷ unless (eqb (byteAt b 2) 1) TableVersion
-    ∷ tableCounts b
-    ∷ kindRecords (kindsAt b) b (kindAt 0)
-    ∷ transitionRecords (transitionsAt b) b (kindAt (kindsAt b))
+    (tableScan b
     ∷ unless (leb (size (monitorOf (tableParts b))) sizeLimit) TableSize
     ∷ [])
 
@@ -218,21 +235,31 @@ monitorAt b = monitorOf (tableParts b)
 abbrev pub kindBytes : TableParts → ℕ → List ℕ
 kindBytes t i = getD (t .directions) i 0 ∷ getD (t .airtimes) i 0 ∷ []
 
-abbrev pub transitionBytes : TableParts → ℕ → List ℕ
-transitionBytes t j =
-    (getD (t .sources) j 0
+-- the seven bytes before the guard of transition j
+abbrev pub fieldBytes : TableParts → ℕ → List ℕ
+fieldBytes t j =
+    getD (t .sources) j 0
     ∷ getD (t .targets) j 0
     ∷ getD (t .triggers) j 0
     ∷ getD (t .sets) j 0
     ∷ getD (t .clears) j 0
     ∷ getD (t .resets) j 0
     ∷ getD (t .lengths) j 0
-    ∷ [])
-    ++ take (getD (t .lengths) j 0) (take 32 (drop (32 * j) (t .guards)))
+    ∷ []
+
+-- the bytes of guard j that its length covers
+abbrev pub guardBytesIn : (guards : List ℕ) → (count j : ℕ) → List ℕ
+guardBytesIn guards count j = take count (take guardLimit (drop (guardLimit * j) guards))
+
+abbrev pub transitionBytes : TableParts → ℕ → List ℕ
+transitionBytes t j = fieldBytes t j ++ guardBytesIn (t .guards) (getD (t .lengths) j 0) j
+
+-- version and counts
+abbrev pub countBytes : TableParts → List ℕ
+countBytes t = 1 ∷ t .states ∷ t .variables ∷ t .clocks ∷ t .kinds ∷ t .transitions ∷ []
 
 unfoldable pub tableBody : TableParts → List ℕ
-tableBody t =
-    (1 ∷ t .states ∷ t .variables ∷ t .clocks ∷ t .kinds ∷ t .transitions ∷ []) ++ joined (kindBytes t) (t .kinds) ++ joined (transitionBytes t) (t .transitions)
+tableBody t = countBytes t ++ joined (kindBytes t) (t .kinds) ++ joined (transitionBytes t) (t .transitions)
 
 unfoldable pub tableBytes : TableParts → List ℕ
 tableBytes t = wordBytes (length (tableBody t)) ++ tableBody t

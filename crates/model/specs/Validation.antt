@@ -1,5 +1,6 @@
 -- Validation: the verdict, and what scratch and room hold afterwards, for any bytes and any lengths.
 use Prim.Native.Nat.{ℕ, suc, _+_, _*_}
+use mathlib.Core.Path.{_≡_}
 use mathlib.Core.List.{List, [], _∷_, _++_}
 use mathlib.Core.Bool.{Bool, true, false}
 use mathlib.Core.Option.{Option, none, some}
@@ -9,10 +10,10 @@ use Rattle.model.specs.First.{unless, firstOf}
 use Rattle.model.specs.Room.{over}
 use Rattle.model.specs.Monitor.{Monitor}
 use Rattle.model.specs.Trace.{Packet}
-use Rattle.model.specs.Size.{size, rowBytes}
+use Rattle.model.specs.Size.{size, setBytes}
 use Rattle.model.specs.Table.{monitorAt}
 use Rattle.model.specs.Recording.{recordingAnswer, packetsAt, endOf}
-use Rattle.model.specs.Witness.{Row, kept, removed, added, noTransition, witnessBytes}
+use Rattle.model.specs.Witness.{Row, kept, removed, added, noTransition, marked, witnessBytes}
 use Rattle.model.specs.Situation.{Move, keep, rest, add, moveOf, moveLimit, recordedAt, triggerOf, stepNumber, firstNumber}
 use Rattle.model.specs.Layers as L
 use Rattle.model.specs.declared.Reading.{Reading}
@@ -25,21 +26,28 @@ use Rattle.model.specs.declared.Refusal.the-variants.{Scratch, WitnessRo
 
 abbrev pub keptRow : ℕ → Option ℕ → ℕ → List Row
 keptRow t none j = []
-keptRow t (some k) j = record { mark = kept; time = t; kind = k; transition = j } ∷ []
+keptRow t (some k) j = marked kept t k j ∷ []
 
 abbrev pub removedRow : ℕ → Option ℕ → List Row
 removedRow t none = []
-removedRow t (some k) = record { mark = removed; time = t; kind = k; transition = noTransition } ∷ []
+removedRow t (some k) = marked removed t k noTransition ∷ []
 
 abbrev pub addedRow : ℕ → Option ℕ → ℕ → List Row
 addedRow t none j = []
-addedRow t (some k) j = record { mark = added; time = t; kind = k; transition = j } ∷ []
+addedRow t (some k) j = marked added t k j ∷ []
 
 -- what one move at instant t, with a row recorded there or not, comes to
 unfoldable pub rowsBy : Monitor → Option ℕ → ℕ → Move → List Row
 rowsBy m recorded t (keep j) = keptRow t recorded j
 rowsBy m recorded t rest = removedRow t recorded
 rowsBy m recorded t (add j) = removedRow t recorded ++ addedRow t (triggerOf m j) j
+
+-- a move has what its rows name: a recorded row to keep, a transition of the table to add by
+abbrev pub HasRows : Monitor → Option ℕ → Move → Type 0
+HasRows m none (keep j) = ⊥
+HasRows m (some k) (keep j) = Unit {0}
+HasRows m recorded rest = Unit {0}
+HasRows m recorded (add j) = (a : ℕ) × (triggerOf m j ≡ some a)
 
 -- the rows of a list of moves, the first at instant t
 unfoldable pub rowsOf : Monitor → List Packet → ℕ → List ℕ → List Row
@@ -85,7 +93,7 @@ verdict m recording budget =
 -- "scratch below (T+1) x S", "witness room below 5 + 5(T+n)"
 
 abbrev pub scratchWanted : List ℕ → List ℕ → ℕ
-scratchWanted table recording = (endOf (packetsAt recording) + 1) * rowBytes (size (monitorAt table))
+scratchWanted table recording = (endOf (packetsAt recording) + 1) * setBytes (size (monitorAt table))
 
 abbrev pub roomWanted : List ℕ → ℕ
 roomWanted recording = 5 + 5 * (endOf (packetsAt recording) + length (packetsAt recording))

@@ -6,10 +6,11 @@ use mathlib.Core.Bool.{Bool, true, false, cond, not, _&&_, _||_}
 use mathlib.Core.Option.{Option, none, some}
 use lib.ListN.{length, getD, replicate}
 use lib.Dec.{leb, ltb, eqb}
+use Rattle.model.specs.Limits.{timeLimit, witnessLimit}
 use Rattle.model.specs.Bytes.{byteAt, wordAt, wordBytes, tab, padded}
 use Rattle.model.specs.First.{unless, firstOf, isSound}
+use Rattle.model.specs.Frame.{framedRows, rowsFrame}
 use Rattle.model.specs.Room.{Lent, write}
-use Rattle.model.specs.Recording.{lastTime}
 use Rattle.model.specs.declared.WitnessParts.{WitnessParts}
 use Rattle.model.specs.declared.WitnessReading.{WitnessReading}
 use Rattle.model.specs.declared.Reading.{Reading}
@@ -35,16 +36,16 @@ added = 2
 abbrev pub noTransition : ℕ
 noTransition = 255
 
--- "two-byte count (0 to 4,608)"
-abbrev pub witnessLimit : ℕ
-witnessLimit = 4608
+-- a row by its four fields
+abbrev pub marked : (mark time kind transition : ℕ) → Row
+marked mark time kind transition = record { mark = mark; time = time; kind = kind; transition = transition }
 
 abbrev pub isRemoved : Row → Bool
 isRemoved r = eqb (r .mark) removed
 
 -- a row by itself
 unfoldable pub inForm : Row → Bool
-inForm r = leb (r .mark) 2 && leb 1 (r .time) && leb (r .time) lastTime && (not (isRemoved r) || eqb (r .transition) noTransition)
+inForm r = leb (r .mark) added && leb 1 (r .time) && leb (r .time) timeLimit && (not (isRemoved r) || eqb (r .transition) noTransition)
 
 -- "Times do not fall; at one time at most a removed row and then an added row, and these two differ in kind"
 unfoldable pub follows : Row → Row → Bool
@@ -87,14 +88,7 @@ badRow (some i) = Unsound (WitnessRow i)
 
 -- 40, 41 and 42
 unfoldable pub witnessFrame : List ℕ → Reading
-witnessFrame b =
-    firstOf
-    (unless (leb 5 (length b)) WitnessFrame
-    ∷ unless (eqb (wordAt b 0 + 2) (length b)) WitnessFrame
-    ∷ unless (eqb (byteAt b 2) 1) WitnessVersion
-    ∷ unless (leb (witnessCountAt b) witnessLimit) WitnessCount
-    ∷ unless (eqb (wordAt b 0) (3 + 5 * witnessCountAt b)) WitnessCount
-    ∷ [])
+witnessFrame b = framedRows b 5 witnessLimit WitnessFrame WitnessVersion WitnessCount
 
 -- the form alone: 40 to 42, then 43 for the first row that breaks it
 unfoldable pub witnessAnswer : List ℕ → Reading
@@ -107,20 +101,20 @@ unfoldable pub witnessParts : List ℕ → WitnessParts
 witnessParts b =
     record {
       count = witnessCountAt b;
-      marks = padded 4608 (tab (λ i. rowAt b i .mark) (witnessCountAt b));
-      times = padded 4608 (tab (λ i. rowAt b i .time) (witnessCountAt b));
-      kinds = padded 4608 (tab (λ i. rowAt b i .kind) (witnessCountAt b));
-      transitions = padded 4608 (tab (λ i. rowAt b i .transition) (witnessCountAt b));
+      marks = padded witnessLimit (tab (λ i. rowAt b i .mark) (witnessCountAt b));
+      times = padded witnessLimit (tab (λ i. rowAt b i .time) (witnessCountAt b));
+      kinds = padded witnessLimit (tab (λ i. rowAt b i .kind) (witnessCountAt b));
+      transitions = padded witnessLimit (tab (λ i. rowAt b i .transition) (witnessCountAt b));
     }
 
 unfoldable pub noWitness : WitnessParts
 noWitness =
     record {
       count = 0;
-      marks = replicate 4608 0;
-      times = replicate 4608 0;
-      kinds = replicate 4608 0;
-      transitions = replicate 4608 0;
+      marks = replicate witnessLimit 0;
+      times = replicate witnessLimit 0;
+      kinds = replicate witnessLimit 0;
+      transitions = replicate witnessLimit 0;
     }
 
 unfoldable pub readWitness : List ℕ → WitnessReading
@@ -136,7 +130,7 @@ rowsBytes [] = []
 rowsBytes (r ∷ rs) = rowBytes r ++ rowsBytes rs
 
 unfoldable pub witnessBytes : List Row → List ℕ
-witnessBytes rows = wordBytes (3 + 5 * length rows) ++ (1 ∷ []) ++ wordBytes (length rows) ++ rowsBytes rows
+witnessBytes rows = rowsFrame 5 (length rows) ++ rowsBytes rows
 
 unfoldable pub rowIn : WitnessParts → ℕ → Row
 rowIn w i =

@@ -1,5 +1,31 @@
 // The values that cross from one crate to the next: the parts of a table, a recording and a witness, a situation, and the answers.
 // Their meaning is in specs/: what bytes give which parts, and which number of document 01 each answer stands for.
+// The constants are document 01's limits and codes (specs/Limits, Witness, Situation).
+
+pub const STATE_LIMIT: u8 = 16;
+pub const VARIABLE_LIMIT: u8 = 4;
+pub const CLOCK_LIMIT: u8 = 2;
+pub const KIND_LIMIT: usize = 32;
+pub const TRANSITION_LIMIT: usize = 64;
+pub const AIRTIME_LIMIT: u8 = 15;
+// the longest guard, and the places of each guard in a table's parts
+pub const GUARD_LIMIT: usize = 32;
+pub const SIZE_LIMIT: u64 = 65536;
+// rows of a recording, and the latest time of a row there and in a witness
+pub const ROW_LIMIT: usize = 512;
+pub const TIME_LIMIT: u16 = 4096;
+pub const WITNESS_LIMIT: usize = 4608;
+
+// marks of a witness's rows, and the transition number of a removed one
+pub const KEPT: u8 = 0;
+pub const REMOVED: u8 = 1;
+pub const ADDED: u8 = 2;
+pub const NO_TRANSITION: u8 = 255;
+
+// moves as numbers: below REST keep by that transition, REST adds nothing, from FIRST_ADD on add by a transition
+pub const REST: usize = TRANSITION_LIMIT;
+pub const FIRST_ADD: usize = REST + 1;
+pub const MOVE_LIMIT: usize = FIRST_ADD + TRANSITION_LIMIT;
 
 // A monitor table's parts. Places beyond a count, and beyond a guard's length, are 0 after reading and are ignored in writing.
 pub struct TableParts {
@@ -8,31 +34,31 @@ pub struct TableParts {
     pub clocks: u8,
     pub kinds: u8,
     pub transitions: u8,
-    pub directions: [u8; 32],
-    pub airtimes: [u8; 32],
-    pub sources: [u8; 64],
-    pub targets: [u8; 64],
-    pub triggers: [u8; 64],
-    pub sets: [u8; 64],
-    pub clears: [u8; 64],
-    pub resets: [u8; 64],
-    pub lengths: [u8; 64],
-    // guard j has the 32 places from 32 * j on
-    pub guards: [u8; 2048],
+    pub directions: [u8; KIND_LIMIT],
+    pub airtimes: [u8; KIND_LIMIT],
+    pub sources: [u8; TRANSITION_LIMIT],
+    pub targets: [u8; TRANSITION_LIMIT],
+    pub triggers: [u8; TRANSITION_LIMIT],
+    pub sets: [u8; TRANSITION_LIMIT],
+    pub clears: [u8; TRANSITION_LIMIT],
+    pub resets: [u8; TRANSITION_LIMIT],
+    pub lengths: [u8; TRANSITION_LIMIT],
+    // guard j has the places from GUARD_LIMIT * j on
+    pub guards: [u8; GUARD_LIMIT * TRANSITION_LIMIT],
 }
 
 pub struct RecordingParts {
     pub count: u16,
-    pub times: [u16; 512],
-    pub kinds: [u8; 512],
+    pub times: [u16; ROW_LIMIT],
+    pub kinds: [u8; ROW_LIMIT],
 }
 
 pub struct WitnessParts {
     pub count: u16,
-    pub marks: [u8; 4608],
-    pub times: [u16; 4608],
-    pub kinds: [u8; 4608],
-    pub transitions: [u8; 4608],
+    pub marks: [u8; WITNESS_LIMIT],
+    pub times: [u16; WITNESS_LIMIT],
+    pub kinds: [u8; WITNESS_LIMIT],
+    pub transitions: [u8; WITNESS_LIMIT],
 }
 
 // Where a monitor is: state, variables as a mask, what each clock reads. A clock that the table does not have is never read.

@@ -1,0 +1,22 @@
+-- What reading and writing promise of an answer, in document 01's number, second and third value.
+use Prim.Native.Nat.{ℕ}
+use mathlib.Core.Path.{_≡_}
+use mathlib.Core.List.{List}
+use Rattle.model.specs.Room.{Lent}
+use Rattle.model.specs.Numbers.{values, refusalValues, readingValues, writingValues}
+use Rattle.model.specs.declared.Refusal.{Refusal}
+use Rattle.model.specs.declared.Reading.{Reading}
+use Rattle.model.specs.declared.Reading.the-variants.{Sound, Unsound}
+use Rattle.model.specs.declared.Writing.{Writing}
+
+-- "Reading sound bytes gives 0, 0 and 0 beside the parts; in a refused reading every number of the parts is 0". given: what the definition answers; whole: the
+-- parts of the bytes; none: parts that are all 0
+pub record Reads {P : Type 0} (given : Reading) (whole none : P) (answer : Reading) (parts : P) : Type 0 where
+  pub sound : given ≡ Sound → (readingValues answer ≡ values 0 0 0) × (parts ≡ whole)
+  pub refused : (why : Refusal) → given ≡ Unsound why → (readingValues answer ≡ refusalValues why) × (parts ≡ none)
+
+-- answer and room are the definition's
+pub record Writes (given : Lent) (answer : Writing) (room : List ℕ) : Type 0 where
+  pub answered : answer ≡ given .answer
+  pub numbers : writingValues answer ≡ writingValues (given .answer)
+  pub lent : room ≡ given .room
