@@ -9,6 +9,7 @@ use mathlib.Core.Bool.{false, false≢true}
 use lib.ListN.{length, take, drop, length-append, length-drop}
 use lib.Seq.{take-at, drop-at}
 use borrow.Author.Tests.{le-leb, lt-leb}
+use Rattle.model.specs.Answers.{Writes}
 use Rattle.model.specs.Bytes.{joined}
 use Rattle.model.specs.First.{isSound}
 use Rattle.model.specs.Room.{write, over}
@@ -17,6 +18,7 @@ use Rattle.model.specs.declared.Refusal.the-variants.{WriteRoom}
 use Rattle.model.specs.declared.Reading.{Reading}
 use Rattle.model.specs.declared.Reading.the-variants.{Sound, Unsound}
 use Rattle.model.specs.declared.Writing.the-variants.{Written, Unwritten}
+use Rattle.model.proofs.AnswerLaws.{writes-by}
 use Rattle.wire.specs.Placed.{placed}
 use Rattle.wire.proofs.Room.{placed-fits, placed-behind}
 
@@ -61,14 +63,12 @@ high n h = omega arith
 -- writing into a room
 
 module _ (answer : Reading) (bytes room : List ℕ) where
-  pub write-refused : (r : Refusal) → answer ≡ Unsound r → (Unwritten r ≡ (write answer bytes room) .answer) × (room ≡ (write answer bytes room) .room)
-  write-refused r e = rw e (refl, refl)
+  pub write-refused : (r : Refusal) → answer ≡ Unsound r → Writes (write answer bytes room) (Unwritten r) room
+  write-refused r e = rw e (writes-by _ _ _ refl refl)
 
   module _ (sound : answer ≡ Sound) where
-    pub write-short : length room < length bytes
-        → (Unwritten (WriteRoom (length bytes)) ≡ (write answer bytes room) .answer) × (room ≡ (write answer bytes room) .room)
-    write-short h = rw (sound, lt-leb _ _ h) (refl, refl)
+    pub write-short : length room < length bytes → Writes (write answer bytes room) (Unwritten (WriteRoom (length bytes))) room
+    write-short h = rw (sound, lt-leb _ _ h) (writes-by _ _ _ refl refl)
 
-    pub write-fits : length bytes ≤ length room → (after : List ℕ) → after ≡ placed bytes 0 room
-        → (Written (length bytes) ≡ (write answer bytes room) .answer) × (after ≡ (write answer bytes room) .room)
-    write-fits h after e = rw (sound, le-leb _ _ h) (refl, e ∙ placed-behind [] bytes room 0 refl (omega arith))
+    pub write-fits : length bytes ≤ length room → (after : List ℕ) → after ≡ placed bytes 0 room → Writes (write answer bytes room) (Written (length bytes)) after
+    write-fits h after e = rw (sound, le-leb _ _ h) (writes-by _ _ _ refl (e ∙ placed-behind [] bytes room 0 refl (omega arith)))

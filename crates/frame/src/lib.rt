@@ -8,9 +8,10 @@ use wire::byte;
 use wire::place;
 use wire::word;
 ghost use mathlib.Core.Path.{_≡_};
+ghost use Rattle.model.specs.Answers.{Writes};
 ghost use Rattle.model.specs.First.{isSound};
+ghost use Rattle.model.specs.Frame.{framed, framedRows, rowsFrame};
 ghost use Rattle.model.specs.Room.{write};
-ghost use Rattle.frame.specs.Framed.{framed, framedRows, rowsFrame};
 
 pub fn sound(r: Reading) -> bool
     ensures { λ s. ⌜ s ≡ isSound r ⌝ }
@@ -60,12 +61,13 @@ pub fn rows_framed(
     Reading::Sound
 }
 
-// What stands before the rows of a recording or a witness.
-pub fn frame_bytes(total: u16, count: u16) -> [u8; 5]
-    ensures { λ s. ⌜ s ≡ rowsFrame total count ⌝ }
+// What stands before so many rows of one width: the length is given by its lowest two bytes.
+pub fn frame_bytes(width: u8, count: u16) -> [u8; 5]
+    ensures { λ s. ⌜ s ≡ rowsFrame width count ⌝ }
 {
+    let total = 3 + width as u32 * count as u32;
     [
-        (total / 256) as u8,
+        (total / 256 % 256) as u8,
         (total % 256) as u8,
         1,
         (count / 256) as u8,
@@ -75,7 +77,7 @@ pub fn frame_bytes(total: u16, count: u16) -> [u8; 5]
 
 // Writes bytes whose reading gives this answer.
 pub fn put(answer: Reading, bytes: &[u8], room: &mut [u8]) -> Writing
-    ensures { λ r. ⌜ (r ≡ (write answer (now (bytes .entry)) (now (room .entry))) .answer) × (now (room .exit) ≡ (write answer (now (bytes .entry)) (now (room .entry))) .room) ⌝ }
+    ensures { λ r. ⌜ Writes (write answer (now (bytes .entry)) (now (room .entry))) r (now (room .exit)) ⌝ }
 {
     match answer {
         Reading::Unsound(refusal) => Writing::Unwritten(refusal),

@@ -1,16 +1,21 @@
 // Guards in prefix form. One recursion over a guard's bytes tells where it ends, its value, and the largest bound of a clock in it.
-// It ends since the bytes that remain grow fewer; depth is the limit that the definition sets, which a guard of 32 bytes never meets.
+// It ends since the bytes that remain grow fewer; depth is the limit that the definition sets, which a guard within its length never meets.
 pub mod size;
 
+use model::GUARD_LIMIT;
 use wire::byte;
 use wire::short;
 ghost use mathlib.Core.Path.{_≡_};
 ghost use mathlib.Core.Bool.{_&&_, cond};
 ghost use Prim.Native.Nat.{_+_, _<_, max};
 ghost use lib.Dec.{leb, ltb, eqb};
+ghost use Rattle.model.specs.Limits.{guardLimit};
 ghost use Rattle.model.specs.Bytes.{byteAt, hasBit};
 ghost use Rattle.model.specs.Guard.{holds, largest, leafAt, guardAt, endsAt, guardOf};
 ghost use Rattle.guard.specs.Guards.{seen, clockLeaf, opposite, both};
+
+// A guard is never deeper than it is long.
+const DEPTH: u8 = GUARD_LIMIT as u8;
 
 // What is asked of a guard: the table's numbers of variables and clocks, the mask of the variables that are true, and the clock whose bound is asked.
 pub struct Question {
@@ -190,7 +195,7 @@ pub fn guard_seen<'a>(
 
 // There is one guard from at to end, no byte missing and none extra.
 pub fn guard_fills(b: &[u8], at: usize, end: usize, variables: u8, clocks: u8) -> bool
-    ensures { λ r. ⌜ r ≡ endsAt (guardAt 32 variables clocks (now (b .entry)) at end) end ⌝ }
+    ensures { λ r. ⌜ r ≡ endsAt (guardAt guardLimit variables clocks (now (b .entry)) at end) end ⌝ }
 {
     let still = [0u16; 2];
     let q = Question {
@@ -199,7 +204,7 @@ pub fn guard_fills(b: &[u8], at: usize, end: usize, variables: u8, clocks: u8) -
         mask: 0,
         clock: 0,
     };
-    let all = guard_seen(32, b, at, end, q, &still);
+    let all = guard_seen(DEPTH, b, at, end, q, &still);
     let Seen::UpTo {
         next,
         value: _,
@@ -221,7 +226,7 @@ pub fn guard_holds<'a>(
     mask: u8,
     c: &'a [u16],
 ) -> bool
-    ensures { λ r. ⌜ r ≡ holds (guardOf (guardAt 32 variables clocks (now (b .entry)) at end)) mask (now (c .entry)) ⌝ }
+    ensures { λ r. ⌜ r ≡ holds (guardOf (guardAt guardLimit variables clocks (now (b .entry)) at end)) mask (now (c .entry)) ⌝ }
 {
     let q = Question {
         variables,
@@ -229,7 +234,7 @@ pub fn guard_holds<'a>(
         mask,
         clock: 0,
     };
-    let all = guard_seen(32, b, at, end, q, c);
+    let all = guard_seen(DEPTH, b, at, end, q, c);
     let Seen::UpTo {
         next: _,
         value,
@@ -243,7 +248,7 @@ pub fn guard_holds<'a>(
 
 // The largest T compared with a clock in the guard.
 pub fn guard_bound(b: &[u8], at: usize, end: usize, variables: u8, clocks: u8, clock: usize) -> u8
-    ensures { λ r. ⌜ r ≡ largest clock (guardOf (guardAt 32 variables clocks (now (b .entry)) at end)) ⌝ }
+    ensures { λ r. ⌜ r ≡ largest clock (guardOf (guardAt guardLimit variables clocks (now (b .entry)) at end)) ⌝ }
 {
     let still = [0u16; 2];
     let q = Question {
@@ -252,7 +257,7 @@ pub fn guard_bound(b: &[u8], at: usize, end: usize, variables: u8, clocks: u8, c
         mask: 0,
         clock,
     };
-    let all = guard_seen(32, b, at, end, q, &still);
+    let all = guard_seen(DEPTH, b, at, end, q, &still);
     let Seen::UpTo {
         next: _,
         value: _,

@@ -1,15 +1,18 @@
 // M, A and N of a table's parts, for any parts.
 use crate::guard_bound;
 use crate::larger;
+use model::GUARD_LIMIT;
+use model::SIZE_LIMIT;
 use model::TableParts;
 use wire::byte;
 ghost use mathlib.Core.Path.{_≡_};
 ghost use Prim.Native.Nat.{_+_, _*_, _^_, _≤_, min};
+ghost use Rattle.model.specs.Limits.{sizeLimit};
 ghost use Rattle.model.specs.Size.{largestBound, largestAirtime, cap, size};
 ghost use Rattle.model.specs.Table.{monitorOf};
 
 // N above the limit is answered as one above it.
-const MANY: u64 = 65537;
+const MANY: u64 = SIZE_LIMIT + 1;
 
 // M: the largest T compared with a clock in any guard.
 pub fn largest_bound(t: TableParts, clock: usize) -> u64
@@ -19,10 +22,10 @@ pub fn largest_bound(t: TableParts, clock: usize) -> u64
     let mut j = 0;
     let n = t.transitions as usize;
     while j < n {
-        let end = 32 * j + byte(&t.lengths, j) as usize;
+        let end = GUARD_LIMIT * j + byte(&t.lengths, j) as usize;
         most = larger(
             most,
-            guard_bound(&t.guards, 32 * j, end, t.variables, t.clocks, clock),
+            guard_bound(&t.guards, GUARD_LIMIT * j, end, t.variables, t.clocks, clock),
         );
         j += 1;
     }
@@ -55,21 +58,21 @@ pub fn clock_values(t: TableParts, clock: usize) -> u64
 }
 
 fn times(a: u64, b: u64) -> u64
-    requires { ⌜ (a ≤ 65537) × (b ≤ 65537) ⌝ }
-    ensures { λ r. ⌜ (r ≡ min (a * b) 65537) × (r ≤ 65537) ⌝ }
+    requires { ⌜ (a ≤ sizeLimit + 1) × (b ≤ sizeLimit + 1) ⌝ }
+    ensures { λ r. ⌜ (r ≡ min (a * b) (sizeLimit + 1)) × (r ≤ sizeLimit + 1) ⌝ }
 {
     if MANY < a * b { MANY } else { a * b }
 }
 
 fn power(n: u8) -> u64
-    ensures { λ r. ⌜ (r ≡ min (2 ^ n) 65537) × (r ≤ 65537) ⌝ }
+    ensures { λ r. ⌜ (r ≡ min (2 ^ n) (sizeLimit + 1)) × (r ≤ sizeLimit + 1) ⌝ }
 {
     if n < 17 { 1 << n } else { MANY }
 }
 
-// N, the number of situations, and 65,537 for all that are more than 65,536.
+// N, the number of situations, and one above the limit for all that are more.
 pub fn table_size(t: TableParts) -> u64
-    ensures { λ r. ⌜ r ≡ min (size (monitorOf t)) 65537 ⌝ }
+    ensures { λ r. ⌜ r ≡ min (size (monitorOf t)) (sizeLimit + 1) ⌝ }
 {
     let clocks = times(
         clock_values(t, 0),

@@ -23,3 +23,4 @@ pub mod VerdictLaws
 pub mod WalkLaws
 pub mod Examples
 pub mod Counterexample
+pub mod AnswerLaws

@@ -5,6 +5,7 @@ use mathlib.Core.Bool.{true, false, cond}
 use mathlib.Core.Option.{Option, none, some}
 use lib.ListN.{getD}
 use lib.Dec.{eqb}
+use Rattle.model.specs.Limits.{transitionLimit, guardLimit}
 use Rattle.model.specs.Bytes.{byteAt, tab, padded}
 use Rattle.model.specs.Guard.{Guard, guardAt, guardOf}
 use Rattle.model.specs.Monitor.{Monitor, Transition, after}
@@ -23,7 +24,7 @@ firedOf f = cond (f .fired) (some (f .to)) none
 -- the guard, and the transition, whose record starts at an offset
 
 unfoldable pub guardFrom : List ℕ → ℕ → Guard
-guardFrom b at = guardOf (guardAt 32 (variablesAt b) (clocksAt b) b (at + 7) (at + 7 + guardLengthAt b at))
+guardFrom b at = guardOf (guardAt guardLimit (variablesAt b) (clocksAt b) b (at + 7) (at + 7 + guardLengthAt b at))
 
 unfoldable pub transitionFrom : List ℕ → ℕ → Transition
 transitionFrom b at =
@@ -48,9 +49,9 @@ monitorFrom b offsets =
       transitions = tab (λ j. transitionFrom b (getD offsets j 0)) (transitionsAt b);
     }
 
--- where the transition records start: as many as the table counts, at most 64, and zeros behind them
+-- where the transition records start: as many as the table counts, at most the limit, and zeros behind them
 unfoldable pub offsetsOf : List ℕ → List ℕ
-offsetsOf b = padded 64 (tab (transitionAt b) (min (transitionsAt b) 64))
+offsetsOf b = padded transitionLimit (tab (transitionAt b) (min (transitionsAt b) transitionLimit))
 
 -- the configuration after the transition whose record starts at an offset
 abbrev pub afterFrom : List ℕ → ℕ → Config → Config

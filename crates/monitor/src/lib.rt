@@ -1,6 +1,7 @@
 // The monitor, straight from a table's bytes: which transition fires, and what a kind's record says. Each function takes any bytes.
 use guard::guard_holds;
 use model::Config;
+use model::TRANSITION_LIMIT;
 use wire::byte;
 use wire::short;
 ghost use mathlib.Core.Path.{_≡_};
@@ -8,8 +9,10 @@ ghost use mathlib.Core.List.{List};
 ghost use mathlib.Core.Bool.{cond};
 ghost use Prim.Native.Nat.{ℕ, _+_, _%_, _<_, min};
 ghost use lib.Dec.{eqb};
+ghost use Rattle.model.specs.Limits.{transitionLimit};
 ghost use Rattle.model.specs.Guard.{holds};
 ghost use Rattle.model.specs.Monitor.{changed, enabled, fires, toUnit, airtime};
+ghost use Rattle.model.specs.Table.{transitionsAt};
 ghost use Rattle.monitor.specs.From.{firing, guardFrom, transitionFrom, monitorFrom, offsetsOf, afterFrom};
 
 // Whether a transition fired, and where it led; unfired, the configuration before.
@@ -18,18 +21,24 @@ pub struct Fired {
     pub to: Config,
 }
 
-fn at_most_64(n: u8) -> usize
-    ensures { λ r. ⌜ r ≡ min n 64 ⌝ }
+// How many transitions the table counts, at most as many as a sound one has.
+pub fn transitions(table: &[u8]) -> usize
+    ensures { λ r. ⌜ r ≡ min (transitionsAt (now (table .entry))) transitionLimit ⌝ }
 {
-    if n < 64 { n as usize } else { 64 }
+    let count = byte(table, 7) as usize;
+    if count < TRANSITION_LIMIT {
+        count
+    } else {
+        TRANSITION_LIMIT
+    }
 }
 
 // Where the transition records start. Each record's length is known only from its own bytes.
-pub fn offsets(table: &[u8]) -> [u16; 64]
+pub fn offsets(table: &[u8]) -> [u16; TRANSITION_LIMIT]
     ensures { λ r. ⌜ r ≡ offsetsOf (now (table .entry)) ⌝ }
 {
-    let mut found = [0u16; 64];
-    let count = at_most_64(byte(table, 7));
+    let mut found = [0u16; TRANSITION_LIMIT];
+    let count = transitions(table);
     let mut at = 8 + 2 * (byte(table, 6) as u16);
     let mut j = 0;
     while j < count {

@@ -1,5 +1,5 @@
 use borrow.Author.Tests.{le-leb, lt-leb, eq-eqb, ne-eqb}
-use Rattle.frame.specs.Framed.{framed}
+use Rattle.model.specs.Frame.{framed}
 use borrow.Author.Needs.{needs}
 use Rattle.frame.proofs.framed_answer.Statement.{statement}
 use Rattle.frame.proofs.framed_answer.Tie as tie

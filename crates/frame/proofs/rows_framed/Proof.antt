@@ -1,7 +1,7 @@
 use borrow.Author.Tests.{le-leb, lt-leb, eq-eqb, ne-eqb, not-true, not-false}
 use native.Mathlib.Omega.{arith}
 use mathlib.Core.Path.{sym, _∙_}
-use Rattle.frame.specs.Framed.{framedRows}
+use Rattle.model.specs.Frame.{framedRows}
 use Rattle.frame.proofs.Answers.{stops, goes}
 use Rattle.frame.proofs.Columns.{step-bound}
 use borrow.Author.Needs.{needs}

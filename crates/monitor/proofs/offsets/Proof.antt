@@ -6,6 +6,7 @@ use Prim.Native.Nat.{ℕ, suc, _+_, _*_, _-_, _≤_, _<_, min}
 use native.Mathlib.Omega.{arith}
 use native.Mathlib.Numerals.{add-one}
 use mathlib.Core.Path.{_≡_, refl, sym, ap, _∙_}
+use Rattle.model.specs.Limits.{transitionLimit}
 use Rattle.model.specs.Bytes.{byteAt, tab, padded}
 use Rattle.model.specs.Table.{transitionsAt, transitionAt}
 use Rattle.model.proofs.Basics.{length-tab}
@@ -35,19 +36,16 @@ padded-more size f i h l v e is =
     ∙ ap (λ (n : ℕ). padded size (tab f n)) (sym (add-one i)))
 
 abbrev Inv-loop : tie.InvT-loop
-Inv-loop table found₀ count at₀ j₀ found at j = (j ≤ count) × (count ≡ min (transitionsAt table) 64) × (at ≡ transitionAt table j) × (at ≤ 518 + 262 * j) × (found ≡ padded 64 (tab (transitionAt table) j))
+Inv-loop table found₀ count at₀ j₀ found at j = (j ≤ count) × (count ≡ min (transitionsAt table) transitionLimit) × (at ≡ transitionAt table j) × (at ≤ 518 + 262 * j) × (found ≡ padded transitionLimit (tab (transitionAt table) j))
 
 abbrev μ-loop : tie.MeasureT-loop
 μ-loop table found₀ count at₀ j₀ found at j = count - j
 
+transitions-requires : tie.Need-transitions-requires Inv-loop μ-loop
+transitions-requires c κs = search needs
+
 byte-requires : tie.Need-byte-requires Inv-loop μ-loop
 byte-requires c κs = search needs
-
-at-most-64-requires : tie.Need-at-most-64-requires Inv-loop μ-loop
-at-most-64-requires c κs = search needs
-
-byte-requires-2 : tie.Need-byte-requires-2 Inv-loop μ-loop
-byte-requires-2 c κs = search needs
 
 cast-at : tie.Need-cast-at Inv-loop μ-loop
 cast-at c = search needs
@@ -62,8 +60,8 @@ loop-holds : tie.Need-loop-holds Inv-loop μ-loop
 unfolding transitionAt tab padded
 loop-holds c = (
   omega arith,
-  c .before .at-most-64 .ensures ∙ ap (λ (n : ℕ). min n 64) (c .before .before .byte .ensures .0),
-  ap (λ (n : ℕ). 8 + 2 * n) (c .byte2 .ensures .0),
+  c .before .transitions .ensures,
+  ap (λ (n : ℕ). 8 + 2 * n) (c .byte .ensures .0),
   omega arith,
   refl,
 )
@@ -80,8 +78,8 @@ cast-byte c = search needs
 add-byte : tie.Need-add-byte Inv-loop μ-loop
 add-byte c = search needs
 
-byte-requires-3 : tie.Need-byte-requires-3 Inv-loop μ-loop
-byte-requires-3 c κs = search needs
+byte-requires-2 : tie.Need-byte-requires-2 Inv-loop μ-loop
+byte-requires-2 c κs = search needs
 
 cast-at-2 : tie.Need-cast-at-2 Inv-loop μ-loop
 cast-at-2 c = search needs
@@ -101,23 +99,23 @@ loop-less c = search needs
 loop-again : tie.Need-loop-again Inv-loop μ-loop
 loop-again c =
     let l = c .before .before .loop in
-    let table = c .before .before .before .before .before .before .before .args .table .now in
-    let next : l .at + (7 + c .byte3 .result) ≡ transitionAt table (l .j + 1) =
-    next-record table (l .j) (l .at) (c .byte3 .result) (l .inv .2) (c .byte3 .ensures .0) in (
+    let table = c .before .before .before .before .before .before .args .table .now in
+    let next : l .at + (7 + c .byte2 .result) ≡ transitionAt table (l .j + 1) =
+    next-record table (l .j) (l .at) (c .byte2 .result) (l .inv .2) (c .byte2 .ensures .0) in (
       omega arith,
       l .inv .1,
       next,
       omega arith,
-      padded-more 64 (transitionAt table) (l .j) (omega arith) (l .found) (l .at) (l .inv .4) (l .inv .2),
+      padded-more transitionLimit (transitionAt table) (l .j) (omega arith) (l .found) (l .at) (l .inv .4) (l .inv .2),
     )
 
 returns : tie.Need-returns Inv-loop μ-loop
 unfolding offsetsOf
 returns c =
     let l = c .before .loop in
-    let table = c .before .before .before .before .before .before .args .table .now in
-    let full : l .j ≡ min (transitionsAt table) 64 = omega arith in
-    l .inv .4 ∙ ap (λ (n : ℕ). padded 64 (tab (transitionAt table) n)) full
+    let table = c .before .before .before .before .before .args .table .now in
+    let full : l .j ≡ min (transitionsAt table) transitionLimit = omega arith in
+    l .inv .4 ∙ ap (λ (n : ℕ). padded transitionLimit (tab (transitionAt table) n)) full
 
 pub offsets-spec : {M : Type 1} → statement M
 offsets-spec =
@@ -125,9 +123,8 @@ offsets-spec =
     (tie.spec
     Inv-loop
     μ-loop
+    transitions-requires
     byte-requires
-    at-most-64-requires
-    byte-requires-2
     cast-at
     mul-at
     add-at
@@ -136,7 +133,7 @@ offsets-spec =
     array-write-found
     cast-byte
     add-byte
-    byte-requires-3
+    byte-requires-2
     cast-at-2
     add-at-2
     add-at-3
