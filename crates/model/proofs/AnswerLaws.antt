@@ -1,16 +1,19 @@
 -- An answer that is the definition's has the definition's numbers.
 use Prim.Native.Nat.{ℕ}
-use native.Mathlib.Omega.{arith}
-use mathlib.Core.Path.{_≡_, refl, sym, ap, _∙_}
+use mathlib.Core.Path.{_≡_, ap, _∙_}
 use mathlib.Core.List.{List}
 use mathlib.Core.Bool.{cond}
 use Rattle.model.specs.Answers.{Reads, Writes}
 use Rattle.model.specs.First.{isSound}
 use Rattle.model.specs.Numbers.{readingValues, writingValues}
 use Rattle.model.specs.Room.{Lent}
-use Rattle.model.specs.declared.Refusal.{Refusal}
+use Rattle.model.specs.Table.{tableAnswer, tableParts, noTable, readTable}
+use Rattle.model.specs.Recording.{recordingAnswer, recordingParts, noRecording, readRecording}
+use Rattle.model.specs.Witness.{witnessAnswer, witnessParts, noWitness, readWitness}
+use Rattle.model.specs.declared.TableReading.{TableReading}
+use Rattle.model.specs.declared.RecordingReading.{RecordingReading}
+use Rattle.model.specs.declared.WitnessReading.{WitnessReading}
 use Rattle.model.specs.declared.Reading.{Reading}
-use Rattle.model.specs.declared.Reading.the-variants.{Sound, Unsound}
 use Rattle.model.specs.declared.Writing.{Writing}
 
 pub reads-by : {P : Type 0} (given : Reading) (whole none : P) (answer : Reading) (parts : P) → answer ≡ given → parts ≡ cond (isSound given) whole none
@@ -20,6 +23,21 @@ reads-by given whole none answer parts same are =
       sound = λ e. (ap readingValues (same ∙ e), are ∙ ap (λ g. cond (isSound g) whole none) e);
       refused = λ why e. (ap readingValues (same ∙ e), are ∙ ap (λ g. cond (isSound g) whole none) e);
     }
+
+-- what the three readings promise
+
+pub table-reads : (b : List ℕ) (x : TableReading) → x ≡ readTable b → (x ≡ readTable b) × Reads (tableAnswer b) (tableParts b) noTable (x .answer) (x .parts)
+unfolding readTable
+table-reads b x e = (e, reads-by _ _ _ _ _ (ap (λ (y : TableReading). y .answer) e) (ap (λ (y : TableReading). y .parts) e))
+
+pub recording-reads : (table b : List ℕ) (x : RecordingReading) → x ≡ readRecording table b
+    → (x ≡ readRecording table b) × Reads (recordingAnswer table b) (recordingParts b) noRecording (x .answer) (x .parts)
+unfolding readRecording
+recording-reads table b x e = (e, reads-by _ _ _ _ _ (ap (λ (y : RecordingReading). y .answer) e) (ap (λ (y : RecordingReading). y .parts) e))
+
+pub witness-reads : (b : List ℕ) (x : WitnessReading) → x ≡ readWitness b → (x ≡ readWitness b) × Reads (witnessAnswer b) (witnessParts b) noWitness (x .answer) (x .parts)
+unfolding readWitness
+witness-reads b x e = (e, reads-by _ _ _ _ _ (ap (λ (y : WitnessReading). y .answer) e) (ap (λ (y : WitnessReading). y .parts) e))
 
 pub writes-by : (given : Lent) (answer : Writing) (room : List ℕ) → answer ≡ given .answer → room ≡ given .room → Writes given answer room
 writes-by given answer room same lent = record { answered = same; numbers = ap writingValues same; lent = lent }

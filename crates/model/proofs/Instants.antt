@@ -7,24 +7,24 @@ use mathlib.Core.Option.{some}
 use borrow.Author.Tests.{lt-ltb, le-ltb, eq-eqb, ne-eqb}
 use Rattle.model.specs.Limits.{transitionLimit}
 use Rattle.model.specs.Trace.{Packet}
-use Rattle.model.specs.Situation.{keep, rest, add, recordedAt, moveOf}
+use Rattle.model.specs.Situation.{keep, rest, add, recordedAt, restMove, firstAdd, moveOf}
 
 -- moves as numbers
 
 pub moveOf-keep : (j : ℕ) → j < transitionLimit → moveOf j ≡ keep j
 unfolding moveOf
-moveOf-keep j h = rw (lt-ltb j 64)
+moveOf-keep j h = rw (lt-ltb j restMove)
 
-pub moveOf-rest : moveOf 64 ≡ rest
+pub moveOf-rest : moveOf restMove ≡ rest
 unfolding moveOf
 moveOf-rest = refl
 
-pub moveOf-add : (j : ℕ) → moveOf (65 + j) ≡ add j
+pub moveOf-add : (j : ℕ) → moveOf (firstAdd + j) ≡ add j
 unfolding moveOf
 moveOf-add j =
-    let past : 65 + j ≡ 64 → ⊥ = omega arith in
-    let same : 65 + j - 65 ≡ j = omega arith in
-    rw (le-ltb (65 + j) 64 (omega arith), ne-eqb (65 + j) 64 past, same)
+    let past : firstAdd + j ≡ restMove → ⊥ = omega arith in
+    let same : firstAdd + j - firstAdd ≡ j = omega arith in
+    rw (le-ltb (firstAdd + j) restMove (omega arith), ne-eqb (firstAdd + j) restMove past, same)
 
 -- what is recorded at an instant
 

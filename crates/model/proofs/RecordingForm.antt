@@ -87,7 +87,7 @@ packetAt b i = record { time = timeAt b i; kind = rowKindAt b i }
 
 pub packets-tab : (b : List ℕ) → packetsAt b ≡ tab (packetAt b) (countAt b)
 unfolding packetsOf recordingParts
-packets-tab b = tab-same _ (packetAt b) (countAt b) (λ i h j. record { time = getD-column 512 (timeAt b) (countAt b) i h j; kind = getD-column 512 (rowKindAt b) (countAt b) i h j })
+packets-tab b = tab-same _ (packetAt b) (countAt b) (λ i h j. record { time = getD-column rowLimit (timeAt b) (countAt b) i h j; kind = getD-column rowLimit (rowKindAt b) (countAt b) i h j })
 
 module _ (m : Monitor) where
   spaced-tab :
@@ -155,8 +155,8 @@ recording-again table b all e =
         let kind : ℕ = byteAt (recordingParts b .kinds) i in
         stands-moved b (5 + 3 * i) at (recordedBytes (recordingParts b .times) (recordingParts b .kinds) i) p
         (stands-append b (5 + 3 * i) (wordBytes time) (kind ∷ [])
-        (word-at b (5 + 3 * i) time all (sym (getD-column 512 (timeAt b) (countAt b) i h)))
-        (stands-cons b (5 + 3 * i + 2) kind [] (ap (λ (k : ℕ). getD b k 0) (omega arith) ∙ sym (getD-column 512 (rowKindAt b) (countAt b) i h)) (stands-nil b (5 + 3 * i + 2 + 1))))
+        (word-at b (5 + 3 * i) time all (sym (getD-column rowLimit (timeAt b) (countAt b) i h)))
+        (stands-cons b (5 + 3 * i + 2) kind [] (ap (λ (k : ℕ). getD b k 0) (omega arith) ∙ sym (getD-column rowLimit (rowKindAt b) (countAt b) i h)) (stands-nil b (5 + 3 * i + 2 + 1))))
 
 -- the bytes of parts, read
 module _ (r : RecordingParts) (few : r .count ≤ rowLimit) (times : (i : ℕ) → i < r .count → byteAt (r .times) i < 65536) where
@@ -193,13 +193,13 @@ recording-back r few times =
     let n : countAt b ≡ r .count = written-count r few times in
     record {
       count = n;
-      times = λ i h. getD-column 512 (timeAt b) (countAt b) i (rw n h) ∙ written-time r few times i h;
-      kinds = λ i h. getD-column 512 (rowKindAt b) (countAt b) i (rw n h) ∙ written-kind r few times i h;
+      times = λ i h. getD-column rowLimit (timeAt b) (countAt b) i (rw n h) ∙ written-time r few times i h;
+      kinds = λ i h. getD-column rowLimit (rowKindAt b) (countAt b) i (rw n h) ∙ written-kind r few times i h;
     }
 
 pub recording-zero : (b : List ℕ) → RecordingZero (recordingParts b)
 unfolding recordingParts
-recording-zero b = record { times = getD-column-past 512 (timeAt b) (countAt b); kinds = getD-column-past 512 (rowKindAt b) (countAt b) }
+recording-zero b = record { times = getD-column-past rowLimit (timeAt b) (countAt b); kinds = getD-column-past rowLimit (rowKindAt b) (countAt b) }
 
 -- the bytes of parts record their packets
 pub packets-back :

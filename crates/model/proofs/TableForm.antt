@@ -93,12 +93,12 @@ pub record SoundTransition (b : List ℕ) (at : ℕ) : Type 0 where
   pub some : 1 ≤ guardLengthAt b at
   pub few : guardLengthAt b at ≤ guardLimit
   pub fits : at + 7 + guardLengthAt b at ≤ length b
-  pub guard : endsAt (guardAt 32 (variablesAt b) (clocksAt b) b (at + 7) (at + 7 + guardLengthAt b at)) (at + 7 + guardLengthAt b at) ≡ true
+  pub guard : endsAt (guardAt guardLimit (variablesAt b) (clocksAt b) b (at + 7) (at + 7 + guardLengthAt b at)) (at + 7 + guardLengthAt b at) ≡ true
 
 soundTransition : (b : List ℕ) (at : ℕ) → transitionRecord b at ≡ Sound → SoundTransition b at
 unfolding transitionRecord transitionFields guardRecord
 soundTransition b at e =
-    let parsed : Bool = endsAt (guardAt 32 (variablesAt b) (clocksAt b) b (at + 7) (at + 7 + guardLengthAt b at)) (at + 7 + guardLengthAt b at) in
+    let parsed : Bool = endsAt (guardAt guardLimit (variablesAt b) (clocksAt b) b (at + 7) (at + 7 + guardLengthAt b at)) (at + 7 + guardLengthAt b at) in
     let separate : Bool = apart (variablesAt b) (byteAt b (at + 3)) (byteAt b (at + 4)) in
     let l : List Reading =
     unless (leb (at + 7) (length b)) (TableLength at)
@@ -205,62 +205,62 @@ table-facts b e =
 
 -- the parts, where the counts reach
 
-guardPlace-length : (b : List ℕ) (j : ℕ) → guardLengthAt b (transitionAt b j) ≤ 32 → length (guardPlace b j) ≡ 32
+guardPlace-length : (b : List ℕ) (j : ℕ) → guardLengthAt b (transitionAt b j) ≤ guardLimit → length (guardPlace b j) ≡ guardLimit
 unfolding guardPlace
 guardPlace-length b j h =
     let n : ℕ = guardLengthAt b (transitionAt b j) in
-    length-padded 32 (take n (drop (transitionAt b j + 7) b)) (omega (arith, length-take n (drop (transitionAt b j + 7) b)))
+    length-padded guardLimit (take n (drop (transitionAt b j + 7) b)) (omega (arith, length-take n (drop (transitionAt b j + 7) b)))
 
 module _ (b : List ℕ) (facts : TableFacts b) where
-  places : (j : ℕ) → j < transitionsAt b → length (guardPlace b j) ≡ 32
+  places : (j : ℕ) → j < transitionsAt b → length (guardPlace b j) ≡ guardLimit
   places j h = guardPlace-length b j (facts .transition j h .few)
 
-  pub places-length : length (joined (guardPlace b) (transitionsAt b)) ≡ 32 * transitionsAt b
-  places-length = length-joined (guardPlace b) 32 (transitionsAt b) places
+  pub places-length : length (joined (guardPlace b) (transitionsAt b)) ≡ guardLimit * transitionsAt b
+  places-length = length-joined (guardPlace b) guardLimit (transitionsAt b) places
 
-  pub guard-place : (j : ℕ) → j < transitionsAt b → (i : ℕ) → i < 32 → byteAt (tableParts b .guards) (32 * j + i) ≡ byteAt (guardPlace b j) i
+  pub guard-place : (j : ℕ) → j < transitionsAt b → (i : ℕ) → i < guardLimit → byteAt (tableParts b .guards) (guardLimit * j + i) ≡ byteAt (guardPlace b j) i
   unfolding tableParts
   guard-place j h i p =
-      getD-padded 2048 (joined (guardPlace b) (transitionsAt b)) (32 * j + i) (omega (arith, places-length))
-      ∙ getD-joined (guardPlace b) 32 (transitionsAt b) places j i h p
+      getD-padded (guardLimit * transitionLimit) (joined (guardPlace b) (transitionsAt b)) (guardLimit * j + i) (omega (arith, places-length))
+      ∙ getD-joined (guardPlace b) guardLimit (transitionsAt b) places j i h p
 
   pub guard-byte :
       (j : ℕ) → j < transitionsAt b → (i : ℕ) → i < guardLengthAt b (transitionAt b j)
-      → byteAt (tableParts b .guards) (32 * j + i) ≡ byteAt b (transitionAt b j + 7 + i)
+      → byteAt (tableParts b .guards) (guardLimit * j + i) ≡ byteAt b (transitionAt b j + 7 + i)
   unfolding guardPlace
   guard-byte j h i p =
       let t : SoundTransition b (transitionAt b j) = facts .transition j h in
-      let few : guardLengthAt b (transitionAt b j) ≤ 32 = t .few in
+      let few : guardLengthAt b (transitionAt b j) ≤ guardLimit = t .few in
       let fits : transitionAt b j + 7 + guardLengthAt b (transitionAt b j) ≤ length b = t .fits in
       let n : ℕ = guardLengthAt b (transitionAt b j) in
       let g : List ℕ = take n (drop (transitionAt b j + 7) b) in
       let e : length g ≡ n = length-take-le n (drop (transitionAt b j + 7) b) (omega (arith, length-drop (transitionAt b j + 7) b)) in
-      guard-place j h i (omega arith) ∙ getD-padded 32 g i (omega arith) ∙ sym (stands-part b (transitionAt b j + 7) n i (omega arith))
+      guard-place j h i (omega arith) ∙ getD-padded guardLimit g i (omega arith) ∙ sym (stands-part b (transitionAt b j + 7) n i (omega arith))
 
   pub guard-again :
       (j : ℕ) → j < transitionsAt b
       → guardIn (tableParts b) j
-      ≡ guardOf (guardAt 32 (variablesAt b) (clocksAt b) b (transitionAt b j + 7) (transitionAt b j + 7 + guardLengthAt b (transitionAt b j)))
+      ≡ guardOf (guardAt guardLimit (variablesAt b) (clocksAt b) b (transitionAt b j + 7) (transitionAt b j + 7 + guardLengthAt b (transitionAt b j)))
   unfolding guardIn tableParts
   guard-again j h =
       let vs : ℕ = variablesAt b in
       let cs : ℕ = clocksAt b in
       let at : ℕ = transitionAt b j + 7 in
       let n : ℕ = guardLengthAt b (transitionAt b j) in
-      let few : n ≤ 32 = facts .transition j h .few in
-      ap (λ (k : ℕ). guardOf (guardAt 32 vs cs (tableParts b .guards) (32 * j) (32 * j + k))) (getD-column 64 (λ i. byteAt b (transitionAt b i + 6)) (transitionsAt b) j h)
-      ∙ ap guardOf (guard-moved vs cs b (tableParts b .guards) at (32 * j) n (λ i p. sym (guard-byte j h i p)) 32 32 few few)
-      ∙ moved-guard at (32 * j) (guardAt 32 vs cs b at (at + n))
+      let few : n ≤ guardLimit = facts .transition j h .few in
+      ap (λ (k : ℕ). guardOf (guardAt guardLimit vs cs (tableParts b .guards) (guardLimit * j) (guardLimit * j + k))) (getD-column transitionLimit (λ i. byteAt b (transitionAt b i + 6)) (transitionsAt b) j h)
+      ∙ ap guardOf (guard-moved vs cs b (tableParts b .guards) at (guardLimit * j) n (λ i p. sym (guard-byte j h i p)) guardLimit guardLimit few few)
+      ∙ moved-guard at (guardLimit * j) (guardAt guardLimit vs cs b at (at + n))
 
   -- the guard at its place in the bytes, as read
   pub guard-sound :
       (j : ℕ) → j < transitionsAt b
-      → guardAt 32 (variablesAt b) (clocksAt b) b (transitionAt b j + 7) (transitionAt b j + 7 + guardLengthAt b (transitionAt b j))
+      → guardAt guardLimit (variablesAt b) (clocksAt b) b (transitionAt b j + 7) (transitionAt b j + 7 + guardLengthAt b (transitionAt b j))
       ≡ upTo (guardIn (tableParts b) j) (transitionAt b j + 7 + guardLengthAt b (transitionAt b j))
   guard-sound j h =
       let at : ℕ = transitionAt b j + 7 in
       let end : ℕ = at + guardLengthAt b (transitionAt b j) in
-      rw (guard-again j h) (ends-read (guardAt 32 (variablesAt b) (clocksAt b) b at end) end (facts .transition j h .guard))
+      rw (guard-again j h) (ends-read (guardAt guardLimit (variablesAt b) (clocksAt b) b at end) end (facts .transition j h .guard))
 
   pub sane-transition : (j : ℕ) → j < transitionsAt b → SaneTransition (monitorAt b) (transitionIn (tableParts b) j)
   unfolding transitionIn monitorOf tableParts
@@ -269,9 +269,9 @@ module _ (b : List ℕ) (facts : TableFacts b) where
       let at : ℕ = transitionAt b j + 7 in
       let end : ℕ = at + guardLengthAt b (transitionAt b j) in
       record {
-        target = rw (getD-column 64 (λ i. byteAt b (transitionAt b i + 1)) (transitionsAt b) j h) (t .target);
-        trigger = rw (length-tab (λ k. byteAt (tableParts b .airtimes) k) (kindsAt b), getD-column 64 (λ i. byteAt b (transitionAt b i + 2)) (transitionsAt b) j h) (t .trigger);
-        closed = closed-names (monitorAt b) (guardIn (tableParts b) j) (guard-names (variablesAt b) (clocksAt b) b end 32 at (guardIn (tableParts b) j) end (guard-sound j h));
+        target = rw (getD-column transitionLimit (λ i. byteAt b (transitionAt b i + 1)) (transitionsAt b) j h) (t .target);
+        trigger = rw (length-tab (λ k. byteAt (tableParts b .airtimes) k) (kindsAt b), getD-column transitionLimit (λ i. byteAt b (transitionAt b i + 2)) (transitionsAt b) j h) (t .trigger);
+        closed = closed-names (monitorAt b) (guardIn (tableParts b) j) (guard-names (variablesAt b) (clocksAt b) b end guardLimit at (guardIn (tableParts b) j) end (guard-sound j h));
       }
 
 pub sane-table : (b : List ℕ) → SoundTable b → Sane (monitorAt b)

@@ -5,6 +5,7 @@ use mathlib.Core.Path.{_≡_, refl, sym, ap, ap₂, _∙_}
 use mathlib.Core.List.{List, [], _∷_, _++_}
 use lib.ListN.{length, take, drop, length-append, length-take, length-drop}
 use lib.Seq.{length-take-le, getD-take, getD-drop}
+use Rattle.model.specs.Limits.{kindLimit, transitionLimit, guardLimit}
 use Rattle.model.specs.Bytes.{byteAt, tab, wordAt, wordBytes, joined}
 use lib.Dec.{eqb}
 use Rattle.model.specs.Guard.{guardAt, guardOf}
@@ -19,44 +20,44 @@ use Rattle.model.proofs.TableForm.{SoundTransition, TableFacts, table-f
 abbrev guardOut : TableParts → ℕ → List ℕ
 guardOut t j = guardBytesIn (t .guards) (byteAt (t .lengths) j) j
 
-module _ (t : TableParts) (full : length (t .guards) ≡ 2048) (j : ℕ) (h : j < 64) (few : byteAt (t .lengths) j ≤ 32) where
+module _ (t : TableParts) (full : length (t .guards) ≡ guardLimit * transitionLimit) (j : ℕ) (h : j < transitionLimit) (few : byteAt (t .lengths) j ≤ guardLimit) where
   guardOut-length : length (guardOut t j) ≡ byteAt (t .lengths) j
   guardOut-length =
-      let e : length (take 32 (drop (32 * j) (t .guards))) ≡ 32 = length-take-le 32 (drop (32 * j) (t .guards)) (omega (arith, length-drop (32 * j) (t .guards))) in
-      length-take-le (byteAt (t .lengths) j) (take 32 (drop (32 * j) (t .guards))) (rw e few)
+      let e : length (take guardLimit (drop (guardLimit * j) (t .guards))) ≡ guardLimit = length-take-le guardLimit (drop (guardLimit * j) (t .guards)) (omega (arith, length-drop (guardLimit * j) (t .guards))) in
+      length-take-le (byteAt (t .lengths) j) (take guardLimit (drop (guardLimit * j) (t .guards))) (rw e few)
 
   transitionBytes-length : length (transitionBytes t j) ≡ 7 + byteAt (t .lengths) j
   transitionBytes-length = omega (arith, guardOut-length)
 
-guardOut-byte : (t : TableParts) (j i : ℕ) → byteAt (t .lengths) j ≤ 32 → i < byteAt (t .lengths) j → byteAt (guardOut t j) i ≡ byteAt (t .guards) (32 * j + i)
+guardOut-byte : (t : TableParts) (j i : ℕ) → byteAt (t .lengths) j ≤ guardLimit → i < byteAt (t .lengths) j → byteAt (guardOut t j) i ≡ byteAt (t .guards) (guardLimit * j + i)
 guardOut-byte t j i few h =
-    getD-take (byteAt (t .lengths) j) (take 32 (drop (32 * j) (t .guards))) i 0 h
-    ∙ getD-take 32 (drop (32 * j) (t .guards)) i 0 (omega arith)
-    ∙ getD-drop (32 * j) (t .guards) i 0
+    getD-take (byteAt (t .lengths) j) (take guardLimit (drop (guardLimit * j) (t .guards))) i 0 h
+    ∙ getD-take guardLimit (drop (guardLimit * j) (t .guards)) i 0 (omega arith)
+    ∙ getD-drop (guardLimit * j) (t .guards) i 0
 
 kinds-length : (t : TableParts) (n : ℕ) → length (joined (kindBytes t) n) ≡ 2 * n
 kinds-length t n = length-joined (kindBytes t) 2 n (λ i h. refl)
 
 -- the parts of a sound table, written again
 module _ (b : List ℕ) (facts : TableFacts b) where
-  guards-full : length (tableParts b .guards) ≡ 2048
+  guards-full : length (tableParts b .guards) ≡ guardLimit * transitionLimit
   unfolding tableParts
   guards-full =
-      let few : transitionsAt b ≤ 64 = facts .counts .transitions in
-      length-padded 2048 (joined (guardPlace b) (transitionsAt b)) (omega (arith, places-length b facts))
+      let few : transitionsAt b ≤ transitionLimit = facts .counts .transitions in
+      length-padded (guardLimit * transitionLimit) (joined (guardPlace b) (transitionsAt b)) (omega (arith, places-length b facts))
 
   length-of : (j : ℕ) → j < transitionsAt b → byteAt (tableParts b .lengths) j ≡ guardLengthAt b (transitionAt b j)
   unfolding tableParts
-  length-of j h = getD-column 64 (λ i. byteAt b (transitionAt b i + 6)) (transitionsAt b) j h
+  length-of j h = getD-column transitionLimit (λ i. byteAt b (transitionAt b i + 6)) (transitionsAt b) j h
 
-  length-few : (j : ℕ) → j < transitionsAt b → byteAt (tableParts b .lengths) j ≤ 32
+  length-few : (j : ℕ) → j < transitionsAt b → byteAt (tableParts b .lengths) j ≤ guardLimit
   length-few j h = rw (length-of j h) (facts .transition j h .few)
 
   offset : (j : ℕ) → j ≤ transitionsAt b → kindAt (kindsAt b) + length (joined (transitionBytes (tableParts b)) j) ≡ transitionAt b j
   unfolding joined transitionAt
   offset zero h = omega arith
   offset (suc j) h =
-      let few : transitionsAt b ≤ 64 = facts .counts .transitions in
+      let few : transitionsAt b ≤ transitionLimit = facts .counts .transitions in
       let again : kindAt (kindsAt b) + length (joined (transitionBytes (tableParts b)) j) ≡ transitionAt b j = offset j (omega arith) in
       let n : length (transitionBytes (tableParts b) j) ≡ 7 + byteAt (tableParts b .lengths) j =
       transitionBytes-length (tableParts b) guards-full j (omega arith) (length-few j h)
@@ -65,12 +66,12 @@ module _ (b : List ℕ) (facts : TableFacts b) where
 
   kind-stands : (i : ℕ) → i < kindsAt b → Stands b (kindAt i) (kindBytes (tableParts b) i)
   unfolding tableParts
-  kind-stands i h zero p = sym (getD-column 32 (λ i. byteAt b (kindAt i + 0)) (kindsAt b) i h)
-  kind-stands i h (suc zero) p = sym (getD-column 32 (λ i. byteAt b (kindAt i + 1)) (kindsAt b) i h)
+  kind-stands i h zero p = sym (getD-column kindLimit (λ i. byteAt b (kindAt i + 0)) (kindsAt b) i h)
+  kind-stands i h (suc zero) p = sym (getD-column kindLimit (λ i. byteAt b (kindAt i + 1)) (kindsAt b) i h)
   kind-stands i h (suc (suc k)) p = absurd (omega arith)
 
   column : (j : ℕ) → j < transitionsAt b → (k : ℕ) → byteAt b (transitionAt b j + k) ≡ byteAt (transitionColumn b k) j
-  column j h k = sym (getD-column 64 (λ i. byteAt b (transitionAt b i + k)) (transitionsAt b) j h)
+  column j h k = sym (getD-column transitionLimit (λ i. byteAt b (transitionAt b i + k)) (transitionsAt b) j h)
 
   fields-stand : (j : ℕ) → j < transitionsAt b → Stands b (transitionAt b j) (fieldBytes (tableParts b) j)
   unfolding tableParts
@@ -86,7 +87,7 @@ module _ (b : List ℕ) (facts : TableFacts b) where
   guard-stands : (j : ℕ) → j < transitionsAt b → Stands b (transitionAt b j + 7) (guardOut (tableParts b) j)
   guard-stands j h i p =
       let n : byteAt (tableParts b .lengths) j ≡ guardLengthAt b (transitionAt b j) = length-of j h in
-      let few : transitionsAt b ≤ 64 = facts .counts .transitions in
+      let few : transitionsAt b ≤ transitionLimit = facts .counts .transitions in
       let e : length (guardOut (tableParts b) j) ≡ byteAt (tableParts b .lengths) j = guardOut-length (tableParts b) guards-full j (omega arith) (length-few j h) in
       sym (guardOut-byte (tableParts b) j i (length-few j h) (omega arith) ∙ guard-byte b facts j h i (omega arith))
 
@@ -139,18 +140,18 @@ table-again b all s =
 
 module _ (b : List ℕ) where
   no-kind : (k : ℕ) → Zero (kindsAt b) (kindColumn b k)
-  no-kind k = getD-column-past 32 (λ i. byteAt b (kindAt i + k)) (kindsAt b)
+  no-kind k = getD-column-past kindLimit (λ i. byteAt b (kindAt i + k)) (kindsAt b)
 
   no-transition : (k : ℕ) → Zero (transitionsAt b) (transitionColumn b k)
-  no-transition k = getD-column-past 64 (λ j. byteAt b (transitionAt b j + k)) (transitionsAt b)
+  no-transition k = getD-column-past transitionLimit (λ j. byteAt b (transitionAt b j + k)) (transitionsAt b)
 
-  no-guard : (facts : TableFacts b) (j : ℕ) → j < transitionsAt b → (i : ℕ) → byteAt (tableParts b .lengths) j ≤ i → i < 32 → byteAt (tableParts b .guards) (32 * j + i) ≡ 0
+  no-guard : (facts : TableFacts b) (j : ℕ) → j < transitionsAt b → (i : ℕ) → byteAt (tableParts b .lengths) j ≤ i → i < guardLimit → byteAt (tableParts b .guards) (guardLimit * j + i) ≡ 0
   unfolding guardPlace
   no-guard facts j h i p q =
       let n : ℕ = guardLengthAt b (transitionAt b j) in
       let l : n ≤ i = rw (length-of b facts j h) at p in
       let g : List ℕ = take n (drop (transitionAt b j + 7) b) in
-      guard-place b facts j h i q ∙ getD-padded-past 32 g i (omega (arith, length-take n (drop (transitionAt b j + 7) b)))
+      guard-place b facts j h i q ∙ getD-padded-past guardLimit g i (omega (arith, length-take n (drop (transitionAt b j + 7) b)))
 
   pub zero-beyond : SoundTable b → TableZero (tableParts b)
   unfolding tableParts
@@ -167,7 +168,7 @@ module _ (b : List ℕ) where
         resets = no-transition 5;
         lengths = no-transition 6;
         guards = no-guard facts;
-        no-guards = λ i h. getD-padded-past 2048 (joined (guardPlace b) (transitionsAt b)) i (omega (arith, places-length b facts));
+        no-guards = λ i h. getD-padded-past (guardLimit * transitionLimit) (joined (guardPlace b) (transitionsAt b)) i (omega (arith, places-length b facts));
       }
 
 -- the bytes of parts, read
@@ -197,7 +198,7 @@ module _ (t : TableParts) where
       (stands-moved (tableBytes t) (2 + length (countBytes t ++ kinds)) (kindAt (t .kinds)) transitions (omega (arith, kinds-length t (t .kinds)))
       (stands-right (tableBytes t) 2 (countBytes t ++ kinds) transitions written-body))
 
-module _ (t : TableParts) (full : length (t .guards) ≡ 2048) (facts : TableFacts (tableBytes t)) where
+module _ (t : TableParts) (full : length (t .guards) ≡ guardLimit * transitionLimit) (facts : TableFacts (tableBytes t)) where
   few-transitions : t .transitions ≤ 64
   few-transitions = let h : transitionsAt (tableBytes t) ≤ 64 = facts .counts .transitions in rw (written-counts t 5 (omega arith)) at h
 
@@ -212,7 +213,7 @@ module _ (t : TableParts) (full : length (t .guards) ≡ 2048) (facts : TableFac
       let e : guardLengthAt (tableBytes t) (transitionAt (tableBytes t) j) ≡ byteAt (t .lengths) j =
       stands-moved (tableBytes t) _ (transitionAt (tableBytes t) j) (transitionBytes t j) again (written-transition t j h) 6 (omega arith)
       in
-      let few : guardLengthAt (tableBytes t) (transitionAt (tableBytes t) j) ≤ 32 = transition-facts j h .few in
+      let few : guardLengthAt (tableBytes t) (transitionAt (tableBytes t) j) ≤ guardLimit = transition-facts j h .few in
       let n : length (transitionBytes t j) ≡ 7 + byteAt (t .lengths) j = transitionBytes-length t full j (omega (arith, few-transitions)) (omega arith) in
       omega (arith, length-append (joined (transitionBytes t) j) (transitionBytes t j))
 
@@ -220,22 +221,22 @@ module _ (t : TableParts) (full : length (t .guards) ≡ 2048) (facts : TableFac
   back j h =
       stands-moved (tableBytes t) (kindAt (t .kinds) + length (joined (transitionBytes t) j)) (transitionAt (tableBytes t) j) (transitionBytes t j) (placed j (omega arith)) (written-transition t j h)
 
-  back-few : (j : ℕ) → j < t .transitions → byteAt (t .lengths) j ≤ 32
+  back-few : (j : ℕ) → j < t .transitions → byteAt (t .lengths) j ≤ guardLimit
   back-few j h = let e : guardLengthAt (tableBytes t) (transitionAt (tableBytes t) j) ≡ byteAt (t .lengths) j = back j h 6 (omega arith) in rw (sym e) (transition-facts j h .few)
 
   -- a column of the parts read, at a place that the count reaches
   back-kind : (i : ℕ) → i < t .kinds → (k : ℕ) → k < 2 → byteAt (kindColumn (tableBytes t) k) i ≡ byteAt (kindBytes t i) k
   back-kind i h k p =
       let b : List ℕ = tableBytes t in
-      getD-column 32 (λ i. byteAt b (kindAt i + k)) (kindsAt b) i (rw (written-counts t 4 (omega arith)) h) ∙ written-kind t i h k p
+      getD-column kindLimit (λ i. byteAt b (kindAt i + k)) (kindsAt b) i (rw (written-counts t 4 (omega arith)) h) ∙ written-kind t i h k p
 
   back-field : (j : ℕ) → j < t .transitions → (k : ℕ) → k < 7 → byteAt (transitionColumn (tableBytes t) k) j ≡ byteAt (transitionBytes t j) k
   back-field j h k p =
       let b : List ℕ = tableBytes t in
-      getD-column 64 (λ i. byteAt b (transitionAt b i + k)) (transitionsAt b) j (rw (written-counts t 5 (omega arith)) h) ∙ back j h k (omega arith)
+      getD-column transitionLimit (λ i. byteAt b (transitionAt b i + k)) (transitionsAt b) j (rw (written-counts t 5 (omega arith)) h) ∙ back j h k (omega arith)
 
   back-guard :
-      (j : ℕ) → j < t .transitions → (i : ℕ) → i < byteAt (t .lengths) j → byteAt (tableParts (tableBytes t) .guards) (32 * j + i) ≡ byteAt (t .guards) (32 * j + i)
+      (j : ℕ) → j < t .transitions → (i : ℕ) → i < byteAt (t .lengths) j → byteAt (tableParts (tableBytes t) .guards) (guardLimit * j + i) ≡ byteAt (t .guards) (guardLimit * j + i)
   back-guard j h i p =
       let b : List ℕ = tableBytes t in
       let e : guardLengthAt b (transitionAt b j) ≡ byteAt (t .lengths) j = back j h 6 (omega arith) in
@@ -244,7 +245,7 @@ module _ (t : TableParts) (full : length (t .guards) ≡ 2048) (facts : TableFac
       ∙ stands-right b (transitionAt b j) (fieldBytes t j) (guardOut t j) (back j h) i (omega arith)
       ∙ guardOut-byte t j i (back-few j h) p
 
-pub table-back : (t : TableParts) → length (t .guards) ≡ 2048 → SoundTable (tableBytes t) → SameTable (tableParts (tableBytes t)) t
+pub table-back : (t : TableParts) → length (t .guards) ≡ guardLimit * transitionLimit → SoundTable (tableBytes t) → SameTable (tableParts (tableBytes t)) t
 unfolding tableParts
 table-back t full s =
     let facts : TableFacts (tableBytes t) = table-facts (tableBytes t) s in
@@ -268,15 +269,15 @@ table-back t full s =
 
 -- parts that agree so describe the same monitor
 
-module _ (t u : TableParts) (same : SameTable t u) (few : (j : ℕ) → j < u .transitions → byteAt (u .lengths) j ≤ 32) where
+module _ (t u : TableParts) (same : SameTable t u) (few : (j : ℕ) → j < u .transitions → byteAt (u .lengths) j ≤ guardLimit) where
   same-guard : (j : ℕ) → j < u .transitions → guardIn t j ≡ guardIn u j
   unfolding guardIn
   same-guard j h =
       let n : ℕ = byteAt (u .lengths) j in
-      ap₂ (λ (vs cs : ℕ). guardOf (guardAt 32 vs cs (t .guards) (32 * j) (32 * j + byteAt (t .lengths) j))) (same .variables) (same .clocks)
-      ∙ ap (λ (k : ℕ). guardOf (guardAt 32 (u .variables) (u .clocks) (t .guards) (32 * j) (32 * j + k))) (same .lengths j h)
-      ∙ ap guardOf (guard-moved (u .variables) (u .clocks) (u .guards) (t .guards) (32 * j) (32 * j) n (λ i p. sym (same .guards j h i p)) 32 32 (few j h) (few j h))
-      ∙ moved-guard (32 * j) (32 * j) (guardAt 32 (u .variables) (u .clocks) (u .guards) (32 * j) (32 * j + n))
+      ap₂ (λ (vs cs : ℕ). guardOf (guardAt guardLimit vs cs (t .guards) (guardLimit * j) (guardLimit * j + byteAt (t .lengths) j))) (same .variables) (same .clocks)
+      ∙ ap (λ (k : ℕ). guardOf (guardAt guardLimit (u .variables) (u .clocks) (t .guards) (guardLimit * j) (guardLimit * j + k))) (same .lengths j h)
+      ∙ ap guardOf (guard-moved (u .variables) (u .clocks) (u .guards) (t .guards) (guardLimit * j) (guardLimit * j) n (λ i p. sym (same .guards j h i p)) 32 32 (few j h) (few j h))
+      ∙ moved-guard (guardLimit * j) (guardLimit * j) (guardAt guardLimit (u .variables) (u .clocks) (u .guards) (guardLimit * j) (guardLimit * j + n))
 
   same-transition : (j : ℕ) → j < u .transitions → transitionIn t j ≡ transitionIn u j
   unfolding transitionIn
@@ -315,5 +316,5 @@ module _ (t u : TableParts) (same : SameTable t u) (few : (j : ℕ) → j < u .t
         transitions = transitions i;
       }
 
-pub monitor-back : (t : TableParts) → length (t .guards) ≡ 2048 → SoundTable (tableBytes t) → monitorAt (tableBytes t) ≡ monitorOf t
+pub monitor-back : (t : TableParts) → length (t .guards) ≡ guardLimit * transitionLimit → SoundTable (tableBytes t) → monitorAt (tableBytes t) ≡ monitorOf t
 monitor-back t full s = same-monitor (tableParts (tableBytes t)) t (table-back t full s) (back-few t full (table-facts (tableBytes t) s))

@@ -2,11 +2,12 @@
 use Prim.Native.Nat.{ℕ, zero, suc, _+_, _*_, _<_, _≤_}
 use native.Mathlib.Omega.{arith}
 use mathlib.Core.Path.{_≡_, refl, sym, ap, ap₂, subst, _∙_}
-use mathlib.Core.List.{List, [], _∷_, _++_, append-assoc}
+use mathlib.Core.List.{List, [], _∷_, _++_, append-assoc, append-nil}
 use mathlib.Core.Option.{Option, none, some}
 use lib.ListN.{length, getD, getElem?}
 use Rattle.model.specs.Limits.{witnessLimit}
 use Rattle.model.specs.Bytes.{byteAt, wordAt, wordBytes, tab, joined}
+use Rattle.model.specs.Frame.{rowsFrame}
 use Rattle.model.specs.Witness.{Row, misformed, Formed, witnessCountAt, rowAt, rowsAt, badRow, witnessFrame, witnessAnswer, SoundForm, witnessParts, rowBytes, rowsBytes, witnessBytes, rowIn, rowsIn}
 use Rattle.model.specs.Same.{SameWitness, WitnessZero}
 use Rattle.model.specs.declared.WitnessParts.{WitnessParts}
@@ -37,10 +38,14 @@ witness-facts b e =
 
 -- the bytes of rows, one behind the other
 
-rowsBytes-snoc : (l : List Row) (r : Row) → rowsBytes (l ++ (r ∷ [])) ≡ rowsBytes l ++ rowBytes r
+pub rowsBytes-append : (a b : List Row) → rowsBytes (a ++ b) ≡ rowsBytes a ++ rowsBytes b
 unfolding rowsBytes
-rowsBytes-snoc [] r = refl
-rowsBytes-snoc (x ∷ l) r = ap (λ (t : List ℕ). rowBytes x ++ t) (rowsBytes-snoc l r) ∙ sym (append-assoc (rowBytes x) (rowsBytes l) (rowBytes r))
+rowsBytes-append [] b = refl
+rowsBytes-append (r ∷ a) b = ap (λ (t : List ℕ). rowBytes r ++ t) (rowsBytes-append a b) ∙ sym (append-assoc (rowBytes r) (rowsBytes a) (rowsBytes b))
+
+pub rowsBytes-snoc : (l : List Row) (r : Row) → rowsBytes (l ++ (r ∷ [])) ≡ rowsBytes l ++ rowBytes r
+unfolding rowsBytes
+rowsBytes-snoc l r = rowsBytes-append l (r ∷ []) ∙ ap (λ (t : List ℕ). rowsBytes l ++ t) (append-nil (rowBytes r))
 
 rowsBytes-tab : (f : ℕ → Row) (n : ℕ) → rowsBytes (tab f n) ≡ joined (λ i. rowBytes (f i)) n
 unfolding tab joined rowsBytes
@@ -50,11 +55,11 @@ rowsBytes-tab f (suc n) = rowsBytes-snoc (tab f n) (f n) ∙ ap (λ (t : List �
 rows-length : (f : ℕ → Row) (n : ℕ) → length (joined (λ i. rowBytes (f i)) n) ≡ 5 * n
 rows-length f n = length-joined (λ i. rowBytes (f i)) 5 n (λ i h. refl)
 
-witness-tab : (f : ℕ → Row) (n : ℕ) → witnessBytes (tab f n) ≡ wordBytes (3 + 5 * n) ++ (1 ∷ []) ++ wordBytes n ++ joined (λ i. rowBytes (f i)) n
+witness-tab : (f : ℕ → Row) (n : ℕ) → witnessBytes (tab f n) ≡ rowsFrame 5 n ++ joined (λ i. rowBytes (f i)) n
 unfolding witnessBytes
-witness-tab f n = ap₂ (λ (k : ℕ) (t : List ℕ). wordBytes (3 + 5 * k) ++ (1 ∷ []) ++ wordBytes k ++ t) (length-tab f n) (rowsBytes-tab f n)
+witness-tab f n = ap₂ (λ (k : ℕ) (t : List ℕ). rowsFrame 5 k ++ t) (length-tab f n) (rowsBytes-tab f n)
 
-rowsBytes-length : (l : List Row) → length (rowsBytes l) ≡ 5 * length l
+pub rowsBytes-length : (l : List Row) → length (rowsBytes l) ≡ 5 * length l
 unfolding rowsBytes
 rowsBytes-length [] = refl
 rowsBytes-length (r ∷ l) = let again : length (rowsBytes l) ≡ 5 * length l = rowsBytes-length l in omega arith
@@ -88,7 +93,7 @@ witness-again b all e =
     let n : ℕ = witnessCountAt b in
     let rows : List ℕ = joined (λ i. rowBytes (rowAt b i)) n in
     witness-tab (rowAt b) n
-    ∙ stands-whole b (wordBytes (3 + 5 * n) ++ (1 ∷ []) ++ wordBytes n ++ rows) (omega (arith, rows-length (rowAt b) n))
+    ∙ stands-whole b (rowsFrame 5 n ++ rows) (omega (arith, rows-length (rowAt b) n))
     (stands-headed b (3 + 5 * n) n rows (word-at b 0 (3 + 5 * n) all (facts .rows .sized)) (facts .rows .head .version) (word-at b 3 n all refl)
     (stands-joined (λ i. rowBytes (rowAt b i)) b 5 n
     (λ i h. stands-moved b (5 + 5 * i) (5 + length (joined (λ i. rowBytes (rowAt b i)) i)) (rowBytes (rowAt b i)) (omega (arith, rows-length (rowAt b) i)) (row-stands b i all))))
@@ -97,10 +102,10 @@ column : (b : List ℕ) (i : ℕ) → i < witnessCountAt b → rowIn (witnessPar
 unfolding witnessParts rowIn rowAt
 column b i h j =
     record {
-      mark = getD-column 4608 (λ i. rowAt b i .mark) (witnessCountAt b) i h j;
-      time = getD-column 4608 (λ i. rowAt b i .time) (witnessCountAt b) i h j;
-      kind = getD-column 4608 (λ i. rowAt b i .kind) (witnessCountAt b) i h j;
-      transition = getD-column 4608 (λ i. rowAt b i .transition) (witnessCountAt b) i h j;
+      mark = getD-column witnessLimit (λ i. rowAt b i .mark) (witnessCountAt b) i h j;
+      time = getD-column witnessLimit (λ i. rowAt b i .time) (witnessCountAt b) i h j;
+      kind = getD-column witnessLimit (λ i. rowAt b i .kind) (witnessCountAt b) i h j;
+      transition = getD-column witnessLimit (λ i. rowAt b i .transition) (witnessCountAt b) i h j;
     }
 
 pub witness-rows : (b : List ℕ) → rowsIn (witnessParts b) ≡ rowsAt b
@@ -109,7 +114,7 @@ witness-rows b = tab-same (rowIn (witnessParts b)) (rowAt b) (witnessCountAt b) 
 
 -- the bytes of rows, read
 module _ (f : ℕ → Row) (n : ℕ) (few : n ≤ witnessLimit) (times : (i : ℕ) → i < n → f i .time < 65536) where
-  written : Stands (witnessBytes (tab f n)) 0 (wordBytes (3 + 5 * n) ++ (1 ∷ []) ++ wordBytes n ++ joined (λ i. rowBytes (f i)) n)
+  written : Stands (witnessBytes (tab f n)) 0 (rowsFrame 5 n ++ joined (λ i. rowBytes (f i)) n)
   written = subst (λ (l : List ℕ). Stands (witnessBytes (tab f n)) 0 l) (witness-tab f n) (stands-self (witnessBytes (tab f n)))
 
   pub written-count : witnessCountAt (witnessBytes (tab f n)) ≡ n
@@ -175,8 +180,8 @@ pub witness-zero : (b : List ℕ) → WitnessZero (witnessParts b)
 unfolding witnessParts
 witness-zero b =
     record {
-      marks = getD-column-past 4608 (λ i. rowAt b i .mark) (witnessCountAt b);
-      times = getD-column-past 4608 (λ i. rowAt b i .time) (witnessCountAt b);
-      kinds = getD-column-past 4608 (λ i. rowAt b i .kind) (witnessCountAt b);
-      transitions = getD-column-past 4608 (λ i. rowAt b i .transition) (witnessCountAt b);
+      marks = getD-column-past witnessLimit (λ i. rowAt b i .mark) (witnessCountAt b);
+      times = getD-column-past witnessLimit (λ i. rowAt b i .time) (witnessCountAt b);
+      kinds = getD-column-past witnessLimit (λ i. rowAt b i .kind) (witnessCountAt b);
+      transitions = getD-column-past witnessLimit (λ i. rowAt b i .transition) (witnessCountAt b);
     }

@@ -1,41 +1,30 @@
 -- What the definitions of a witness give, by the tests that the code makes.
 use Prim.Native.Nat.{ℕ, zero, suc, _+_, _-_, _*_, _<_, _≤_}
 use native.Mathlib.Omega.{arith}
-use mathlib.Core.Path.{_≡_, sym, ap, _∙_}
+use mathlib.Core.Path.{_≡_, refl, sym, ap, subst, _∙_}
 use mathlib.Core.List.{List, [], _∷_, _++_, append-nil}
 use mathlib.Core.Bool.{Bool, true, false, not, false≢true}
 use mathlib.Core.Option.{Option, none, some}
-use lib.ListN.{length}
-use lib.Dec.{leb, eqb}
+use lib.Dec.{eqb}
 use lib.Seq.{append-snoc}
-use borrow.Author.Tests.{lt-ltb, le-ltb, le-leb, lt-leb, eq-eqb, ne-eqb, leb-true}
-use Rattle.model.specs.Bytes.{byteAt, wordAt, tab, padded}
-use Rattle.model.specs.First.{unless, andThen, firstOf, isSound}
+use borrow.Author.Tests.{lt-ltb, le-ltb, le-leb, lt-leb, eq-eqb, ne-eqb}
+use Rattle.model.specs.Limits.{timeLimit, witnessLimit}
+use Rattle.model.specs.Answers.{Writes}
+use Rattle.model.specs.Bytes.{wordAt, tab, padded}
+use Rattle.model.specs.First.{isSound}
 use Rattle.model.specs.Witness.{Row, inForm, follows, inPlace, misformed, badRow, rowAt, rowsAt, rowsIn, witnessFrame, witnessAnswer, witnessParts, noWitness, readWitness, witnessBytes, witnessWritable, writeWitness}
-use Rattle.model.specs.Room.{write}
+use Rattle.model.specs.Room.{Lent, write}
 use Rattle.model.specs.declared.WitnessParts.{WitnessParts}
 use Rattle.model.specs.declared.Reading.{Reading}
 use Rattle.model.specs.declared.Reading.the-variants.{Sound, Unsound}
-use Rattle.model.specs.declared.Refusal.{Refusal}
 use Rattle.model.specs.declared.Refusal.the-variants.{WitnessFrame, WitnessVersion, WitnessCount}
+use Rattle.model.specs.declared.Writing.{Writing}
 use Rattle.model.specs.declared.Writing.the-variants.{Unwritten}
-use Rattle.model.proofs.Basics.{unless-sound, andThen-left, andThen-right}
-use Rattle.frame.specs.Framed.{framed, framedRows}
-use Rattle.frame.proofs.Answers.{then-sound, then-assoc, sound-is}
+use Rattle.model.proofs.Basics.{andThen-left}
+use Rattle.model.proofs.AnswerLaws.{writes-by}
+use Rattle.model.proofs.Tests.{rows-facts}
+use Rattle.frame.proofs.Answers.{then-sound, sound-is}
 use Rattle.witness.specs.Rows.{rowsFrom, rowBefore, columnAt, timeAt}
-
--- the frame
-pub frame-row : (b : List ℕ) → framedRows b 5 4608 WitnessFrame WitnessVersion WitnessCount ≡ witnessFrame b
-unfolding framedRows framed witnessFrame
-frame-row b =
-    row
-    (unless (leb 5 (length b)) WitnessFrame)
-    (unless (eqb (wordAt b 0 + 2) (length b)) WitnessFrame)
-    (unless (eqb (byteAt b 2) 1) WitnessVersion)
-    (firstOf (unless (leb (wordAt b 3) 4608) WitnessCount ∷ unless (eqb (wordAt b 0) (3 + 5 * wordAt b 3)) WitnessCount ∷ []))
-  where
-    row : (f g v r : Reading) → andThen (firstOf (f ∷ g ∷ v ∷ [])) r ≡ andThen f (andThen g (andThen v r))
-    row f g v r = simp (then-assoc, then-sound)
 
 -- a row by itself
 
@@ -50,18 +39,18 @@ module _ (r : Row) where
     form-early h = rw (le-leb (r .mark) 2 mark, lt-leb 1 (r .time) h)
 
     module _ (early : 1 ≤ r .time) where
-      pub form-late : 4096 < r .time → false ≡ inForm r
+      pub form-late : timeLimit < r .time → false ≡ inForm r
       unfolding inForm
-      form-late h = rw (le-leb (r .mark) 2 mark, le-leb 1 (r .time) early, lt-leb (r .time) 4096 h)
+      form-late h = rw (le-leb (r .mark) 2 mark, le-leb 1 (r .time) early, lt-leb (r .time) timeLimit h)
 
-      module _ (late : r .time ≤ 4096) where
+      module _ (late : r .time ≤ timeLimit) where
         pub form-fires : (r .mark ≡ 1 → ⊥) → true ≡ inForm r
         unfolding inForm
-        form-fires h = rw (le-leb (r .mark) 2 mark, le-leb 1 (r .time) early, le-leb (r .time) 4096 late, ne-eqb (r .mark) 1 h)
+        form-fires h = rw (le-leb (r .mark) 2 mark, le-leb 1 (r .time) early, le-leb (r .time) timeLimit late, ne-eqb (r .mark) 1 h)
 
         pub form-removed : r .mark ≡ 1 → eqb (r .transition) 255 ≡ inForm r
         unfolding inForm
-        form-removed h = rw (le-leb (r .mark) 2 mark, le-leb 1 (r .time) early, le-leb (r .time) 4096 late, eq-eqb (r .mark) 1 h)
+        form-removed h = rw (le-leb (r .mark) 2 mark, le-leb 1 (r .time) early, le-leb (r .time) timeLimit late, eq-eqb (r .mark) 1 h)
 
 -- a row behind another
 
@@ -175,30 +164,15 @@ answer-rows b (Unsound x) e h = absurd (false≢true h)
 
 -- reading, by the answer
 
-fourth : (a b c : Reading) (t : Bool) (r : Refusal) (e : Reading) → firstOf (a ∷ b ∷ c ∷ unless t r ∷ e ∷ []) ≡ Sound → t ≡ true
-fourth a b c t r e h =
-    let d : Reading = andThen (unless t r) (andThen e Sound) in
-    unless-sound t r (andThen-left (unless t r) (andThen e Sound) (andThen-right c d (andThen-right b (andThen c d) (andThen-right a (andThen b (andThen c d)) h))))
-
-pub sound-count : (b : List ℕ) (r : Reading) → r ≡ witnessAnswer b → isSound r ≡ true → wordAt b 3 ≤ 4608
+pub sound-count : (b : List ℕ) (r : Reading) → r ≡ witnessAnswer b → isSound r ≡ true → wordAt b 3 ≤ witnessLimit
 unfolding witnessAnswer witnessFrame
-sound-count b r e h =
-    let frame : witnessFrame b ≡ Sound = andThen-left (witnessFrame b) _ (sym e ∙ sound-is r h) in
-    leb-true (wordAt b 3) 4608
-    (fourth
-    (unless (leb 5 (length b)) WitnessFrame)
-    (unless (eqb (wordAt b 0 + 2) (length b)) WitnessFrame)
-    (unless (eqb (byteAt b 2) 1) WitnessVersion)
-    (leb (wordAt b 3) 4608)
-    WitnessCount
-    (unless (eqb (wordAt b 0) (3 + 5 * wordAt b 3)) WitnessCount)
-    frame)
+sound-count b r e h = rows-facts b 5 witnessLimit WitnessFrame WitnessVersion WitnessCount (andThen-left (witnessFrame b) _ (sym e ∙ sound-is r h)) .count
 
 pub parts-are : (b : List ℕ) (n : ℕ) (m t k x : List ℕ) → n ≡ wordAt b 3
-    → m ≡ padded 4608 (tab (columnAt b 5) n)
-    → t ≡ padded 4608 (tab (timeAt b) n)
-    → k ≡ padded 4608 (tab (columnAt b 8) n)
-    → x ≡ padded 4608 (tab (columnAt b 9) n)
+    → m ≡ padded witnessLimit (tab (columnAt b 5) n)
+    → t ≡ padded witnessLimit (tab (timeAt b) n)
+    → k ≡ padded witnessLimit (tab (columnAt b 8) n)
+    → x ≡ padded witnessLimit (tab (columnAt b 9) n)
     → record { count = n; marks = m; times = t; kinds = k; transitions = x } ≡ witnessParts b
 unfolding witnessParts rowAt
 parts-are b n m t k x e p q r s = rw (p, q, r, s, e)
@@ -215,10 +189,14 @@ module _ (b : List ℕ) (r : Reading) (is : r ≡ witnessAnswer b) (p : WitnessP
 -- writing, by the count
 
 module _ (w : WitnessParts) (room : List ℕ) where
-  pub write-many : 4608 < w .count → writeWitness w room ≡ record { answer = Unwritten WitnessCount; room = room }
+  pub write-many : witnessLimit < w .count → Writes (writeWitness w room) (Unwritten WitnessCount) room
   unfolding writeWitness witnessWritable
-  write-many h = rw (lt-leb _ _ h)
+  write-many h = rw (lt-leb _ _ h) (writes-by _ _ _ refl refl)
 
-  pub write-bytes : w .count ≤ 4608 → (r : Reading) (bytes : List ℕ) → r ≡ witnessAnswer bytes → bytes ≡ witnessBytes (rowsIn w) → write r bytes room ≡ writeWitness w room
+  pub write-bytes : w .count ≤ witnessLimit → (r : Reading) (bytes : List ℕ) → r ≡ witnessAnswer bytes → bytes ≡ witnessBytes (rowsIn w)
+      → (answer : Writing) (after : List ℕ) → Writes (write r bytes room) answer after → Writes (writeWitness w room) answer after
   unfolding writeWitness witnessWritable
-  write-bytes h r bytes is e = rw (is, e, le-leb _ _ h, then-sound)
+  write-bytes h r bytes is e answer after = subst (λ (l : Lent). Writes l answer after) same
+    where
+      same : write r bytes room ≡ writeWitness w room
+      same = rw (is, e, le-leb _ _ h, then-sound)

@@ -5,8 +5,13 @@ use frame::frame_bytes;
 use frame::put;
 use frame::rows_framed;
 use frame::sound;
+use model::ADDED;
+use model::NO_TRANSITION;
+use model::REMOVED;
 use model::Reading;
 use model::Refusal;
+use model::TIME_LIMIT;
+use model::WITNESS_LIMIT;
 use model::WitnessParts;
 use model::WitnessReading;
 use model::Writing;
@@ -18,6 +23,8 @@ ghost use Prim.Native.Nat.{_+_, _*_, _≤_, _<_};
 ghost use mathlib.Core.Path.{_≡_};
 ghost use mathlib.Core.Option.{none};
 ghost use lib.ListN.{length};
+ghost use Rattle.model.specs.Answers.{Reads, Writes};
+ghost use Rattle.model.specs.Limits.{witnessLimit};
 ghost use Rattle.model.specs.Bytes.{wordAt, tab, padded};
 ghost use Rattle.model.specs.Room.{over};
 ghost use Rattle.model.specs.Witness.{inForm, follows, inPlace, misformed, badRow, rowAt, witnessFrame, witnessAnswer, noWitness, witnessParts, readWitness, rowBytes, witnessBytes, writeWitness};
@@ -25,7 +32,7 @@ ghost use Rattle.wire.specs.Placed.{placed};
 ghost use Rattle.witness.specs.Rows.{rowOf, rowBefore, columnAt, timeAt, rowAmong};
 
 // The most rows.
-const LIMIT: u16 = 4608;
+const LIMIT: u16 = WITNESS_LIMIT as u16;
 
 // A row of a witness.
 pub struct Entry {
@@ -65,19 +72,19 @@ pub fn row_at(b: &[u8], i: u16) -> Entry
 pub fn in_form(e: Entry) -> bool
     ensures { λ t. ⌜ t ≡ inForm (rowOf e) ⌝ }
 {
-    if 2 < e.mark {
+    if ADDED < e.mark {
         return false;
     }
     if e.time < 1 {
         return false;
     }
-    if 4096 < e.time {
+    if TIME_LIMIT < e.time {
         return false;
     }
-    if e.mark != 1 {
+    if e.mark != REMOVED {
         return true;
     }
-    e.transition == 255
+    e.transition == NO_TRANSITION
 }
 
 // A row behind the one before it.
@@ -90,10 +97,10 @@ pub fn in_order(before: Entry, e: Entry) -> bool
     if before.time != e.time {
         return false;
     }
-    if before.mark != 1 {
+    if before.mark != REMOVED {
         return false;
     }
-    if e.mark != 2 {
+    if e.mark != ADDED {
         return false;
     }
     before.kind != e.kind
@@ -139,26 +146,26 @@ pub fn witness_answer(b: &[u8]) -> Reading
 }
 
 // The byte of each row that stands at start in row 0.
-fn column(b: &[u8], start: u8, count: u16) -> [u8; 4608]
-    requires { ⌜ count ≤ 4608 ⌝ }
-    ensures { λ r. ⌜ r ≡ padded 4608 (tab (columnAt (now (b .entry)) start) count) ⌝ }
+fn column(b: &[u8], start: u8, count: u16) -> [u8; WITNESS_LIMIT]
+    requires { ⌜ count ≤ witnessLimit ⌝ }
+    ensures { λ r. ⌜ r ≡ padded witnessLimit (tab (columnAt (now (b .entry)) start) count) ⌝ }
 {
-    let mut column = [0u8; 4608];
+    let mut column = [0u8; WITNESS_LIMIT];
     bytes_column(b, start, 5, count, &mut column);
     column
 }
 
-fn time_column(b: &[u8], count: u16) -> [u16; 4608]
-    requires { ⌜ count ≤ 4608 ⌝ }
-    ensures { λ r. ⌜ r ≡ padded 4608 (tab (timeAt (now (b .entry))) count) ⌝ }
+fn time_column(b: &[u8], count: u16) -> [u16; WITNESS_LIMIT]
+    requires { ⌜ count ≤ witnessLimit ⌝ }
+    ensures { λ r. ⌜ r ≡ padded witnessLimit (tab (timeAt (now (b .entry))) count) ⌝ }
 {
-    let mut column = [0u16; 4608];
+    let mut column = [0u16; WITNESS_LIMIT];
     words_column(b, 6, 5, count, &mut column);
     column
 }
 
 fn parts_at(b: &[u8]) -> WitnessParts
-    requires { ⌜ wordAt (now b) 3 ≤ 4608 ⌝ }
+    requires { ⌜ wordAt (now b) 3 ≤ witnessLimit ⌝ }
     ensures { λ r. ⌜ r ≡ witnessParts (now (b .entry)) ⌝ }
 {
     let count = word(b, 3);
@@ -180,15 +187,16 @@ fn no_parts() -> WitnessParts
 {
     WitnessParts {
         count: 0,
-        marks: [0u8; 4608],
-        times: [0u16; 4608],
-        kinds: [0u8; 4608],
-        transitions: [0u8; 4608],
+        marks: [0u8; WITNESS_LIMIT],
+        times: [0u16; WITNESS_LIMIT],
+        kinds: [0u8; WITNESS_LIMIT],
+        transitions: [0u8; WITNESS_LIMIT],
     }
 }
 
 pub fn read_witness(b: &[u8]) -> WitnessReading
     ensures { λ r. ⌜ r ≡ readWitness (now (b .entry)) ⌝ }
+    ensures { λ r. ⌜ Reads (witnessAnswer (now (b .entry))) (witnessParts (now (b .entry))) noWitness (r .answer) (r .parts) ⌝ }
 {
     let answer = witness_answer(b);
     if sound(answer) {
@@ -199,7 +207,8 @@ pub fn read_witness(b: &[u8]) -> WitnessReading
     WitnessReading { answer, parts }
 }
 
-fn row_bytes(e: Entry) -> [u8; 5]
+// A row's five bytes.
+pub fn row_bytes(e: Entry) -> [u8; 5]
     ensures { λ s. ⌜ s ≡ rowBytes (rowOf e) ⌝ }
 {
     [
@@ -236,7 +245,7 @@ fn put_row<'a>(
     i: usize,
     out: &mut [u8],
 )
-    requires { ⌜ i < 4608 ⌝ }
+    requires { ⌜ i < witnessLimit ⌝ }
     ensures { λ _. ⌜ now (out .exit) ≡ placed (rowBytes (rowAmong (now (marks .entry)) (now (times .entry)) (now (kinds .entry)) (now (transitions .entry)) i)) (5 + 5 * i) (now (out .entry)) ⌝ }
 {
     let row = row_bytes(row_among(marks, times, kinds, transitions, i));
@@ -251,10 +260,10 @@ fn encode<'a>(
     count: usize,
     out: &mut [u8],
 )
-    requires { ⌜ (count ≤ 4608) × (5 + 5 * count ≤ length (now out)) ⌝ }
+    requires { ⌜ (count ≤ witnessLimit) × (5 + 5 * count ≤ length (now out)) ⌝ }
     ensures { λ _. ⌜ now (out .exit) ≡ over (witnessBytes (tab (rowAmong (now (marks .entry)) (now (times .entry)) (now (kinds .entry)) (now (transitions .entry))) count)) (now (out .entry)) ⌝ }
 {
-    let frame = frame_bytes((3 + 5 * count) as u16, count as u16);
+    let frame = frame_bytes(5, count as u16);
     place(&frame, out, 0);
     let mut i = 0;
     while i < count {
@@ -264,14 +273,14 @@ fn encode<'a>(
 }
 
 pub fn write_witness(w: WitnessParts, room: &mut [u8]) -> Writing
-    ensures { λ r. ⌜ (r ≡ (writeWitness w (now (room .entry))) .answer) × (now (room .exit) ≡ (writeWitness w (now (room .entry))) .room) ⌝ }
+    ensures { λ r. ⌜ Writes (writeWitness w (now (room .entry))) r (now (room .exit)) ⌝ }
 {
     if LIMIT < w.count {
         return Writing::Unwritten(Refusal::WitnessCount);
     }
     let count = w.count as usize;
-    // made apart: a refusal leaves the room as it was, and LIMIT rows are 23,045 bytes
-    let mut bytes = [0u8; 23045];
+    // made apart: a refusal leaves the room as it was
+    let mut bytes = [0u8; 5 + 5 * WITNESS_LIMIT];
     encode(
         &w.marks,
         &w.times,

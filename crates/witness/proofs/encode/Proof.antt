@@ -21,17 +21,8 @@ Inv-loop marks times kinds transitions count out₀ i₀ out i =
 abbrev μ-loop : tie.MeasureT-loop
 μ-loop marks times kinds transitions count out₀ i₀ out i = count - i
 
-mul-frame-bytes : tie.Need-mul-frame-bytes Inv-loop μ-loop
-mul-frame-bytes c = search needs
-
-add-frame-bytes : tie.Need-add-frame-bytes Inv-loop μ-loop
-add-frame-bytes c = search needs
-
 cast-frame-bytes : tie.Need-cast-frame-bytes Inv-loop μ-loop
 cast-frame-bytes c = search needs
-
-cast-frame-bytes-2 : tie.Need-cast-frame-bytes-2 Inv-loop μ-loop
-cast-frame-bytes-2 c = search needs
 
 frame-bytes-requires : tie.Need-frame-bytes-requires Inv-loop μ-loop
 frame-bytes-requires c κs = search needs
@@ -83,10 +74,7 @@ encode-spec =
     (tie.spec
     Inv-loop
     μ-loop
-    mul-frame-bytes
-    add-frame-bytes
     cast-frame-bytes
-    cast-frame-bytes-2
     frame-bytes-requires
     slice-aggregate-place
     place-requires

@@ -1,5 +1,4 @@
-use mathlib.Core.Path.{_∙_}
-use Rattle.witness.proofs.Laws.{frame-row}
+use Rattle.model.specs.Witness.{witnessFrame}
 use borrow.Author.Needs.{needs}
 use Rattle.witness.proofs.witness_frame.Statement.{statement}
 use Rattle.witness.proofs.witness_frame.Tie as tie
@@ -8,7 +7,8 @@ rows-framed-requires : tie.Need-rows-framed-requires
 rows-framed-requires c κs = search needs
 
 returns : tie.Need-returns
-returns c = c .rows-framed .ensures ∙ frame-row _
+unfolding witnessFrame
+returns c = c .rows-framed .ensures
 
 pub witness-frame-spec : {M : Type 1} → statement M
 witness-frame-spec = tie.close (tie.spec rows-framed-requires returns)

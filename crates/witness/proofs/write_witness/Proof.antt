@@ -1,15 +1,13 @@
 use Prim.Native.Nat.{_+_, _-_, _*_}
 use native.Mathlib.Omega.{arith}
-use mathlib.Core.Path.{sym, ap, _∙_}
 use borrow.Author.Needs.{needs}
-use Rattle.model.specs.Room.{Lent}
 use Rattle.witness.proofs.Encoded.{encoded}
 use Rattle.witness.proofs.Laws.{write-many, write-bytes}
 use Rattle.witness.proofs.write_witness.Statement.{statement}
 use Rattle.witness.proofs.write_witness.Tie as tie
 
 returns : tie.Need-returns
-returns c = let e = sym (write-many (c .before .before .args .t1) (c .before .before .args .room .now) (omega arith)) in (ap (λ (l : Lent). l .answer) e, ap (λ (l : Lent). l .room) e)
+returns c = write-many (c .before .before .args .t1) (c .before .before .args .room .now) (omega arith)
 
 cast-count : tie.Need-cast-count
 cast-count c = search needs
@@ -47,10 +45,9 @@ same-length c = search needs
 returns-2 : tie.Need-returns-2
 returns-2 c =
     let a = c .before .before .before .before .before .before .before .before .before .before .before .before .before .before .before .before .before .before .before .before .before .args in
-    let e =
     write-bytes (a .t1) (a .room .now) (c .before .before .before .before .before .before .before .before .before .before .before .before .before .before .before .before .before .before .before .if1 .left) _ _ (c .before .before .before .before .witness-answer .ensures)
-    (encoded (a .t1) _ _ (5 + 5 * a .t1 .count - 0) (c .before .before .before .before .before .before .before .before .encode .ensures) (omega arith)) in
-    (c .before .before .put .ensures .0 ∙ ap (λ (l : Lent). l .answer) e, c .before .before .put .ensures .1 ∙ ap (λ (l : Lent). l .room) e)
+    (encoded (a .t1) _ _ (5 + 5 * a .t1 .count - 0) (c .before .before .before .before .before .before .before .before .encode .ensures) (omega arith))
+    _ _ (c .before .before .put .ensures)
 
 pub write-witness-spec : {M : Type 1} → statement M
 write-witness-spec =
