@@ -10,47 +10,51 @@ use lib.Dec.{leb}
 use mathlib.Core.Bool.{true, false}
 use borrow.Author.Tests.{le-leb, eq-eqb}
 use lib.Seq.{take-take, take-all, length-take-le}
+use Rattle.model.specs.Limits.{kindLimit, transitionLimit, guardLimit, tableLimit, sizeLimit}
 use Rattle.model.specs.Bytes.{byteAt, wordAt, wordBytes, joined}
 use Rattle.model.specs.First.{unless, isSound}
+use Rattle.model.specs.Frame.{framed}
+use Rattle.model.specs.Answers.{Writes}
 use Rattle.model.specs.Room.{write, over}
-use Rattle.model.specs.Size.{size, sizeLimit}
-use Rattle.model.specs.Table.{kindBytes, transitionBytes, tableBody, tableBytes, tableCounts, tableParts, tableAnswer, monitorOf, writeTable}
+use Rattle.model.specs.Size.{size}
+use Rattle.model.specs.Table.{kindAt, kindBytes, guardBytesIn, transitionBytes, countBytes, tableBody, tableBytes, countsOf, tableCounts, tableParts, tableScan, tableAnswer, monitorOf, writeTable}
 use Rattle.model.specs.declared.Refusal.the-variants.{TableFrame, TableVersion, TableSize}
 use Rattle.model.specs.declared.Reading.{Reading}
-use Rattle.model.specs.declared.Reading.the-variants.{Sound}
+use Rattle.model.specs.declared.Reading.the-variants.{Sound, Unsound}
+use Rattle.model.specs.declared.Refusal.{Refusal}
+use Rattle.model.specs.declared.Writing.{Writing}
+use Rattle.model.specs.declared.Writing.the-variants.{Unwritten}
 use Rattle.model.specs.declared.TableParts.{TableParts}
 use Rattle.wire.specs.Placed.{placed}
 use Rattle.wire.proofs.Room.{placed-behind}
-use Rattle.frame.specs.Framed.{framed}
-use Rattle.codec.specs.Steps.{countsOf, tableScan, guardBytesIn, headBytes}
 use Rattle.frame.proofs.Columns.{joined-long, joined-most}
-use Rattle.frame.proofs.Written.{placed-first, write-none}
+use Rattle.frame.proofs.Written.{placed-first, write-refused}
 use Rattle.frame.proofs.Answers.{stops, sound-is}
 use Rattle.codec.proofs.Tables.{scan-all, counts-bound}
 
 -- a guard's bytes, cut at its places
 
-take-within : (l : List ℕ) (n : ℕ) → take n (take 32 l) ≡ take (min n 32) l
-take-within l n = go (decLe n 32)
+take-within : (l : List ℕ) (n : ℕ) → take n (take guardLimit l) ≡ take (min n guardLimit) l
+take-within l n = go (decLe n guardLimit)
   where
-    go : Dec (n ≤ 32) → take n (take 32 l) ≡ take (min n 32) l
-    go (yes h) = take-take n 32 l h ∙ ap (λ m. take m l) (sym (min-eq-left h))
+    go : Dec (n ≤ guardLimit) → take n (take guardLimit l) ≡ take (min n guardLimit) l
+    go (yes h) = take-take n guardLimit l h ∙ ap (λ m. take m l) (sym (min-eq-left h))
     go (no h) =
-        let k : 32 ≤ n = omega arith in
-        take-all n (take 32 l) (omega (arith, length-take 32 l)) ∙ ap (λ m. take m l) (sym (min-eq-right k))
+        let k : guardLimit ≤ n = omega arith in
+        take-all n (take guardLimit l) (omega (arith, length-take guardLimit l)) ∙ ap (λ m. take m l) (sym (min-eq-right k))
 
-module _ (guards : List ℕ) (j count w : ℕ) (is : w ≡ min count 32) where
-  pub guard-part : take (32 * j + w - 32 * j) (drop (32 * j) guards) ≡ guardBytesIn guards count j
+module _ (guards : List ℕ) (j count w : ℕ) (is : w ≡ min count guardLimit) where
+  pub guard-part : take (guardLimit * j + w - guardLimit * j) (drop (guardLimit * j) guards) ≡ guardBytesIn guards count j
   guard-part =
-      let all : 32 * j + w - 32 * j ≡ min count 32 = omega arith in
-      ap (λ m. take m (drop (32 * j) guards)) all ∙ sym (take-within (drop (32 * j) guards) count)
+      let all : guardLimit * j + w - guardLimit * j ≡ min count guardLimit = omega arith in
+      ap (λ m. take m (drop (guardLimit * j) guards)) all ∙ sym (take-within (drop (guardLimit * j) guards) count)
 
-  pub guard-count : j < 64 → 2048 ≤ length guards → 32 * j + w - 32 * j ≡ length (guardBytesIn guards count j)
+  pub guard-count : j < transitionLimit → guardLimit * transitionLimit ≤ length guards → guardLimit * j + w - guardLimit * j ≡ length (guardBytesIn guards count j)
   guard-count h k =
       ap (λ (n : ℕ). n) (count-is h k) ∙ ap length guard-part
     where
-      count-is : j < 64 → 2048 ≤ length guards → 32 * j + w - 32 * j ≡ length (take (32 * j + w - 32 * j) (drop (32 * j) guards))
-      count-is h k = sym (length-take (32 * j + w - 32 * j) (drop (32 * j) guards) ∙ omega (arith, length-drop (32 * j) guards))
+      count-is : j < transitionLimit → guardLimit * transitionLimit ≤ length guards → guardLimit * j + w - guardLimit * j ≡ length (take (guardLimit * j + w - guardLimit * j) (drop (guardLimit * j) guards))
+      count-is h k = sym (length-take (guardLimit * j + w - guardLimit * j) (drop (guardLimit * j) guards) ∙ omega (arith, length-drop (guardLimit * j) guards))
 
 pub kinds-long : (t : TableParts) (head : List ℕ) (i : ℕ) → length head ≡ 8 → length (head ++ joined (kindBytes t) i) ≡ 8 + 2 * i
 kinds-long t head i h = length-append head (joined (kindBytes t) i) ∙ omega (arith, joined-long (kindBytes t) 2 i (λ j k. refl))
@@ -81,9 +85,9 @@ module _ (t : TableParts) where
   unfolding tableBody
   body-long z e = sym (length-append (z ++ kinds) transitions ∙ omega (arith, length-append z kinds, length-append kinds transitions))
 
-  pub table-is : (n : ℕ) → n ≡ length (tableBody t) → (headBytes t n ++ kinds) ++ transitions ≡ tableBytes t
+  pub table-is : (n : ℕ) → n ≡ length (tableBody t) → ((wordBytes n ++ countBytes t) ++ kinds) ++ transitions ≡ tableBytes t
   unfolding tableBytes tableBody
-  table-is n e = ap (λ m. wordBytes m ++ ((1 ∷ t .states ∷ t .variables ∷ t .clocks ∷ t .kinds ∷ t .transitions ∷ []) ++ kinds ++ transitions)) e
+  table-is n e = ap (λ m. wordBytes m ++ (countBytes t ++ kinds ++ transitions)) e
 
   pub table-long : length (tableBytes t) ≡ length (tableBody t) + 2
   unfolding tableBytes
@@ -93,11 +97,11 @@ module _ (t : TableParts) where
   start out h = sym (ap (λ n. take 8 out ++ drop n out) (length-take-le 8 out h) ∙ take-append-drop 8 out)
 
   -- the records, and then what stands before them
-  pub encoded : (out one two three head : List ℕ) (end : ℕ) → length out ≡ 2568
-      → ((z room : List ℕ) → length z ≡ 8 → 72 ≤ length room → out ≡ over z room → one ≡ over (z ++ kinds) room)
-      → ((z room : List ℕ) → length z ≡ 8 + 2 * t .kinds → 2568 ≤ length room → one ≡ over z room → (two ≡ over (z ++ transitions) room) × (end ≡ length (z ++ transitions)))
-      → end ≤ 2568
-      → head ≡ headBytes t (end - 2)
+  pub encoded : (out one two three head : List ℕ) (end : ℕ) → length out ≡ tableLimit
+      → ((z room : List ℕ) → length z ≡ 8 → kindAt kindLimit ≤ length room → out ≡ over z room → one ≡ over (z ++ kinds) room)
+      → ((z room : List ℕ) → length z ≡ 8 + 2 * t .kinds → tableLimit ≤ length room → one ≡ over z room → (two ≡ over (z ++ transitions) room) × (end ≡ length (z ++ transitions)))
+      → end ≤ tableLimit
+      → head ≡ wordBytes (end - 2) ++ countBytes t
       → three ≡ placed head 0 two
       → (three ≡ over (tableBytes t) out) × (end ≡ length (tableBytes t))
   encoded out one two three head end l f g most h e =
@@ -108,23 +112,23 @@ module _ (t : TableParts) where
       let body = body-long z eight in
       let total : end - 2 ≡ length (tableBody t) = omega (arith, body, q .1) in
       let flat = append-assoc z kinds transitions in
-      let first = placed-first z (headBytes t (end - 2)) (kinds ++ transitions) out eight (omega (arith, ap length flat, q .1)) in (
-        e ∙ ap (λ (b : List ℕ). placed b 0 two) h ∙ ap (placed (headBytes t (end - 2)) 0) (q .0 ∙ ap (λ (b : List ℕ). over b out) flat) ∙ first ∙ ap (λ (b : List ℕ). over b out) (table-is (end - 2) total),
+      let first = placed-first z (wordBytes (end - 2) ++ countBytes t) (kinds ++ transitions) out eight (omega (arith, ap length flat, q .1)) in (
+        e ∙ ap (λ (b : List ℕ). placed b 0 two) h ∙ ap (placed (wordBytes (end - 2) ++ countBytes t) 0) (q .0 ∙ ap (λ (b : List ℕ). over b out) flat) ∙ first ∙ ap (λ (b : List ℕ). over b out) (table-is (end - 2) total),
         q .1 ∙ sym body ∙ sym table-long,
       )
 
   -- what reading these bytes gives, where a count is outside its limits
 
-  transition-most : (j : ℕ) → length (transitionBytes t j) ≤ 39
+  transition-most : (j : ℕ) → length (transitionBytes t j) ≤ 7 + guardLimit
   transition-most j =
-      let places : List ℕ = take 32 (drop (32 * j) (t .guards)) in
+      let places : List ℕ = take guardLimit (drop (guardLimit * j) (t .guards)) in
       let count : ℕ = getD (t .lengths) j 0 in
-      omega (arith, length-take count places, length-take 32 (drop (32 * j) (t .guards)))
+      omega (arith, length-take count places, length-take guardLimit (drop (guardLimit * j) (t .guards)))
 
   body-most : t .kinds ≤ 255 → t .transitions ≤ 255 → length (tableBody t) < 65536
   body-most h k =
       let z : List ℕ = 0 ∷ 0 ∷ 0 ∷ 0 ∷ 0 ∷ 0 ∷ 0 ∷ 0 ∷ [] in
-      omega (arith, body-long z refl, length-append (z ++ kinds) transitions, length-append z kinds, joined-long (kindBytes t) 2 (t .kinds) (λ j q. refl), joined-most (transitionBytes t) 39 (t .transitions) transition-most)
+      omega (arith, body-long z refl, length-append (z ++ kinds) transitions, length-append z kinds, joined-long (kindBytes t) 2 (t .kinds) (λ j q. refl), joined-most (transitionBytes t) (7 + guardLimit) (t .transitions) transition-most)
 
   word-is : length (tableBody t) < 65536 → wordAt (tableBytes t) 0 ≡ length (tableBody t)
   unfolding tableBytes
@@ -135,7 +139,7 @@ module _ (t : TableParts) where
   version-is = refl
 
   counts-same : tableCounts (tableBytes t) ≡ countsOf (t .states) (t .variables) (t .clocks) (t .kinds) (t .transitions)
-  unfolding tableCounts countsOf tableBytes tableBody
+  unfolding countsOf tableBytes tableBody
   counts-same = refl
 
   body-least : 6 ≤ length (tableBody t)
@@ -158,14 +162,14 @@ module _ (t : TableParts) where
         let scan : tableScan b ≡ counts = rw (frame-sound h, same) (stops counts _ e) in
         scan-all b ∙ rw scan (stops counts (unless (leb (size (monitorOf (tableParts b))) sizeLimit) TableSize) e)
 
-    pub write-early : (room bytes : List ℕ) → t .kinds ≤ 255 → t .transitions ≤ 255 → isSound counts ≡ false → write counts bytes room ≡ writeTable t room
+    pub write-early : (room : List ℕ) → t .kinds ≤ 255 → t .transitions ≤ 255 → (why : Refusal) → counts ≡ Unsound why → Writes (writeTable t room) (Unwritten why) room
     unfolding writeTable
-    write-early room bytes h k e =
-        write-none counts bytes (tableBytes t) room e ∙ ap (λ a. write a (tableBytes t) room) (sym (early (body-most h k) e))
+    write-early room h k why e = write-refused (tableAnswer (tableBytes t)) (tableBytes t) room why (early (body-most h k) (ap isSound e) ∙ e)
 
-    pub counts-within : isSound counts ≡ true → (t .kinds ≤ 32) × (t .transitions ≤ 64)
+    pub counts-within : isSound counts ≡ true → (t .kinds ≤ kindLimit) × (t .transitions ≤ transitionLimit)
     counts-within e = counts-bound (t .states) (t .variables) (t .clocks) (t .kinds) (t .transitions) (sym is ∙ sound-is counts e)
 
-  pub write-late : (room bytes : List ℕ) (answer : Reading) → bytes ≡ tableBytes t → answer ≡ tableAnswer bytes → write answer bytes room ≡ writeTable t room
+  pub write-late : (room bytes : List ℕ) (answer : Reading) → bytes ≡ tableBytes t → answer ≡ tableAnswer bytes → (r : Writing) (after : List ℕ)
+      → Writes (write answer bytes room) r after → Writes (writeTable t room) r after
   unfolding writeTable
-  write-late room bytes answer e g = rw (g, e)
+  write-late room bytes answer e g r after w = rw (g, e) at w

@@ -6,63 +6,47 @@ use native.Mathlib.Numerals.{add-one}
 use mathlib.Core.Path.{_≡_, refl, sym, _∙_}
 use mathlib.Core.List.{List, [], _∷_}
 use mathlib.Core.Bool.{Bool, true, false, _&&_}
-use lib.Dec.{leb, ltb, eqb}
-use lib.ListN.{length, take, drop, length-take}
-use borrow.Author.Tests.{leb-true, le-leb, lt-leb}
-use Rattle.model.specs.Bytes.{byteAt, wordAt, joined, padded}
+use lib.Dec.{leb, ltb}
+use lib.ListN.{length, getD, take, drop, length-take}
+use borrow.Author.Tests.{le-leb, lt-leb}
+use Rattle.model.specs.Limits.{stateLimit, variableLimit, clockLimit, kindLimit, transitionLimit, guardLimit, sizeLimit}
+use Rattle.model.specs.Bytes.{byteAt, joined, padded}
 use Rattle.model.specs.First.{unless, andThen, firstOf, isSound}
-use Rattle.model.specs.Guard.{guardAt, endsAt}
-use Rattle.model.specs.Size.{size, sizeLimit}
-use Rattle.model.specs.Table.{tableCounts, kindRecords, apart, transitionFields, transitionRecord, transitionRecords, statesAt, variablesAt, clocksAt, kindsAt, transitionsAt, kindAt, transitionAt, guardLengthAt, guardPlace, tableAnswer, tableParts, noTable, readTable, monitorOf}
+use Rattle.model.specs.Frame.{framed}
+use Rattle.model.specs.Size.{size}
+use Rattle.model.specs.Table.{countsOf, tableCounts, kindRecords, apart, transitionFields, guardRecord, transitionRecord, transitionRecords, statesAt, variablesAt, clocksAt, kindsAt, transitionsAt, kindAt, transitionAt, guardLengthAt, guardPlace, tableScan, tableAnswer, tableParts, noTable, readTable, monitorOf}
 use Rattle.model.specs.declared.TableParts.{TableParts}
 use Rattle.model.specs.declared.TableReading.{TableReading}
-use Rattle.model.specs.declared.Refusal.the-variants.{TableSize, TableFrame, TableVersion, TableCount, TableLength, TableField, TableGuard}
+use Rattle.model.specs.declared.Refusal.the-variants.{TableSize, TableFrame, TableVersion, TableCount, TableLength, TableField}
 use Rattle.model.specs.declared.Refusal.{Refusal}
 use Rattle.model.specs.declared.Reading.{Reading}
 use Rattle.model.specs.declared.Reading.the-variants.{Sound}
-use Rattle.model.proofs.Basics.{andThen-left, andThen-right, unless-sound}
-use Rattle.frame.specs.Framed.{framed}
-use Rattle.codec.specs.Steps.{countsOf, guardRecord, tableScan}
+use Rattle.model.proofs.Basics.{andThen-left, andThen-right}
+use Rattle.model.proofs.Tests.{test, le-test}
+use Rattle.model.proofs.TableForm.{sound-transition}
 use Rattle.wire.specs.Placed.{placed}
 use Rattle.frame.proofs.Columns.{joined-long, padded-long, place-more}
-use Rattle.frame.proofs.Answers.{then-assoc, then-sound}
+use Rattle.frame.proofs.Answers.{then-sound}
 use Rattle.codec.proofs.Steps.{transitions-turn}
 
--- the last of a row of sound answers
-module _ (a b c d e f : Reading) where
-  scan-row : (s : Reading) → firstOf (a ∷ b ∷ c ∷ d ∷ e ∷ f ∷ s ∷ []) ≡ andThen (firstOf (firstOf (a ∷ b ∷ c ∷ []) ∷ d ∷ e ∷ f ∷ [])) s
-  scan-row s = simp (then-assoc, then-sound)
-
-  sixth : (s : Reading) → firstOf (a ∷ b ∷ c ∷ d ∷ e ∷ f ∷ s ∷ []) ≡ Sound → firstOf (f ∷ s ∷ []) ≡ Sound
-  sixth s h =
-      andThen-right e (firstOf (f ∷ s ∷ []))
-      (andThen-right d _ (andThen-right c (firstOf (d ∷ e ∷ f ∷ s ∷ [])) (andThen-right b _ (andThen-right a (firstOf (b ∷ c ∷ d ∷ e ∷ f ∷ s ∷ [])) h))))
-
-  fourth : firstOf (a ∷ b ∷ c ∷ d ∷ e ∷ f ∷ []) ≡ Sound → firstOf (d ∷ e ∷ f ∷ []) ≡ Sound
-  fourth h = andThen-right c (firstOf (d ∷ e ∷ f ∷ [])) (andThen-right b _ (andThen-right a (firstOf (b ∷ c ∷ d ∷ e ∷ f ∷ [])) h))
-
 pub counts-are : (b : List ℕ) (s v c k t : ℕ) → s ≡ statesAt b → v ≡ variablesAt b → c ≡ clocksAt b → k ≡ kindsAt b → t ≡ transitionsAt b → countsOf s v c k t ≡ tableCounts b
-unfolding countsOf tableCounts
+unfolding countsOf
 counts-are b s v c k t es ev ec ek et = rw (es, ev, ec, ek, et)
 
-pub counts-bound : (s v c k t : ℕ) → countsOf s v c k t ≡ Sound → (k ≤ 32) × (t ≤ 64)
+pub counts-bound : (s v c k t : ℕ) → countsOf s v c k t ≡ Sound → (k ≤ kindLimit) × (t ≤ transitionLimit)
 unfolding countsOf
 counts-bound s v c k t h =
-    let kinds = unless (leb k 32) (TableCount 6) in
-    let transitions = unless (leb t 64) (TableCount 7) in
-    let last =
-    sixth
-    (unless (leb 1 s) (TableCount 3))
-    (unless (leb s 16) (TableCount 3))
-    (unless (leb v 4) (TableCount 4))
-    (unless (leb c 2) (TableCount 5))
-    (unless (leb 1 k) (TableCount 6))
-    kinds
-    transitions
-    h in (
-      leb-true k 32 (unless-sound (leb k 32) (TableCount 6) (andThen-left kinds (andThen transitions Sound) last)),
-      leb-true t 64 (unless-sound (leb t 64) (TableCount 7) (andThen-left transitions Sound (andThen-right kinds (andThen transitions Sound) last))),
-    )
+    let l : List Reading =
+    unless (leb 1 s) (TableCount 3)
+    ∷ unless (leb s stateLimit) (TableCount 3)
+    ∷ unless (leb v variableLimit) (TableCount 4)
+    ∷ unless (leb c clockLimit) (TableCount 5)
+    ∷ unless (leb 1 k) (TableCount 6)
+    ∷ unless (leb k kindLimit) (TableCount 6)
+    ∷ unless (leb t transitionLimit) (TableCount 7)
+    ∷ []
+    in
+    (le-test _ _ (TableCount 6) (test l h 5), le-test _ _ (TableCount 7) (test l h 6))
 
 -- the fields of a record, by the two tests that the code makes
 fields-alike : (a b c d e f g : Bool) (x : Refusal)
@@ -97,47 +81,37 @@ fields-row b at es ev ec ek e0 e1 e2 e3 e4 e5 p q =
 
 module _ (b : List ℕ) where
   pub record-row : (at : ℕ) → transitionRecord b at ≡ andThen (unless (leb (at + 7) (length b)) (TableLength at)) (andThen (transitionFields b at) (guardRecord b at))
-  unfolding transitionRecord guardRecord
-  record-row at = refl
+  unfolding transitionRecord
+  record-row at = simp then-sound
 
   -- 16 comes after the scan
   pub scan-all : tableAnswer b ≡ andThen (tableScan b) (unless (leb (size (monitorOf (tableParts b))) sizeLimit) TableSize)
-  unfolding tableAnswer tableScan framed
-  scan-all =
-      scan-row
-      (unless (leb 8 (length b)) TableFrame)
-      (unless (eqb (wordAt b 0 + 2) (length b)) TableFrame)
-      (unless (eqb (byteAt b 2) 1) TableVersion)
-      (tableCounts b)
-      (kindRecords (kindsAt b) b (kindAt 0))
-      (transitionRecords (transitionsAt b) b (kindAt (kindsAt b)))
-      (unless (leb (size (monitorOf (tableParts b))) sizeLimit) TableSize)
+  unfolding tableAnswer
+  scan-all = simp then-sound
 
-  pub record-bound : (at : ℕ) → transitionRecord b at ≡ Sound → (guardLengthAt b at ≤ 32) × (at + 7 + guardLengthAt b at ≤ length b)
-  unfolding transitionRecord
-  record-bound at h =
-      let form = endsAt (guardAt 32 (variablesAt b) (clocksAt b) b (at + 7) (at + 7 + guardLengthAt b at)) (at + 7 + guardLengthAt b at) in
-      let short = unless (leb (guardLengthAt b at) 32) (TableGuard at) in
-      let there = unless (leb (at + 7 + guardLengthAt b at) (length b)) (TableLength at) in
-      let last = fourth (unless (leb (at + 7) (length b)) (TableLength at)) (transitionFields b at) (unless (leb 1 (guardLengthAt b at)) (TableGuard at)) short there (unless form (TableGuard at)) h in
-      let rest = andThen-right short (firstOf (there ∷ unless form (TableGuard at) ∷ [])) last in (
-        leb-true _ _ (unless-sound (leb (guardLengthAt b at) 32) (TableGuard at) (andThen-left short (firstOf (there ∷ unless form (TableGuard at) ∷ [])) last)),
-        leb-true _ _ (unless-sound (leb (at + 7 + guardLengthAt b at) (length b)) (TableLength at) (andThen-left there (firstOf (unless form (TableGuard at) ∷ [])) rest)),
-      )
+  pub record-bound : (at : ℕ) → transitionRecord b at ≡ Sound → (guardLengthAt b at ≤ guardLimit) × (at + 7 + guardLengthAt b at ≤ length b)
+  record-bound at h = let t = sound-transition b at h in (t .few, t .fits)
 
   module _ (sound : tableScan b ≡ Sound) where
-    scan-rest : firstOf (tableCounts b ∷ kindRecords (kindsAt b) b (kindAt 0) ∷ transitionRecords (transitionsAt b) b (kindAt (kindsAt b)) ∷ []) ≡ Sound
-    unfolding tableScan
-    scan-rest = andThen-right (framed b 8 TableFrame TableVersion) _ sound
+    scan-tests : List Reading
+    scan-tests =
+        framed b 8 TableFrame TableVersion
+        ∷ tableCounts b
+        ∷ kindRecords (kindsAt b) b (kindAt 0)
+        ∷ transitionRecords (transitionsAt b) b (kindAt (kindsAt b))
+        ∷ []
 
-    pub scan-bounds : (kindsAt b ≤ 32) × (transitionsAt b ≤ 64)
-    scan-bounds = counts-bound (statesAt b) (variablesAt b) (clocksAt b) (kindsAt b) (transitionsAt b) (counts-are b _ _ _ _ _ refl refl refl refl refl ∙ andThen-left (tableCounts b) (firstOf (kindRecords (kindsAt b) b (kindAt 0) ∷ transitionRecords (transitionsAt b) b (kindAt (kindsAt b)) ∷ [])) scan-rest)
+    scan-test : (i : ℕ) → getD scan-tests i Sound ≡ Sound
+    unfolding tableScan scan-tests
+    scan-test i = test scan-tests sound i
+
+    pub scan-bounds : (kindsAt b ≤ kindLimit) × (transitionsAt b ≤ transitionLimit)
+    unfolding scan-tests
+    scan-bounds = counts-bound _ _ _ _ _ (scan-test 1)
 
     scan-transitions : transitionRecords (transitionsAt b) b (kindAt (kindsAt b)) ≡ Sound
-    scan-transitions =
-        sym (then-sound (transitionRecords (transitionsAt b) b (kindAt (kindsAt b))))
-        ∙ andThen-right (kindRecords (kindsAt b) b (kindAt 0)) (andThen (transitionRecords (transitionsAt b) b (kindAt (kindsAt b))) Sound)
-        (andThen-right (tableCounts b) (firstOf (kindRecords (kindsAt b) b (kindAt 0) ∷ transitionRecords (transitionsAt b) b (kindAt (kindsAt b)) ∷ [])) scan-rest)
+    unfolding scan-tests
+    scan-transitions = scan-test 3
 
     -- from each record on, what is left is sound
     scan-from : (j : ℕ) → j ≤ transitionsAt b → transitionRecords (transitionsAt b - j) b (transitionAt b j) ≡ Sound
@@ -148,7 +122,7 @@ module _ (b : List ℕ) where
         let e : suc j ≡ j + 1 = sym (add-one j) in
         rw e (andThen-right (transitionRecord b (transitionAt b j)) rest (sym (transitions-turn b (transitionsAt b) j (transitionAt b j) (omega arith)) ∙ scan-from j (omega arith)))
 
-    pub scan-guard : (j : ℕ) → j < transitionsAt b → (guardLengthAt b (transitionAt b j) ≤ 32) × (transitionAt b j + 7 + guardLengthAt b (transitionAt b j) ≤ length b)
+    pub scan-guard : (j : ℕ) → j < transitionsAt b → (guardLengthAt b (transitionAt b j) ≤ guardLimit) × (transitionAt b j + 7 + guardLengthAt b (transitionAt b j) ≤ length b)
     scan-guard j h =
         let at = transitionAt b j in
         let rest = transitionRecords (transitionsAt b - (j + 1)) b (at + 7 + guardLengthAt b at) in
@@ -159,28 +133,28 @@ pub next-at : (b : List ℕ) (at i l : ℕ) → at ≡ transitionAt b i → l �
 unfolding transitionAt
 next-at b at i l e h = rw (h, e, add-one)
 
-place-is : (b : List ℕ) (i at l : ℕ) → at ≡ transitionAt b i → l ≡ guardLengthAt b at → guardPlace b i ≡ padded 32 (take l (drop (at + 7) b))
+place-is : (b : List ℕ) (i at l : ℕ) → at ≡ transitionAt b i → l ≡ guardLengthAt b at → guardPlace b i ≡ padded guardLimit (take l (drop (at + 7) b))
 unfolding guardPlace
 place-is b i at l starts long = rw (long, starts)
 
-place-long : (b : List ℕ) → tableScan b ≡ Sound → (j : ℕ) → j < transitionsAt b → length (guardPlace b j) ≡ 32
+place-long : (b : List ℕ) → tableScan b ≡ Sound → (j : ℕ) → j < transitionsAt b → length (guardPlace b j) ≡ guardLimit
 unfolding guardPlace
 place-long b sound j h =
     let part = drop (transitionAt b j + 7) b in
-    padded-long 32 (take (guardLengthAt b (transitionAt b j)) part) (omega (arith, scan-guard b sound j h .0, length-take (guardLengthAt b (transitionAt b j)) part))
+    padded-long guardLimit (take (guardLengthAt b (transitionAt b j)) part) (omega (arith, scan-guard b sound j h .0, length-take (guardLengthAt b (transitionAt b j)) part))
 
 -- the guard of record i, which starts at an offset and has a length
 module _ (b : List ℕ) (sound : tableScan b ≡ Sound) (i at l : ℕ) (within : i < transitionsAt b) (starts : at ≡ transitionAt b i) (long : l ≡ guardLengthAt b at) where
-  pub guard-inside : (l ≤ 32) × (at + 7 + l ≤ length b)
+  pub guard-inside : (l ≤ guardLimit) × (at + 7 + l ≤ length b)
   guard-inside = rw (long, starts) (scan-guard b sound i within)
 
-  pub guard-turn : (guards : List ℕ) → guards ≡ padded 2048 (joined (guardPlace b) i)
-      → placed (take (at + 7 + l - (at + 7)) (drop (at + 7) b)) (32 * i) guards ≡ padded 2048 (joined (guardPlace b) (i + 1))
+  pub guard-turn : (guards : List ℕ) → guards ≡ padded (guardLimit * transitionLimit) (joined (guardPlace b) i)
+      → placed (take (at + 7 + l - (at + 7)) (drop (at + 7) b)) (guardLimit * i) guards ≡ padded (guardLimit * transitionLimit) (joined (guardPlace b) (i + 1))
   guard-turn guards e =
       let all : at + 7 + l - (at + 7) ≡ l = omega arith in
-      let few : transitionsAt b ≤ 64 = scan-bounds b sound .1 in
-      let short : length (take l (drop (at + 7) b)) ≤ 32 = omega (arith, guard-inside .0, length-take l (drop (at + 7) b)) in
-      rw (all, e) (place-more 2048 32 (guardPlace b) (take l (drop (at + 7) b)) i (omega arith) short (joined-long (guardPlace b) 32 i (λ j h. place-long b sound j (omega arith))) (place-is b i at l starts long))
+      let few : transitionsAt b ≤ transitionLimit = scan-bounds b sound .1 in
+      let short : length (take l (drop (at + 7) b)) ≤ guardLimit = omega (arith, guard-inside .0, length-take l (drop (at + 7) b)) in
+      rw (all, e) (place-more (guardLimit * transitionLimit) guardLimit (guardPlace b) (take l (drop (at + 7) b)) i (omega arith) short (joined-long (guardPlace b) guardLimit i (λ j h. place-long b sound j (omega arith))) (place-is b i at l starts long))
 
 pub read-refused : (b : List ℕ) (r : Reading) (p : TableParts) → r ≡ tableAnswer b → isSound r ≡ false → p ≡ noTable → _≡_ {A = TableReading} (record { answer = r; parts = p }) (readTable b)
 unfolding readTable
@@ -191,8 +165,8 @@ unfolding readTable
 read-sound b p e q = rw (e, q)
 
 -- N that was cut at one above the limit
-pub size-over : (n r : ℕ) → r ≡ min n 65537 → 65536 < r → leb n 65536 ≡ false
-size-over n r e h = lt-leb n 65536 (omega arith)
+pub size-over : (n r : ℕ) → r ≡ min n (sizeLimit + 1) → sizeLimit < r → leb n sizeLimit ≡ false
+size-over n r e h = lt-leb n sizeLimit (omega arith)
 
-pub size-within : (n r : ℕ) → r ≡ min n 65537 → r ≤ 65536 → leb n 65536 ≡ true
-size-within n r e h = le-leb n 65536 (omega arith)
+pub size-within : (n r : ℕ) → r ≡ min n (sizeLimit + 1) → r ≤ sizeLimit → leb n sizeLimit ≡ true
+size-within n r e h = le-leb n sizeLimit (omega arith)

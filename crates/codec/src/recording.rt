@@ -9,7 +9,9 @@ use frame::sound;
 use model::Reading;
 use model::RecordingParts;
 use model::RecordingReading;
+use model::ROW_LIMIT;
 use model::Refusal;
+use model::TIME_LIMIT;
 use model::Writing;
 use monitor::airtime_of;
 use wire::byte;
@@ -20,12 +22,16 @@ ghost use mathlib.Core.Path.{_≡_};
 ghost use mathlib.Core.List.{_++_};
 ghost use Prim.Native.Nat.{_+_, _*_, _<_, _≤_};
 ghost use lib.ListN.{length};
+ghost use Rattle.model.specs.Answers.{Reads, Writes};
+ghost use Rattle.model.specs.Limits.{rowLimit};
 ghost use Rattle.model.specs.Bytes.{joined};
+ghost use Rattle.model.specs.Frame.{rowsFrame};
 ghost use Rattle.model.specs.Room.{over};
 ghost use Rattle.wire.specs.Placed.{placed};
-ghost use Rattle.model.specs.Recording.{countAt, clearOfBefore, recordedRow, recordedRows, recordingAnswer, recordingParts, noRecording, readRecording, writeRecording};
-ghost use Rattle.frame.specs.Framed.{rowsFrame};
-ghost use Rattle.codec.specs.Steps.{recordingFrame, recordingEarly, recordedBytes};
+ghost use Rattle.model.specs.Recording.{countAt, clearOfBefore, recordedRow, recordedRows, recordingFrame, recordingScan, recordingAnswer, recordingParts, noRecording, readRecording, recordedBytes, recordingEarly, writeRecording};
+
+// The most rows.
+const LIMIT: u16 = ROW_LIMIT as u16;
 
 // Row i does not overlap or precede the row before it.
 fn clear_of_before(table: &[u8], b: &[u8], i: usize) -> bool
@@ -48,7 +54,7 @@ fn recorded_row(table: &[u8], b: &[u8], i: usize) -> Reading
     if time < 1 {
         return Reading::Unsound(Refusal::RecordingRange { row: i as u64 });
     }
-    if 4096 < time {
+    if TIME_LIMIT < time {
         return Reading::Unsound(Refusal::RecordingRange { row: i as u64 });
     }
     if byte(table, 6) <= byte(b, 7 + 3 * i) {
@@ -82,21 +88,17 @@ pub fn recording_frame(b: &[u8]) -> Reading
     rows_framed(
         b,
         3,
-        512,
+        LIMIT,
         Refusal::RecordingFrame,
         Refusal::RecordingVersion,
         Refusal::RecordingCount,
     )
 }
 
-// The numbers of the table and of the recording alone.
-pub fn recording_answer(table: &[u8], b: &[u8]) -> Reading
-    ensures { λ r. ⌜ r ≡ recordingAnswer (now (table .entry)) (now (b .entry)) ⌝ }
+// The recording's own numbers, 20 to 24, against a table that was read before.
+pub fn recording_scan(table: &[u8], b: &[u8]) -> Reading
+    ensures { λ r. ⌜ r ≡ recordingScan (now (table .entry)) (now (b .entry)) ⌝ }
 {
-    let first = table_answer(table);
-    if !sound(first) {
-        return first;
-    }
     let frame = recording_frame(b);
     if !sound(frame) {
         return frame;
@@ -104,20 +106,31 @@ pub fn recording_answer(table: &[u8], b: &[u8]) -> Reading
     recorded_rows(table, b)
 }
 
-fn time_column(b: &[u8]) -> [u16; 512]
-    requires { ⌜ countAt (now b) ≤ 512 ⌝ }
+// The table's numbers, then the recording's own.
+pub fn recording_answer(table: &[u8], b: &[u8]) -> Reading
+    ensures { λ r. ⌜ r ≡ recordingAnswer (now (table .entry)) (now (b .entry)) ⌝ }
+{
+    let first = table_answer(table);
+    if !sound(first) {
+        return first;
+    }
+    recording_scan(table, b)
+}
+
+fn time_column(b: &[u8]) -> [u16; ROW_LIMIT]
+    requires { ⌜ countAt (now b) ≤ rowLimit ⌝ }
     ensures { λ r. ⌜ r ≡ recordingParts (now (b .entry)) .times ⌝ }
 {
-    let mut times = [0u16; 512];
+    let mut times = [0u16; ROW_LIMIT];
     words_column(b, 5, 3, word(b, 3), &mut times);
     times
 }
 
-fn kind_column(b: &[u8]) -> [u8; 512]
-    requires { ⌜ countAt (now b) ≤ 512 ⌝ }
+fn kind_column(b: &[u8]) -> [u8; ROW_LIMIT]
+    requires { ⌜ countAt (now b) ≤ rowLimit ⌝ }
     ensures { λ r. ⌜ r ≡ recordingParts (now (b .entry)) .kinds ⌝ }
 {
-    let mut kinds = [0u8; 512];
+    let mut kinds = [0u8; ROW_LIMIT];
     bytes_column(b, 7, 3, word(b, 3), &mut kinds);
     kinds
 }
@@ -127,13 +140,14 @@ fn no_recording() -> RecordingParts
 {
     RecordingParts {
         count: 0,
-        times: [0; 512],
-        kinds: [0; 512],
+        times: [0; ROW_LIMIT],
+        kinds: [0; ROW_LIMIT],
     }
 }
 
 pub fn read_recording(table: &[u8], b: &[u8]) -> RecordingReading
     ensures { λ r. ⌜ r ≡ readRecording (now (table .entry)) (now (b .entry)) ⌝ }
+    ensures { λ r. ⌜ Reads (recordingAnswer (now (table .entry)) (now (b .entry))) (recordingParts (now (b .entry))) noRecording (r .answer) (r .parts) ⌝ }
 {
     let answer = recording_answer(table, b);
     if !sound(answer) {
@@ -155,7 +169,7 @@ pub fn read_recording(table: &[u8], b: &[u8]) -> RecordingReading
 }
 
 fn put_row<'a>(times: &'a [u16], kinds: &'a [u8], i: usize, out: &mut [u8])
-    requires { ⌜ i < 512 ⌝ }
+    requires { ⌜ i < rowLimit ⌝ }
     ensures { λ _. ⌜ now (out .exit) ≡ placed (recordedBytes (now (times .entry)) (now (kinds .entry)) i) (5 + 3 * i) (now (out .entry)) ⌝ }
 {
     let time = short(times, i);
@@ -164,10 +178,10 @@ fn put_row<'a>(times: &'a [u16], kinds: &'a [u8], i: usize, out: &mut [u8])
 }
 
 fn encode<'a>(times: &'a [u16], kinds: &'a [u8], count: usize, out: &mut [u8])
-    requires { ⌜ (count ≤ 512) × (5 + 3 * count ≤ length (now out)) ⌝ }
-    ensures { λ _. ⌜ now (out .exit) ≡ over (rowsFrame (3 + 3 * count) count ++ joined (recordedBytes (now (times .entry)) (now (kinds .entry))) count) (now (out .entry)) ⌝ }
+    requires { ⌜ (count ≤ rowLimit) × (5 + 3 * count ≤ length (now out)) ⌝ }
+    ensures { λ _. ⌜ now (out .exit) ≡ over (rowsFrame 3 count ++ joined (recordedBytes (now (times .entry)) (now (kinds .entry))) count) (now (out .entry)) ⌝ }
 {
-    let frame = frame_bytes((3 + 3 * count) as u16, count as u16);
+    let frame = frame_bytes(3, count as u16);
     place(&frame, out, 0);
     let mut i = 0;
     while i < count {
@@ -184,22 +198,22 @@ fn early_answer(table: &[u8], count: usize) -> Reading
     if !sound(first) {
         return first;
     }
-    if 512 < count {
+    if ROW_LIMIT < count {
         return Reading::Unsound(Refusal::RecordingCount);
     }
     Reading::Sound
 }
 
 pub fn write_recording(table: &[u8], r: RecordingParts, room: &mut [u8]) -> Writing
-    ensures { λ w. ⌜ (w ≡ (writeRecording (now (table .entry)) r (now (room .entry))) .answer) × (now (room .exit) ≡ (writeRecording (now (table .entry)) r (now (room .entry))) .room) ⌝ }
+    ensures { λ w. ⌜ Writes (writeRecording (now (table .entry)) r (now (room .entry))) w (now (room .exit)) ⌝ }
 {
     let count = r.count as usize;
     let early = early_answer(table, count);
     if let Reading::Unsound(refusal) = early {
         return Writing::Unwritten(refusal);
     }
-    // made apart: a refusal leaves the room as it was, and 512 rows are 1,541 bytes
-    let mut bytes = [0u8; 1541];
+    // made apart: a refusal leaves the room as it was
+    let mut bytes = [0u8; 5 + 3 * ROW_LIMIT];
     encode(&r.times, &r.kinds, count, &mut bytes);
     let encoded = &bytes[0..5 + 3 * count];
     put(recording_answer(table, encoded), encoded, room)

@@ -5,10 +5,18 @@ use frame::put;
 use frame::sound;
 use guard::guard_fills;
 use guard::size::table_size;
+use model::AIRTIME_LIMIT;
+use model::CLOCK_LIMIT;
+use model::GUARD_LIMIT;
+use model::KIND_LIMIT;
 use model::Reading;
 use model::Refusal;
+use model::SIZE_LIMIT;
+use model::STATE_LIMIT;
+use model::TRANSITION_LIMIT;
 use model::TableParts;
 use model::TableReading;
+use model::VARIABLE_LIMIT;
 use model::Writing;
 use wire::byte;
 use wire::place;
@@ -18,12 +26,21 @@ ghost use mathlib.Core.Bool.{_&&_};
 ghost use mathlib.Core.List.{List, _++_};
 ghost use lib.ListN.{length};
 ghost use lib.Dec.{ltb, eqb};
-ghost use Rattle.model.specs.Bytes.{joined, padded};
+ghost use Rattle.model.specs.Answers.{Reads, Writes};
+ghost use Rattle.model.specs.Limits.{kindLimit, transitionLimit, guardLimit, tableLimit};
+ghost use Rattle.model.specs.Bytes.{wordBytes, joined, padded};
 ghost use Rattle.model.specs.Room.{over};
 ghost use Rattle.wire.specs.Placed.{placed};
 ghost use Rattle.model.specs.declared.Reading.the-variants.{Sound};
-ghost use Rattle.model.specs.Table.{kindRecord, kindRecords, apart, transitionFields, transitionRecord, transitionRecords, kindsAt, kindAt, transitionsAt, kindColumn, transitionColumn, guardPlace, tableParts, noTable, tableAnswer, readTable, kindBytes, transitionBytes, tableBytes, writeTable};
-ghost use Rattle.codec.specs.Steps.{countsOf, guardRecord, tableScan, fieldBytes, guardBytesIn, headBytes};
+ghost use Rattle.model.specs.Table.{countsOf, kindRecord, kindRecords, apart, transitionFields, guardRecord, transitionRecord, transitionRecords, kindsAt, kindAt, transitionsAt, kindColumn, transitionColumn, guardPlace, tableParts, noTable, tableScan, tableAnswer, readTable, kindBytes, fieldBytes, guardBytesIn, transitionBytes, countBytes, tableBytes, writeTable};
+
+// Limits of counts and of a guard's length, which are bytes.
+const KINDS: u8 = KIND_LIMIT as u8;
+const TRANSITIONS: u8 = TRANSITION_LIMIT as u8;
+const GUARD_LENGTH: u8 = GUARD_LIMIT as u8;
+
+// The longest table.
+const MOST: usize = 8 + 2 * KIND_LIMIT + (7 + GUARD_LIMIT) * TRANSITION_LIMIT;
 
 // The first count outside its limits.
 fn counts_answer(states: u8, variables: u8, clocks: u8, kinds: u8, transitions: u8) -> Reading
@@ -32,22 +49,22 @@ fn counts_answer(states: u8, variables: u8, clocks: u8, kinds: u8, transitions: 
     if states < 1 {
         return Reading::Unsound(Refusal::TableCount { offset: 3 });
     }
-    if 16 < states {
+    if STATE_LIMIT < states {
         return Reading::Unsound(Refusal::TableCount { offset: 3 });
     }
-    if 4 < variables {
+    if VARIABLE_LIMIT < variables {
         return Reading::Unsound(Refusal::TableCount { offset: 4 });
     }
-    if 2 < clocks {
+    if CLOCK_LIMIT < clocks {
         return Reading::Unsound(Refusal::TableCount { offset: 5 });
     }
     if kinds < 1 {
         return Reading::Unsound(Refusal::TableCount { offset: 6 });
     }
-    if 32 < kinds {
+    if KINDS < kinds {
         return Reading::Unsound(Refusal::TableCount { offset: 6 });
     }
-    if 64 < transitions {
+    if TRANSITIONS < transitions {
         return Reading::Unsound(Refusal::TableCount { offset: 7 });
     }
     Reading::Sound
@@ -63,7 +80,7 @@ fn kind_record(b: &[u8], at: usize) -> Reading
     if 1 < byte(b, at) {
         return Reading::Unsound(Refusal::TableField { offset: at as u64 });
     }
-    if 15 < byte(b, at + 1) {
+    if AIRTIME_LIMIT < byte(b, at + 1) {
         return Reading::Unsound(Refusal::TableField { offset: at as u64 });
     }
     Reading::Sound
@@ -183,7 +200,7 @@ fn guard_record(b: &[u8], at: usize) -> Reading
     if length < 1 {
         return Reading::Unsound(Refusal::TableGuard { offset: at as u64 });
     }
-    if 32 < length {
+    if GUARD_LENGTH < length {
         return Reading::Unsound(Refusal::TableGuard { offset: at as u64 });
     }
     let end = at + 7 + length as usize;
@@ -250,21 +267,21 @@ fn table_scan(b: &[u8]) -> Reading
 }
 
 // The fill, which writes arrays and tests nothing: a byte of each kind, and of each transition, by its place in the record.
-fn kind_column(b: &[u8], field: u8) -> [u8; 32]
-    requires { ⌜ (kindsAt (now b) ≤ 32) × (field ≤ 1) ⌝ }
+fn kind_column(b: &[u8], field: u8) -> [u8; KIND_LIMIT]
+    requires { ⌜ (kindsAt (now b) ≤ kindLimit) × (field ≤ 1) ⌝ }
     ensures { λ r. ⌜ r ≡ kindColumn (now (b .entry)) field ⌝ }
 {
-    let mut column = [0u8; 32];
+    let mut column = [0u8; KIND_LIMIT];
     bytes_column(b, 8 + field, 2, byte(b, 6) as u16, &mut column);
     column
 }
 
-fn transition_column(b: &[u8], field: usize) -> [u8; 64]
-    requires { ⌜ (transitionsAt (now b) ≤ 64) × (field ≤ 6) ⌝ }
+fn transition_column(b: &[u8], field: usize) -> [u8; TRANSITION_LIMIT]
+    requires { ⌜ (transitionsAt (now b) ≤ transitionLimit) × (field ≤ 6) ⌝ }
     ensures { λ r. ⌜ r ≡ transitionColumn (now (b .entry)) field ⌝ }
 {
     let n = byte(b, 7) as usize;
-    let mut column = [0u8; 64];
+    let mut column = [0u8; TRANSITION_LIMIT];
     let mut at = 8 + 2 * (byte(b, 6) as usize);
     let mut i = 0;
     while i < n {
@@ -275,19 +292,19 @@ fn transition_column(b: &[u8], field: usize) -> [u8; 64]
     column
 }
 
-// Each guard in its 32 places.
-fn guard_places(b: &[u8]) -> [u8; 2048]
+// Each guard in its places.
+fn guard_places(b: &[u8]) -> [u8; GUARD_LIMIT * TRANSITION_LIMIT]
     requires { ⌜ tableScan (now b) ≡ Sound ⌝ }
-    ensures { λ r. ⌜ r ≡ padded 2048 (joined (guardPlace (now (b .entry))) (transitionsAt (now (b .entry)))) ⌝ }
+    ensures { λ r. ⌜ r ≡ padded (guardLimit * transitionLimit) (joined (guardPlace (now (b .entry))) (transitionsAt (now (b .entry)))) ⌝ }
 {
     let n = byte(b, 7) as usize;
-    let mut guards = [0u8; 2048];
+    let mut guards = [0u8; GUARD_LIMIT * TRANSITION_LIMIT];
     let mut at = 8 + 2 * (byte(b, 6) as usize);
     let mut i = 0;
     while i < n {
         let from = at + 7;
         let to = from + byte(b, at + 6) as usize;
-        place(&b[from..to], &mut guards, 32 * i);
+        place(&b[from..to], &mut guards, GUARD_LIMIT * i);
         at = to;
         i += 1;
     }
@@ -336,21 +353,22 @@ fn no_table() -> TableParts
         clocks: 0,
         kinds: 0,
         transitions: 0,
-        directions: [0; 32],
-        airtimes: [0; 32],
-        sources: [0; 64],
-        targets: [0; 64],
-        triggers: [0; 64],
-        sets: [0; 64],
-        clears: [0; 64],
-        resets: [0; 64],
-        lengths: [0; 64],
-        guards: [0; 2048],
+        directions: [0; KIND_LIMIT],
+        airtimes: [0; KIND_LIMIT],
+        sources: [0; TRANSITION_LIMIT],
+        targets: [0; TRANSITION_LIMIT],
+        triggers: [0; TRANSITION_LIMIT],
+        sets: [0; TRANSITION_LIMIT],
+        clears: [0; TRANSITION_LIMIT],
+        resets: [0; TRANSITION_LIMIT],
+        lengths: [0; TRANSITION_LIMIT],
+        guards: [0; GUARD_LIMIT * TRANSITION_LIMIT],
     }
 }
 
 pub fn read_table(b: &[u8]) -> TableReading
     ensures { λ r. ⌜ r ≡ readTable (now (b .entry)) ⌝ }
+    ensures { λ r. ⌜ Reads (tableAnswer (now (b .entry))) (tableParts (now (b .entry))) noTable (r .answer) (r .parts) ⌝ }
 {
     let scan = table_scan(b);
     if !sound(scan) {
@@ -360,7 +378,7 @@ pub fn read_table(b: &[u8]) -> TableReading
         };
     }
     let parts = table_parts(b);
-    if 65536 < table_size(parts) {
+    if SIZE_LIMIT < table_size(parts) {
         return TableReading {
             answer: Reading::Unsound(Refusal::TableSize),
             parts: no_table(),
@@ -382,8 +400,8 @@ pub fn table_answer(b: &[u8]) -> Reading
 
 // Writing. Each record goes behind what stands in the room already, which a contract calls head.
 fn encode_kinds(t: TableParts, out: &mut [u8])
-    requires { ⌜ t .kinds ≤ 32 ⌝ }
-    ensures { λ _. ⌜ ((head room : List ℕ) → length head ≡ 8 → 72 ≤ length room → now (out .entry) ≡ over head room → now (out .exit) ≡ over (head ++ joined (kindBytes t) (t .kinds)) room) ⌝ }
+    requires { ⌜ t .kinds ≤ kindLimit ⌝ }
+    ensures { λ _. ⌜ ((head room : List ℕ) → length head ≡ 8 → kindAt kindLimit ≤ length room → now (out .entry) ≡ over head room → now (out .exit) ≡ over (head ++ joined (kindBytes t) (t .kinds)) room) ⌝ }
 {
     let n = t.kinds as usize;
     let mut i = 0;
@@ -395,7 +413,7 @@ fn encode_kinds(t: TableParts, out: &mut [u8])
 }
 
 fn field_bytes(t: TableParts, j: usize) -> [u8; 7]
-    requires { ⌜ j < 64 ⌝ }
+    requires { ⌜ j < transitionLimit ⌝ }
     ensures { λ r. ⌜ r ≡ fieldBytes t j ⌝ }
 {
     [
@@ -409,27 +427,31 @@ fn field_bytes(t: TableParts, j: usize) -> [u8; 7]
     ]
 }
 
-// A guard's length, and 32 for one that is longer than its places.
+// A guard's length, or the places that it has, if they are fewer.
 fn within_place(length: u8) -> usize
-    ensures { λ r. ⌜ r ≡ min length 32 ⌝ }
+    ensures { λ r. ⌜ r ≡ min length guardLimit ⌝ }
 {
-    if 32 < length { 32 } else { length as usize }
+    if GUARD_LENGTH < length {
+        GUARD_LIMIT
+    } else {
+        length as usize
+    }
 }
 
 // The bytes of guard j that its length covers, and how many they are.
 fn put_guard<'a>(guards: &'a [u8], j: usize, count: u8, out: &mut [u8], at: usize) -> usize
-    requires { ⌜ (j < 64) × (2048 ≤ length (now guards)) ⌝ }
-    ensures { λ r. ⌜ (now (out .exit) ≡ placed (guardBytesIn (now (guards .entry)) count j) at (now (out .entry))) × (r ≡ length (guardBytesIn (now (guards .entry)) count j)) × (r ≤ 32) ⌝ }
+    requires { ⌜ (j < transitionLimit) × (guardLimit * transitionLimit ≤ length (now guards)) ⌝ }
+    ensures { λ r. ⌜ (now (out .exit) ≡ placed (guardBytesIn (now (guards .entry)) count j) at (now (out .entry))) × (r ≡ length (guardBytesIn (now (guards .entry)) count j)) × (r ≤ guardLimit) ⌝ }
 {
-    let from = 32 * j;
+    let from = GUARD_LIMIT * j;
     let to = from + within_place(count);
     place(&guards[from..to], out, at);
     to - from
 }
 
 fn put_transition(t: TableParts, j: usize, at: usize, out: &mut [u8]) -> usize
-    requires { ⌜ (j < 64) × (at ≤ 4096) ⌝ }
-    ensures { λ r. ⌜ ((head room : List ℕ) → length head ≡ at → at + 39 ≤ length room → now (out .entry) ≡ over head room → (now (out .exit) ≡ over (head ++ transitionBytes t j) room) × (r ≡ length (head ++ transitionBytes t j))) × (r ≤ at + 39) ⌝ }
+    requires { ⌜ (j < transitionLimit) × (at ≤ tableLimit) ⌝ }
+    ensures { λ r. ⌜ ((head room : List ℕ) → length head ≡ at → at + (7 + guardLimit) ≤ length room → now (out .entry) ≡ over head room → (now (out .exit) ≡ over (head ++ transitionBytes t j) room) × (r ≡ length (head ++ transitionBytes t j))) × (r ≤ at + (7 + guardLimit)) ⌝ }
 {
     let fields = field_bytes(t, j);
     place(&fields, out, at);
@@ -438,8 +460,8 @@ fn put_transition(t: TableParts, j: usize, at: usize, out: &mut [u8]) -> usize
 }
 
 fn encode_transitions(t: TableParts, out: &mut [u8]) -> usize
-    requires { ⌜ (t .kinds ≤ 32) × (t .transitions ≤ 64) ⌝ }
-    ensures { λ r. ⌜ ((head room : List ℕ) → length head ≡ 8 + 2 * t .kinds → 2568 ≤ length room → now (out .entry) ≡ over head room → (now (out .exit) ≡ over (head ++ joined (transitionBytes t) (t .transitions)) room) × (r ≡ length (head ++ joined (transitionBytes t) (t .transitions)))) × (r ≤ 2568) ⌝ }
+    requires { ⌜ (t .kinds ≤ kindLimit) × (t .transitions ≤ transitionLimit) ⌝ }
+    ensures { λ r. ⌜ ((head room : List ℕ) → length head ≡ 8 + 2 * t .kinds → tableLimit ≤ length room → now (out .entry) ≡ over head room → (now (out .exit) ≡ over (head ++ joined (transitionBytes t) (t .transitions)) room) × (r ≡ length (head ++ joined (transitionBytes t) (t .transitions)))) × (r ≤ tableLimit) ⌝ }
 {
     let n = t.transitions as usize;
     let mut at = 8 + 2 * (t.kinds as usize);
@@ -453,8 +475,8 @@ fn encode_transitions(t: TableParts, out: &mut [u8]) -> usize
 
 // The records first, since their length stands in front of them.
 fn encode(t: TableParts, out: &mut [u8]) -> usize
-    requires { ⌜ (t .kinds ≤ 32) × (t .transitions ≤ 64) × (length (now out) ≡ 2568) ⌝ }
-    ensures { λ r. ⌜ (now (out .exit) ≡ over (tableBytes t) (now (out .entry))) × (r ≡ length (tableBytes t)) × (r ≤ 2568) ⌝ }
+    requires { ⌜ (t .kinds ≤ kindLimit) × (t .transitions ≤ transitionLimit) × (length (now out) ≡ tableLimit) ⌝ }
+    ensures { λ r. ⌜ (now (out .exit) ≡ over (tableBytes t) (now (out .entry))) × (r ≡ length (tableBytes t)) × (r ≤ tableLimit) ⌝ }
 {
     encode_kinds(t, out);
     let end = encode_transitions(t, out);
@@ -465,8 +487,8 @@ fn encode(t: TableParts, out: &mut [u8]) -> usize
 
 // What stands before the records of a table that ends at an offset.
 fn head_bytes(t: TableParts, end: usize) -> [u8; 8]
-    requires { ⌜ end ≤ 2568 ⌝ }
-    ensures { λ r. ⌜ r ≡ headBytes t (end - 2) ⌝ }
+    requires { ⌜ end ≤ tableLimit ⌝ }
+    ensures { λ r. ⌜ r ≡ wordBytes (end - 2) ++ countBytes t ⌝ }
 {
     let total = after_length(end);
     [
@@ -488,14 +510,14 @@ fn after_length(end: usize) -> usize
 }
 
 pub fn write_table(t: TableParts, room: &mut [u8]) -> Writing
-    ensures { λ w. ⌜ (w ≡ (writeTable t (now (room .entry))) .answer) × (now (room .exit) ≡ (writeTable t (now (room .entry))) .room) ⌝ }
+    ensures { λ w. ⌜ Writes (writeTable t (now (room .entry))) w (now (room .exit)) ⌝ }
 {
     let counts = counts_answer(t.states, t.variables, t.clocks, t.kinds, t.transitions);
     if let Reading::Unsound(refusal) = counts {
         return Writing::Unwritten(refusal);
     }
-    // made apart: a refusal leaves the room as it was, and counts within their limits give at most 2,568 bytes
-    let mut bytes = [0u8; 2568];
+    // made apart: a refusal leaves the room as it was
+    let mut bytes = [0u8; MOST];
     let end = encode(t, &mut bytes);
     let encoded = &bytes[0..end];
     put(table_answer(encoded), encoded, room)

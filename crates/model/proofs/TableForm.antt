@@ -95,9 +95,9 @@ pub record SoundTransition (b : List ℕ) (at : ℕ) : Type 0 where
   pub fits : at + 7 + guardLengthAt b at ≤ length b
   pub guard : endsAt (guardAt guardLimit (variablesAt b) (clocksAt b) b (at + 7) (at + 7 + guardLengthAt b at)) (at + 7 + guardLengthAt b at) ≡ true
 
-soundTransition : (b : List ℕ) (at : ℕ) → transitionRecord b at ≡ Sound → SoundTransition b at
+pub sound-transition : (b : List ℕ) (at : ℕ) → transitionRecord b at ≡ Sound → SoundTransition b at
 unfolding transitionRecord transitionFields guardRecord
-soundTransition b at e =
+sound-transition b at e =
     let parsed : Bool = endsAt (guardAt guardLimit (variablesAt b) (clocksAt b) b (at + 7) (at + 7 + guardLengthAt b at)) (at + 7 + guardLengthAt b at) in
     let separate : Bool = apart (variablesAt b) (byteAt b (at + 3)) (byteAt b (at + 4)) in
     let l : List Reading =
@@ -162,7 +162,7 @@ transitions-sound (suc n) b i j e p q =
     split (ℕ-discrete i j) (test l e 0) (λ r. transitions-sound n b (suc i) j (test l e 1) r (omega arith))
   where
     split : Dec (i ≡ j) → transitionRecord b (transitionAt b i) ≡ Sound → (suc i ≤ j → SoundTransition b (transitionAt b j)) → SoundTransition b (transitionAt b j)
-    split (yes s) here again = soundTransition b (transitionAt b j) (ap (λ (x : ℕ). transitionRecord b (transitionAt b x)) (sym s) ∙ here)
+    split (yes s) here again = sound-transition b (transitionAt b j) (ap (λ (x : ℕ). transitionRecord b (transitionAt b x)) (sym s) ∙ here)
     split (no s) here again = again (omega arith)
 
 transitions-end : (n : ℕ) (b : List ℕ) (i : ℕ) → transitionRecords n b (transitionAt b i) ≡ Sound → transitionAt b (i + n) ≡ length b

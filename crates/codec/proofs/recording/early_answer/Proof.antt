@@ -1,6 +1,6 @@
 use mathlib.Core.Path.{sym, _∙_}
 use borrow.Author.Tests.{le-leb, lt-leb, not-true, not-false}
-use Rattle.codec.specs.Steps.{recordingEarly}
+use Rattle.model.specs.Recording.{recordingEarly}
 use Rattle.frame.proofs.Answers.{stops, goes}
 use borrow.Author.Needs.{needs}
 use Rattle.codec.proofs.recording.early_answer.Statement.{statement}

@@ -7,8 +7,8 @@ use Rattle.model.specs.Bytes.{joined}
 use Rattle.model.specs.Room.{over}
 use Rattle.wire.specs.Placed.{placed}
 use Rattle.wire.proofs.Room.{placed-behind}
-use Rattle.frame.specs.Framed.{rowsFrame}
-use Rattle.codec.specs.Steps.{recordedBytes}
+use Rattle.model.specs.Frame.{rowsFrame}
+use Rattle.model.specs.Recording.{recordedBytes}
 use Rattle.codec.proofs.Recordings.{long-rows}
 use Rattle.frame.proofs.Written.{joined-none, placed-row}
 use borrow.Author.Needs.{needs}
@@ -17,23 +17,14 @@ use Rattle.codec.proofs.recording.encode.Tie as tie
 
 abbrev Inv-loop : tie.InvT-loop
 Inv-loop times kinds count out₀ i₀ out i = (i ≤ count)
-    × ((room : List ℕ) → 5 + 3 * count ≤ length room → out₀ ≡ over (rowsFrame (3 + 3 * count) count) room → out ≡ over (rowsFrame (3 + 3 * count) count ++ joined (recordedBytes times kinds) i) room)
+    × ((room : List ℕ) → 5 + 3 * count ≤ length room → out₀ ≡ over (rowsFrame 3 count) room → out ≡ over (rowsFrame 3 count ++ joined (recordedBytes times kinds) i) room)
     × (length out ≡ length out₀)
 
 abbrev μ-loop : tie.MeasureT-loop
 μ-loop times kinds count out₀ i₀ out i = count - i
 
-mul-frame-bytes : tie.Need-mul-frame-bytes Inv-loop μ-loop
-mul-frame-bytes c = search needs
-
-add-frame-bytes : tie.Need-add-frame-bytes Inv-loop μ-loop
-add-frame-bytes c = search needs
-
 cast-frame-bytes : tie.Need-cast-frame-bytes Inv-loop μ-loop
 cast-frame-bytes c = search needs
-
-cast-frame-bytes-2 : tie.Need-cast-frame-bytes-2 Inv-loop μ-loop
-cast-frame-bytes-2 c = search needs
 
 frame-bytes-requires : tie.Need-frame-bytes-requires Inv-loop μ-loop
 frame-bytes-requires c κs = search needs
@@ -47,7 +38,7 @@ place-requires c κs = search needs
 loop-holds : tie.Need-loop-holds Inv-loop μ-loop
 loop-holds c = (
   omega arith,
-  λ room h e. let a = c .before .before .before .before .before .before .before .before .before .args in e ∙ ap (λ (l : List ℕ). over l room) (sym (joined-none (rowsFrame (3 + 3 * a .count) (a .count)) (recordedBytes (a .times .now) (a .kinds .now)))),
+  λ room h e. let a = c .before .before .before .before .before .before .before .before .before .args in e ∙ ap (λ (l : List ℕ). over l room) (sym (joined-none (rowsFrame 3 (a .count)) (recordedBytes (a .times .now) (a .kinds .now)))),
   refl,
 )
 
@@ -63,10 +54,10 @@ loop-less c = search needs
 loop-again : tie.Need-loop-again Inv-loop μ-loop
 loop-again c = let a = c .before .before .before .before .before .before .before .before .before .before .before .before .before .before .before .args in
     let i = c .before .before .before .before .before .loop .i in
-    let head = rowsFrame (3 + 3 * a .count) (a .count) in
+    let head = rowsFrame 3 (a .count) in
     let row = recordedBytes (a .times .now) (a .kinds .now) in (
       omega arith,
-      λ room h e. c .before .before .put-row .ensures ∙ ap (placed (row i) (5 + 3 * i)) (c .before .before .before .before .before .loop .inv .1 room h e) ∙ placed-row head row room i (5 + 3 * i) (long-rows (3 + 3 * a .count) (a .count) (a .times .now) (a .kinds .now) i) (omega arith),
+      λ room h e. c .before .before .put-row .ensures ∙ ap (placed (row i) (5 + 3 * i)) (c .before .before .before .before .before .loop .inv .1 room h e) ∙ placed-row head row room i (5 + 3 * i) (long-rows (a .count) (a .times .now) (a .kinds .now) i) (omega arith),
       search needs,
     )
 
@@ -75,7 +66,7 @@ same-length c = search needs
 
 returns : tie.Need-returns Inv-loop μ-loop
 returns c = let a = c .before .before .before .before .before .before .before .before .before .before .before .args in
-    let head = rowsFrame (3 + 3 * a .count) (a .count) in
+    let head = rowsFrame 3 (a .count) in
     let row = recordedBytes (a .times .now) (a .kinds .now) in
     let room = a .out .now in
     let all : c .before .loop .i ≡ a .count = omega arith in
@@ -88,10 +79,7 @@ encode-spec =
     (tie.spec
     Inv-loop
     μ-loop
-    mul-frame-bytes
-    add-frame-bytes
     cast-frame-bytes
-    cast-frame-bytes-2
     frame-bytes-requires
     slice-aggregate-place
     place-requires

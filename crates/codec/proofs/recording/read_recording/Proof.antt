@@ -1,6 +1,7 @@
 use mathlib.Core.Path.{sym, _∙_}
 use borrow.Author.Tests.{not-true, not-false}
 use Rattle.model.specs.Recording.{recordingParts}
+use Rattle.model.proofs.AnswerLaws.{recording-reads}
 use Rattle.codec.proofs.Recordings.{count-bound, read-refused, read-sound}
 use Rattle.frame.proofs.Answers.{sound-is}
 use borrow.Author.Needs.{needs}
@@ -18,7 +19,7 @@ no-recording-requires c κs = search needs
 
 returns : tie.Need-returns
 returns c = let a = c .before .before .before .before .before .before .args in
-    read-refused (a .table .now) (a .b .now) _ _ (c .before .before .before .recording-answer .ensures) (sym (c .before .before .sound .ensures) ∙ not-true (c .before .before .sound .result) (c .before .if1 .taken)) (c .no-recording .ensures)
+    recording-reads _ _ _ (read-refused (a .table .now) (a .b .now) _ _ (c .before .before .before .recording-answer .ensures) (sym (c .before .before .sound .ensures) ∙ not-true (c .before .before .sound .result) (c .before .if1 .taken)) (c .no-recording .ensures))
 
 time-column-requires : tie.Need-time-column-requires
 time-column-requires c κs = let a = c .before .before .before .before .before .args in
@@ -34,8 +35,8 @@ word-requires c κs = search needs
 returns-2 : tie.Need-returns-2
 unfolding recordingParts
 returns-2 c = let a = c .before .before .before .before .before .before .before .before .args in
-    read-sound (a .table .now) (a .b .now) _ _ (c .before .before .before .before .before .recording-answer .ensures) (sym (c .before .before .before .before .sound .ensures) ∙ not-false (c .before .before .before .before .sound .result) (c .before .before .before .if1 .left))
-    (λ i. record { count = (c .word .ensures .0) i; times = (c .before .before .time-column .ensures) i; kinds = (c .before .kind-column .ensures) i })
+    recording-reads _ _ _ (read-sound (a .table .now) (a .b .now) _ _ (c .before .before .before .before .before .recording-answer .ensures) (sym (c .before .before .before .before .sound .ensures) ∙ not-false (c .before .before .before .before .sound .result) (c .before .before .before .if1 .left))
+    (λ i. record { count = (c .word .ensures .0) i; times = (c .before .before .time-column .ensures) i; kinds = (c .before .kind-column .ensures) i }))
 
 pub read-recording-spec : {M : Type 1} → statement M
 read-recording-spec =

@@ -1,4 +1,4 @@
-use Rattle.codec.specs.Steps.{recordingFrame}
+use Rattle.model.specs.Recording.{recordingFrame}
 use borrow.Author.Needs.{needs}
 use Rattle.codec.proofs.recording.recording_frame.Statement.{statement}
 use Rattle.codec.proofs.recording.recording_frame.Tie as tie

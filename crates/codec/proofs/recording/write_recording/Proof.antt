@@ -1,11 +1,9 @@
 use Prim.Native.Nat.{_+_, _*_, _-_, _≤_}
 use native.Mathlib.Omega.{arith}
-use mathlib.Core.List.{[]}
 use mathlib.Core.Path.{_≡_, sym, ap, _∙_}
 use lib.ListN.{replicate}
 use Rattle.model.specs.First.{isSound}
-use Rattle.model.specs.Room.{Lent, write}
-use Rattle.model.specs.declared.Reading.the-variants.{Unsound}
+use Rattle.model.specs.Limits.{rowLimit}
 use Rattle.codec.proofs.Recordings.{early-bound, write-early, write-late, encoded}
 use borrow.Author.Needs.{needs}
 use Rattle.codec.proofs.recording.write_recording.Statement.{statement}
@@ -22,9 +20,7 @@ enum-known-early c = search needs
 
 returns : tie.Need-returns
 returns c = let a = c .before .before .before .before .before .before .args in
-    let is : c .before .before .before .early-answer .result ≡ Unsound (c .before .early .given .0 .0) = c .before .early .given .1 in
-    let e = ap (λ x. write x [] (a .room .now)) (sym is) ∙ write-early (a .table .now) (a .t2) (a .room .now) [] _ (c .before .before .before .early-answer .ensures) (ap isSound is) in
-    (ap (λ (l : Lent). l .answer) e, ap (λ (l : Lent). l .room) e)
+    write-early (a .table .now) (a .t2) (a .room .now) _ (sym (c .before .before .before .early-answer .ensures) ∙ c .before .early .given .1)
 
 enum-told : tie.Need-enum-told
 enum-told c = search needs
@@ -33,7 +29,7 @@ slice-aggregate-encode : tie.Need-slice-aggregate-encode
 slice-aggregate-encode c = search needs
 
 encode-requires : tie.Need-encode-requires
-encode-requires c κs = let few : c .before .before .before .before .before .before .before .before .before .before .before .args .t2 .count ≤ 512 = early-bound (c .before .before .before .before .before .before .before .before .before .before .before .args .table .now) (c .before .before .before .before .before .before .before .before .before .before .before .args .t2) (ap isSound (sym (c .before .before .before .before .before .before .before .before .early-answer .ensures) ∙ c .before .before .before .before .before .before .enum-told .given .1)) in
+encode-requires c κs = let few : c .before .before .before .before .before .before .before .before .before .before .before .args .t2 .count ≤ rowLimit = early-bound (c .before .before .before .before .before .before .before .before .before .before .before .args .table .now) (c .before .before .before .before .before .before .before .before .before .before .before .args .t2) (ap isSound (sym (c .before .before .before .before .before .before .before .before .early-answer .ensures) ∙ c .before .before .before .before .before .before .enum-told .given .1)) in
     (few, omega arith)
 
 mul-encoded : tie.Need-mul-encoded
@@ -49,7 +45,7 @@ part-encoded-start : tie.Need-part-encoded-start
 part-encoded-start c = search needs
 
 part-encoded-end : tie.Need-part-encoded-end
-part-encoded-end c = let few : c .before .before .before .before .before .before .before .before .before .before .before .before .before .before .args .t2 .count ≤ 512 = early-bound (c .before .before .before .before .before .before .before .before .before .before .before .before .before .before .args .table .now) (c .before .before .before .before .before .before .before .before .before .before .before .before .before .before .args .t2) (ap isSound (sym (c .before .before .before .before .before .before .before .before .before .before .before .early-answer .ensures) ∙ c .before .before .before .before .before .before .before .before .before .enum-told .given .1)) in
+part-encoded-end c = let few : c .before .before .before .before .before .before .before .before .before .before .before .before .before .before .args .t2 .count ≤ rowLimit = early-bound (c .before .before .before .before .before .before .before .before .before .before .before .before .before .before .args .table .now) (c .before .before .before .before .before .before .before .before .before .before .before .before .before .before .args .t2) (ap isSound (sym (c .before .before .before .before .before .before .before .before .before .before .before .early-answer .ensures) ∙ c .before .before .before .before .before .before .before .before .before .enum-told .given .1)) in
     omega (arith, c .before .before .encode .kept)
 
 recording-answer-requires : tie.Need-recording-answer-requires
@@ -63,11 +59,9 @@ same-length c = search needs
 
 returns-2 : tie.Need-returns-2
 returns-2 c = let a = c .before .before .before .before .before .before .before .before .before .before .before .before .before .before .before .before .before .before .before .before .args in
-    let e =
     write-late (a .table .now) (a .t2) (a .room .now) _ _ (ap isSound (sym (c .before .before .before .before .before .before .before .before .before .before .before .before .before .before .before .before .before .early-answer .ensures) ∙ c .before .before .before .before .before .before .before .before .before .before .before .before .before .before .before .enum-told .given .1))
-    (encoded (a .table .now) (a .t2) (replicate 1541 0) _ (5 + 3 * a .t2 .count - 0) (c .before .before .before .before .before .before .before .before .encode .ensures) (omega arith))
-    (c .before .before .before .before .recording-answer .ensures) in
-    (c .before .before .put .ensures .0 ∙ ap (λ (l : Lent). l .answer) e, c .before .before .put .ensures .1 ∙ ap (λ (l : Lent). l .room) e)
+    (encoded (a .table .now) (a .t2) (replicate (5 + 3 * rowLimit) 0) _ (5 + 3 * a .t2 .count - 0) (c .before .before .before .before .before .before .before .before .encode .ensures) (omega arith))
+    (c .before .before .before .before .recording-answer .ensures) _ _ (c .before .before .put .ensures)
 
 pub write-recording-spec : {M : Type 1} → statement M
 write-recording-spec =

@@ -1,5 +1,5 @@
 use borrow.Author.Tests.{le-leb, lt-leb}
-use Rattle.codec.specs.Steps.{countsOf}
+use Rattle.model.specs.Table.{countsOf}
 use Rattle.codec.proofs.table.counts_answer.Statement.{statement}
 use Rattle.codec.proofs.table.counts_answer.Tie as tie
 

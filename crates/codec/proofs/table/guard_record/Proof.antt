@@ -1,5 +1,5 @@
 use borrow.Author.Tests.{le-leb, lt-leb, not-true, not-false}
-use Rattle.codec.specs.Steps.{guardRecord}
+use Rattle.model.specs.Table.{guardRecord}
 use borrow.Author.Needs.{needs}
 use Rattle.codec.proofs.table.guard_record.Statement.{statement}
 use Rattle.codec.proofs.table.guard_record.Tie as tie

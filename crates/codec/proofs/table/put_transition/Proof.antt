@@ -4,7 +4,7 @@ use mathlib.Core.Path.{refl, ap, _∙_}
 use mathlib.Core.List.{List}
 use lib.ListN.{getD}
 use Rattle.wire.specs.Placed.{placed}
-use Rattle.codec.specs.Steps.{fieldBytes, guardBytesIn}
+use Rattle.model.specs.Table.{fieldBytes, guardBytesIn}
 use Rattle.codec.proofs.Encoded.{two-long, two-placed}
 use borrow.Author.Needs.{needs}
 use Rattle.codec.proofs.table.put_transition.Statement.{statement}

@@ -1,7 +1,9 @@
 use mathlib.Core.Path.{_≡_, sym, _∙_, refl}
-use Prim.Native.Nat.{min}
+use Prim.Native.Nat.{_+_, min}
+use Rattle.model.specs.Limits.{sizeLimit}
 use Rattle.model.specs.Size.{size}
 use Rattle.model.specs.Table.{monitorOf, tableParts}
+use Rattle.model.proofs.AnswerLaws.{table-reads}
 use Rattle.frame.proofs.Answers.{turn-stops, turn-goes, sound-is}
 use Rattle.codec.proofs.Tables.{scan-all, read-refused, read-sound, size-over, size-within}
 use borrow.Author.Tests.{not-true, not-false}
@@ -21,7 +23,7 @@ no-table-requires c κs = search needs
 returns : tie.Need-returns
 returns c = let b = c .before .before .before .before .before .args .b .now in
     let is = turn-stops _ _ _ _ _ (scan-all b) (c .before .before .before .table-scan .ensures) (c .before .before .sound .ensures) (c .before .if1 .taken) in
-    read-refused b _ _ is (sym (c .before .before .sound .ensures) ∙ not-true (c .before .before .sound .result) (c .before .if1 .taken)) (c .no-table .ensures)
+    table-reads _ _ (read-refused b _ _ is (sym (c .before .before .sound .ensures) ∙ not-true (c .before .before .sound .result) (c .before .if1 .taken)) (c .no-table .ensures))
 
 table-parts-requires : tie.Need-table-parts-requires
 table-parts-requires c κs = sym (c .before .before .table-scan .ensures) ∙ sound-is _ (sym (c .before .sound .ensures) ∙ not-false (c .before .sound .result) (c .if1 .left))
@@ -35,14 +37,14 @@ no-table-requires-2 c κs = search needs
 returns-2 : tie.Need-returns-2
 returns-2 c = let b = c .before .before .before .before .before .before .before .before .args .b .now in
     let all = turn-goes _ _ _ _ _ (scan-all b) (c .before .before .before .before .before .before .table-scan .ensures) (c .before .before .before .before .before .sound .ensures) (c .before .before .before .before .if1 .left) in
-    let n : c .before .before .table-size .result ≡ min (size (monitorOf (tableParts b))) 65537 = c .before .before .table-size .ensures ∙ rw (c .before .before .before .table-parts .ensures) in
-    read-refused b _ _ (sym (all ∙ rw (size-over _ _ n (c .before .if2 .taken)))) refl (c .no-table2 .ensures)
+    let n : c .before .before .table-size .result ≡ min (size (monitorOf (tableParts b))) (sizeLimit + 1) = c .before .before .table-size .ensures ∙ rw (c .before .before .before .table-parts .ensures) in
+    table-reads _ _ (read-refused b _ _ (sym (all ∙ rw (size-over _ _ n (c .before .if2 .taken)))) refl (c .no-table2 .ensures))
 
 returns-3 : tie.Need-returns-3
 returns-3 c = let b = c .before .before .before .before .before .before .before .args .b .now in
     let all = turn-goes _ _ _ _ _ (scan-all b) (c .before .before .before .before .before .table-scan .ensures) (c .before .before .before .before .sound .ensures) (c .before .before .before .if1 .left) in
-    let n : c .before .table-size .result ≡ min (size (monitorOf (tableParts b))) 65537 = c .before .table-size .ensures ∙ rw (c .before .before .table-parts .ensures) in
-    read-sound b _ (all ∙ rw (size-within _ _ n (c .if2 .left))) (c .before .before .table-parts .ensures)
+    let n : c .before .table-size .result ≡ min (size (monitorOf (tableParts b))) (sizeLimit + 1) = c .before .table-size .ensures ∙ rw (c .before .before .table-parts .ensures) in
+    table-reads _ _ (read-sound b _ (all ∙ rw (size-within _ _ n (c .if2 .left))) (c .before .before .table-parts .ensures))
 
 pub read-table-spec : {M : Type 1} → statement M
 read-table-spec =

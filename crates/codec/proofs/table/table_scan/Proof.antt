@@ -1,6 +1,6 @@
 use mathlib.Core.Path.{sym, _∙_}
 use borrow.Author.Tests.{not-true, not-false}
-use Rattle.codec.specs.Steps.{tableScan}
+use Rattle.model.specs.Table.{tableScan}
 use Rattle.frame.proofs.Answers.{stops, goes, then-sound}
 use Rattle.codec.proofs.Tables.{counts-are}
 use borrow.Author.Needs.{needs}

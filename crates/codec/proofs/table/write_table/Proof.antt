@@ -1,12 +1,10 @@
 use Prim.Native.Nat.{_-_}
 use native.Mathlib.Omega.{arith}
-use mathlib.Core.List.{[]}
 use mathlib.Core.Path.{_≡_, refl, sym, ap, _∙_}
 use lib.ListN.{replicate}
 use Rattle.model.specs.First.{isSound}
-use Rattle.model.specs.Room.{Lent, write}
+use Rattle.model.specs.Limits.{tableLimit}
 use Rattle.model.specs.Table.{tableBytes}
-use Rattle.model.specs.declared.Reading.the-variants.{Unsound}
 use Rattle.codec.proofs.Encoded.{write-early, write-late, counts-within}
 use Rattle.frame.proofs.Written.{taken}
 use borrow.Author.Needs.{needs}
@@ -21,9 +19,7 @@ enum-known-counts c = search needs
 
 returns : tie.Need-returns
 returns c = let a = c .before .before .before .before .before .args in
-    let is : c .before .before .before .counts-answer .result ≡ Unsound (c .before .counts .given .0 .0) = c .before .counts .given .1 in
-    let e = ap (λ x. write x [] (a .room .now)) (sym is) ∙ write-early (a .t) _ (c .before .before .before .counts-answer .ensures) (a .room .now) [] (omega arith) (omega arith) (ap isSound is) in
-    (ap (λ (l : Lent). l .answer) e, ap (λ (l : Lent). l .room) e)
+    write-early (a .t) _ (c .before .before .before .counts-answer .ensures) (a .room .now) (omega arith) (omega arith) _ (c .before .counts .given .1)
 
 enum-told : tie.Need-enum-told
 enum-told c = search needs
@@ -57,9 +53,8 @@ returns-2 : tie.Need-returns-2
 returns-2 c = let a = c .before .before .before .before .before .before .before .before .before .before .before .before .before .before .args in
     let n = c .before .before .before .before .before .before .before .before .encode .result in
     let same : n - 0 ≡ n = omega arith in
-    let bytes = taken (tableBytes (a .t)) (replicate 2568 0) _ (n - 0) (c .before .before .before .before .before .before .before .before .encode .ensures .0) (sym (c .before .before .before .before .before .before .before .before .encode .ensures .1) ∙ sym same) in
-    let e = write-late (a .t) (a .room .now) _ _ bytes (c .before .before .before .before .table-answer .ensures) in
-    (c .before .before .put .ensures .0 ∙ ap (λ (l : Lent). l .answer) e, c .before .before .put .ensures .1 ∙ ap (λ (l : Lent). l .room) e)
+    let bytes = taken (tableBytes (a .t)) (replicate tableLimit 0) _ (n - 0) (c .before .before .before .before .before .before .before .before .encode .ensures .0) (sym (c .before .before .before .before .before .before .before .before .encode .ensures .1) ∙ sym same) in
+    write-late (a .t) (a .room .now) _ _ bytes (c .before .before .before .before .table-answer .ensures) _ _ (c .before .before .put .ensures)
 
 pub write-table-spec : {M : Type 1} → statement M
 write-table-spec =
