@@ -11,7 +11,7 @@ use borrow.Author.Tests.{ltb-true, ltb-false, eqb-true, eqb-false, eq-eqb, ne-eq
 use Rattle.model.specs.Monitor.{Monitor}
 use Rattle.model.specs.Trace.{Packet}
 use Rattle.model.specs.Witness.{Row}
-use Rattle.model.specs.Situation.{Move, keep, rest, add, moveOf, moved, stepBy, tick, uncapped, recordedAt, triggerOf}
+use Rattle.model.specs.Situation.{Move, keep, rest, add, moveOf, moved, stepBy, tick, uncapped, recordedAt, triggerOf, restMove, firstAdd}
 use Rattle.model.specs.Validation.{addedRow, rowsBy, rowsOf}
 use Rattle.model.specs.Order.{Choice, keeping, nothing, adding, rowsOn, choice, Sooner, Before}
 use Rattle.model.specs.declared.Situation.{Situation}
@@ -103,22 +103,22 @@ choice-by m none t (add j) s x e = choice-added t j (triggerOf m j) _ e
 choice-by m (some k) t (add j) s x e = choice-added t j (triggerOf m j) _ e
 
 -- the number of a move
-abbrev Numbered : ℕ → Move → Type 0
-Numbered k (keep j) = (k ≡ j) × (k < 64)
-Numbered k rest = k ≡ 64
-Numbered k (add j) = k ≡ 65 + j
+abbrev MoveNumber : ℕ → Move → Type 0
+MoveNumber k (keep j) = (k ≡ j) × (k < restMove)
+MoveNumber k rest = k ≡ restMove
+MoveNumber k (add j) = k ≡ firstAdd + j
 
-numbered : (k : ℕ) → Numbered k (moveOf k)
+move-number : (k : ℕ) → MoveNumber k (moveOf k)
 unfolding moveOf
-numbered k = go (ltb k 64) (eqb k 64) refl refl
+move-number k = go (ltb k restMove) (eqb k restMove) refl refl
   where
-    go : (low mid : Bool) → ltb k 64 ≡ low → eqb k 64 ≡ mid → Numbered k (cond low (keep k) (cond mid rest (add (k - 65))))
-    go true mid e f = (refl, ltb-true k 64 e)
-    go false true e f = eqb-true k 64 f
-    go false false e f = let h : 64 ≤ k = ltb-false k 64 e in let n : k ≡ 64 → ⊥ = eqb-false k 64 f in omega arith
+    go : (low mid : Bool) → ltb k restMove ≡ low → eqb k restMove ≡ mid → MoveNumber k (cond low (keep k) (cond mid rest (add (k - firstAdd))))
+    go true mid e f = (refl, ltb-true k restMove e)
+    go false true e f = eqb-true k restMove f
+    go false false e f = let h : restMove ≤ k = ltb-false k restMove e in let n : k ≡ restMove → ⊥ = eqb-false k restMove f in omega arith
 
 -- a lower number is the sooner choice
-sooner-number : (k l : ℕ) (a b : Move) → Numbered k a → Numbered l b → k < l → Sooner (chosen a) (chosen b)
+sooner-number : (k l : ℕ) (a b : Move) → MoveNumber k a → MoveNumber l b → k < l → Sooner (chosen a) (chosen b)
 sooner-number k l (keep i) (keep j) p q h = omega arith
 sooner-number k l (keep i) rest p q h = tt
 sooner-number k l (keep i) (add j) p q h = tt
@@ -147,7 +147,7 @@ moves-before m recording t (k ∷ ks) (l ∷ ls) s z r y p q (inl h) = (
     sooner =
         rw (rowsOf-now m recording (suc t) k ks, rowsOf-now m recording (suc t) l ls)
         (rw (choice-by m (recordedAt recording (suc t)) (suc t) (moveOf k) s (p .0) (p .2), choice-by m (recordedAt recording (suc t)) (suc t) (moveOf l) r (q .0) (q .2))
-        (sooner-number k l (moveOf k) (moveOf l) (numbered k) (numbered l) h));
+        (sooner-number k l (moveOf k) (moveOf l) (move-number k) (move-number l) h));
   },
   omega arith,
 )

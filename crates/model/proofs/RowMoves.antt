@@ -17,7 +17,7 @@ use Rattle.model.specs.Recording.{endOf}
 use Rattle.model.specs.Witness.{Row, kept, removed, added, noTransition, marked, isRemoved, inForm, follows, inPlace}
 use Rattle.model.specs.Rules.{Progress, begin, noneBefore, isNext, noneAt, others, sends, keeps, removes, adds, account, broken}
 use Rattle.model.specs.Order.{EndsBy}
-use Rattle.model.specs.Situation.{Move, keep, rest, add, moveOf, moveLimit, uncapped, firstBy, triggerOf, recordedAt}
+use Rattle.model.specs.Situation.{Move, keep, rest, add, moveOf, moveLimit, uncapped, firstBy, triggerOf, recordedAt, restMove, firstAdd}
 use Rattle.model.specs.Validation.{rowsBy, HasRows, rowsOf}
 use Rattle.model.specs.declared.Situation.{Situation}
 use Rattle.model.proofs.Basics.{and-left, and-right, getElem-within}
@@ -208,7 +208,7 @@ module _ (m : Monitor) (recording : List Packet) (table : Sane m) (t : ℕ) (p :
   -- no row where none is recorded
   silent : (rows : List Row) (i : ℕ) → recordedAt recording (suc t) ≡ none → broken m p i rows ≡ none → StartsAfter (suc t) rows → Split m recording t p rows
   unfolding accounts rowsBy moveOf
-  silent rows i e u b = split-by rows none 64 rest e refl (omega arith) tt p refl rows refl i u b
+  silent rows i e u b = split-by rows none restMove rest e refl (omega arith) tt p refl rows refl i u b
 
   kept-first : (i : ℕ) (r : Row) (rs : List Row) (q : Progress) (k : ℕ) → recordedAt recording (suc t) ≡ some k → r .time ≡ suc t → r .kind ≡ k
       → r .mark ≡ kept → account m p r ≡ some q → broken m q i rs ≡ none → Sent m r q → Split m recording t p (r ∷ rs)
@@ -228,7 +228,7 @@ module _ (m : Monitor) (recording : List Packet) (table : Sane m) (t : ℕ) (p :
       → r .mark ≡ added → account m p r ≡ some q → broken m q i rs ≡ none → Sent m r q → Split m recording t p (r ∷ rs)
   unfolding rowsBy
   added-first i r rs q e f h c u s =
-      split-by (r ∷ rs) none (65 + r .transition) (add (r .transition)) e (moveOf-add (r .transition))
+      split-by (r ∷ rs) none (firstAdd + r .transition) (add (r .transition)) e (moveOf-add (r .transition))
       (omega (arith, trigger-number m table (r .transition) (r .kind) (s .trigger))) (r .kind, s .trigger) q
       (rw (s .trigger) (one-row m p (marked added (suc t) (r .kind) (r .transition)) ∙ ap (account m p) same ∙ c)) rs (rw (s .trigger) (ap (λ x. x ∷ rs) same)) i u
       (subst (λ x. StartsAfter x rs) f (starts-after m q r i rs (s .before) (omega arith) u))
@@ -246,13 +246,13 @@ module _ (m : Monitor) (recording : List Packet) (table : Sane m) (t : ℕ) (p :
 
       alone : (l : List Row) → broken m q i l ≡ none → StartsAfter (suc t) l → Split m recording t p (r ∷ l)
       alone l u a =
-          split-by (r ∷ l) (some k) 64 rest e refl (omega arith) tt q (one-row m p (marked removed (suc t) k noTransition) ∙ ap (account m p) same ∙ c)
+          split-by (r ∷ l) (some k) restMove rest e refl (omega arith) tt q (one-row m p (marked removed (suc t) k noTransition) ∙ ap (account m p) same ∙ c)
           l (ap (λ x. x ∷ l) same) i u a
 
       swapped : (s : Row) (l : List Row) (v : Progress) → account m q s ≡ some v → broken m v (suc i) l ≡ none → s .time ≡ suc t → s .mark ≡ added
           → Sent m s v → Split m recording t p (r ∷ s ∷ l)
       swapped s l v d u a n x =
-          split-by (r ∷ s ∷ l) (some k) (65 + s .transition) (add (s .transition)) e (moveOf-add (s .transition))
+          split-by (r ∷ s ∷ l) (some k) (firstAdd + s .transition) (add (s .transition)) e (moveOf-add (s .transition))
           (omega (arith, trigger-number m table (s .transition) (s .kind) (x .trigger))) (s .kind, x .trigger) v
           (rw (x .trigger)
           (ap₂ (λ y z. accounts m p (y ∷ z ∷ [])) same alike ∙ rw c (one-row m q s ∙ d)))

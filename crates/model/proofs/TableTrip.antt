@@ -2,7 +2,7 @@
 use Prim.Native.Nat.{ℕ, zero, suc, _+_, _*_, _<_, _≤_}
 use native.Mathlib.Omega.{arith}
 use mathlib.Core.Path.{_≡_, refl, sym, ap, ap₂, _∙_}
-use mathlib.Core.List.{List, [], _∷_, _++_}
+use mathlib.Core.List.{List, _++_}
 use lib.ListN.{length, take, drop, length-append, length-take, length-drop}
 use lib.Seq.{length-take-le, getD-take, getD-drop}
 use Rattle.model.specs.Limits.{kindLimit, transitionLimit, guardLimit}
@@ -10,7 +10,7 @@ use Rattle.model.specs.Bytes.{byteAt, tab, wordAt, wordBytes, joined}
 use lib.Dec.{eqb}
 use Rattle.model.specs.Guard.{guardAt, guardOf}
 use Rattle.model.proofs.GuardForm.{guard-moved, moved-guard}
-use Rattle.model.specs.Table.{guardIn, transitionIn, monitorOf, monitorAt, statesAt, variablesAt, clocksAt, kindsAt, transitionsAt, guardLengthAt, kindAt, transitionAt, guardPlace, tableParts, SoundTable, kindColumn, transitionColumn, kindBytes, fieldBytes, guardBytesIn, transitionBytes, countBytes, tableBody, tableBytes}
+use Rattle.model.specs.Table.{guardIn, transitionIn, monitorOf, monitorAt, kindsAt, transitionsAt, guardLengthAt, kindAt, transitionAt, guardPlace, tableParts, SoundTable, kindColumn, transitionColumn, kindBytes, fieldBytes, guardBytesIn, transitionBytes, countBytes, tableBody, tableBytes}
 use Rattle.model.specs.Same.{Zero, SameTable, TableZero}
 use Rattle.model.specs.declared.TableParts.{TableParts}
 use Rattle.model.proofs.Places.{AllBytes, Stands, stands-append, stands-left, stands-right, stands-moved, stands-self, stands-whole, word-at, length-padded, getD-padded-past, getD-column, getD-column-past, length-joined, stands-joined, joined-stands, tab-same}
@@ -199,8 +199,8 @@ module _ (t : TableParts) where
       (stands-right (tableBytes t) 2 (countBytes t ++ kinds) transitions written-body))
 
 module _ (t : TableParts) (full : length (t .guards) ≡ guardLimit * transitionLimit) (facts : TableFacts (tableBytes t)) where
-  few-transitions : t .transitions ≤ 64
-  few-transitions = let h : transitionsAt (tableBytes t) ≤ 64 = facts .counts .transitions in rw (written-counts t 5 (omega arith)) at h
+  few-transitions : t .transitions ≤ transitionLimit
+  few-transitions = let h : transitionsAt (tableBytes t) ≤ transitionLimit = facts .counts .transitions in rw (written-counts t 5 (omega arith)) at h
 
   transition-facts : (j : ℕ) → j < t .transitions → SoundTransition (tableBytes t) (transitionAt (tableBytes t) j)
   transition-facts j h = facts .transition j (rw (written-counts t 5 (omega arith)) h)
@@ -276,7 +276,7 @@ module _ (t u : TableParts) (same : SameTable t u) (few : (j : ℕ) → j < u .t
       let n : ℕ = byteAt (u .lengths) j in
       ap₂ (λ (vs cs : ℕ). guardOf (guardAt guardLimit vs cs (t .guards) (guardLimit * j) (guardLimit * j + byteAt (t .lengths) j))) (same .variables) (same .clocks)
       ∙ ap (λ (k : ℕ). guardOf (guardAt guardLimit (u .variables) (u .clocks) (t .guards) (guardLimit * j) (guardLimit * j + k))) (same .lengths j h)
-      ∙ ap guardOf (guard-moved (u .variables) (u .clocks) (u .guards) (t .guards) (guardLimit * j) (guardLimit * j) n (λ i p. sym (same .guards j h i p)) 32 32 (few j h) (few j h))
+      ∙ ap guardOf (guard-moved (u .variables) (u .clocks) (u .guards) (t .guards) (guardLimit * j) (guardLimit * j) n (λ i p. sym (same .guards j h i p)) guardLimit guardLimit (few j h) (few j h))
       ∙ moved-guard (guardLimit * j) (guardLimit * j) (guardAt guardLimit (u .variables) (u .clocks) (u .guards) (guardLimit * j) (guardLimit * j + n))
 
   same-transition : (j : ℕ) → j < u .transitions → transitionIn t j ≡ transitionIn u j

@@ -16,7 +16,7 @@ use Rattle.model.specs.Monitor.{Monitor, Config, Transition, start, wait
 use Rattle.model.specs.Guard.{holds}
 use Rattle.model.specs.Trace.{Packet, Spaced, PacketTrace, Carries, Possible}
 use Rattle.model.specs.Recording.{endOf}
-use Rattle.model.specs.Situation.{configOf, withAir, uncapped, firstBy, sent, triggerOf, moved, tick, stepBy, recordedAt, moveLimit, moveOf}
+use Rattle.model.specs.Situation.{configOf, withAir, uncapped, firstBy, sent, triggerOf, moved, tick, stepBy, recordedAt, moveLimit, moveOf, restMove, firstAdd}
 use Rattle.model.specs.declared.Situation.{Situation}
 use Rattle.model.proofs.Basics.{and-left, and-right, getElem-within}
 use Rattle.model.specs.Sane.{Sane, SaneRecording}
@@ -136,14 +136,14 @@ module _ (m : Monitor) where
         → ((a : ℕ) → recorded ≡ some a → (a ≡ k → ⊥) → toUnit m a ≡ true)
         → (n : ℕ) × (n < moveLimit) × (moved m recorded s (moveOf n) ≡ sent m j k s)
     unfolding moved bind
-    sends j k few trigger none others = (65 + j, omega arith, rw (moveOf-add j, trigger))
+    sends j k few trigger none others = (firstAdd + j, omega arith, rw (moveOf-add j, trigger))
     sends j k few trigger (some a) others = split (ℕ-discrete a k)
       where
         split : Dec (a ≡ k) → (n : ℕ) × (n < moveLimit) × (moved m (some a) s (moveOf n) ≡ sent m j k s)
         split (yes e) = (j, omega arith, rw (moveOf-keep j few, e))
-        split (no e) = (65 + j, omega arith, rw (moveOf-add j, trigger, others a refl e, ne-eqb k a (λ q. e (sym q))))
+        split (no e) = (firstAdd + j, omega arith, rw (moveOf-add j, trigger, others a refl e, ne-eqb k a (λ q. e (sym q))))
 
-    rests : (recorded : Option ℕ) → ((a : ℕ) → recorded ≡ some a → toUnit m a ≡ true) → moved m recorded s (moveOf 64) ≡ some s
+    rests : (recorded : Option ℕ) → ((a : ℕ) → recorded ≡ some a → toUnit m a ≡ true) → moved m recorded s (moveOf restMove) ≡ some s
     unfolding moved
     rests none others = rw moveOf-rest
     rests (some a) others = rw (moveOf-rest, others a refl)
@@ -169,7 +169,7 @@ module _ (m : Monitor) where
     unfolding stepBy
     goes-idle t s tr later x =
         record {
-          number = 64;
+          number = restMove;
           below = omega arith;
           next = tick uncapped s;
           moves = ap (Option·map (tick uncapped)) (rests s (recordedAt recording (suc t)) others);

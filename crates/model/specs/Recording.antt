@@ -3,8 +3,8 @@ use Prim.Native.Nat.{ℕ, zero, suc, _+_, _*_}
 use mathlib.Core.Path.{_≡_}
 use mathlib.Core.List.{List, [], _∷_, _++_}
 use mathlib.Core.Bool.{Bool, true, cond}
-use lib.ListN.{length, getD, replicate}
-use lib.Dec.{leb, ltb, eqb}
+use lib.ListN.{getD, replicate}
+use lib.Dec.{leb, ltb}
 use Rattle.model.specs.Limits.{rowLimit, timeLimit}
 use Rattle.model.specs.Bytes.{byteAt, wordAt, wordBytes, tab, joined, padded}
 use Rattle.model.specs.First.{unless, firstOf, isSound}

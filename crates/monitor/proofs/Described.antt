@@ -5,6 +5,7 @@ use mathlib.Core.Path.{_≡_, sym, ap, _∙_}
 use mathlib.Core.List.{List}
 use lib.ListN.{getD}
 use lib.Dec.{eqb}
+use Rattle.model.specs.Limits.{kindLimit, transitionLimit}
 use Rattle.model.specs.Bytes.{byteAt, tab, padded}
 use Rattle.model.specs.Monitor.{airtime}
 use Rattle.model.specs.Table.{guardIn, transitionIn, monitorOf, kindsAt, transitionsAt, kindAt, transitionAt, tableParts, SoundTable, monitorAt}
@@ -14,8 +15,8 @@ use Rattle.monitor.specs.From.{guardFrom, transitionFrom, monitorFrom, o
 
 -- the columns of the kinds, of any table
 module _ (b : List ℕ) where
-  kind-column : (field k : ℕ) → k < kindsAt b → byteAt b (kindAt k + field) ≡ byteAt (padded 32 (tab (λ i. byteAt b (kindAt i + field)) (kindsAt b))) k
-  kind-column field k h = sym (getD-column 32 (λ i. byteAt b (kindAt i + field)) (kindsAt b) k h)
+  kind-column : (field k : ℕ) → k < kindsAt b → byteAt b (kindAt k + field) ≡ byteAt (padded kindLimit (tab (λ i. byteAt b (kindAt i + field)) (kindsAt b))) k
+  kind-column field k h = sym (getD-column kindLimit (λ i. byteAt b (kindAt i + field)) (kindsAt b) k h)
 
   same-airtimes : tab (λ k. byteAt b (kindAt k + 1)) (kindsAt b) ≡ tab (λ k. byteAt (tableParts b .airtimes) k) (kindsAt b)
   unfolding tableParts
@@ -26,20 +27,20 @@ module _ (b : List ℕ) where
   airtime-from offsets k = ap (λ (l : List ℕ). getD l k 0) same-airtimes
 
 module _ (b : List ℕ) (facts : TableFacts b) where
-  few : transitionsAt b ≤ 64
+  few : transitionsAt b ≤ transitionLimit
   few = facts .counts .transitions
 
   offset : (j : ℕ) → j < transitionsAt b → getD (offsetsOf b) j 0 ≡ transitionAt b j
   unfolding offsetsOf
-  offset j h = getD-column 64 (transitionAt b) (min (transitionsAt b) 64) j (omega (arith, few))
+  offset j h = getD-column transitionLimit (transitionAt b) (min (transitionsAt b) transitionLimit) j (omega (arith, few))
 
-  column : (field j : ℕ) → j < transitionsAt b → byteAt b (transitionAt b j + field) ≡ byteAt (padded 64 (tab (λ i. byteAt b (transitionAt b i + field)) (transitionsAt b))) j
-  column field j h = sym (getD-column 64 (λ i. byteAt b (transitionAt b i + field)) (transitionsAt b) j h)
+  column : (field j : ℕ) → j < transitionsAt b → byteAt b (transitionAt b j + field) ≡ byteAt (padded transitionLimit (tab (λ i. byteAt b (transitionAt b i + field)) (transitionsAt b))) j
+  column field j h = sym (getD-column transitionLimit (λ i. byteAt b (transitionAt b i + field)) (transitionsAt b) j h)
 
   same : (j : ℕ) → j < transitionsAt b → transitionFrom b (transitionAt b j) ≡ transitionIn (tableParts b) j
   unfolding transitionFrom transitionIn tableParts guardFrom
   same j h =
-      let source : byteAt b (transitionAt b j) ≡ byteAt (padded 64 (tab (λ i. byteAt b (transitionAt b i + 0)) (transitionsAt b))) j =
+      let source : byteAt b (transitionAt b j) ≡ byteAt (padded transitionLimit (tab (λ i. byteAt b (transitionAt b i + 0)) (transitionsAt b))) j =
       ap (byteAt b) (omega arith) ∙ column 0 j h in
       let guard : guardFrom b (transitionAt b j) ≡ guardIn (tableParts b) j = sym (guard-again b facts j h) in
       λ i.

@@ -7,6 +7,7 @@ use mathlib.Core.Bool.{Bool, true, false, cond, _&&_}
 use mathlib.Core.Option.{Option, none, some, bind}
 use lib.ListN.{length, getD, getElem?, List·getD-eq-default}
 use lib.Dec.{eqb}
+use Rattle.model.specs.Limits.{guardLimit}
 use Rattle.model.specs.Bytes.{byteAt, tab}
 use borrow.Author.Tests.{eq-eqb, ne-eqb}
 use Rattle.model.specs.Guard.{guardAt, guardOf, holds}
@@ -78,7 +79,7 @@ module _ (b : List ℕ) (at k : ℕ) (c : Config) where
   if-guard e g = rw (eq-eqb (byteAt b at) (c .state) e, eq-eqb (byteAt b (at + 2)) k g)
 
   pub guard-with : (variables clocks length : ℕ) (r : Bool) → variables ≡ variablesAt b → clocks ≡ clocksAt b → length ≡ guardLengthAt b at →
-      r ≡ holds (guardOf (guardAt 32 variables clocks b (at + 7) (at + 7 + length))) (c .variables) (c .clocks) → r ≡ holds (guardFrom b at) (c .variables) (c .clocks)
+      r ≡ holds (guardOf (guardAt guardLimit variables clocks b (at + 7) (at + 7 + length))) (c .variables) (c .clocks) → r ≡ holds (guardFrom b at) (c .variables) (c .clocks)
   unfolding guardFrom
   guard-with variables clocks length r ev ec el e = cc
 

@@ -1,5 +1,5 @@
 -- What is written reads back to the same parts.
-use Prim.Native.Nat.{ℕ, zero, suc, _-_, _<_, _≤_}
+use Prim.Native.Nat.{ℕ, zero, suc, _-_, _*_, _<_, _≤_}
 use denote.Array.{each}
 use denote.Shadow.{shadow}
 use denote.Struct.Field.{u16-field}
@@ -11,13 +11,16 @@ use mathlib.Core.Bool.{Bool, true, false, cond}
 use lib.ListN.{length, take, drop, length-append}
 use lib.Seq.{take-append-seam}
 use lib.Dec.{leb}
-use borrow.Author.Tests.{leb-true}
+use Rattle.model.specs.Limits.{transitionLimit, guardLimit, rowLimit, witnessLimit}
+use Rattle.model.specs.Answers.{Writes}
 use Rattle.model.specs.Bytes.{byteAt}
-use Rattle.model.specs.First.{unless, firstOf, isSound}
+use Rattle.model.specs.First.{unless, isSound}
+use Rattle.model.specs.Numbers.{readingValues}
+use Rattle.model.specs.Frame.{framed, framedRows}
 use Rattle.model.specs.Room.{Lent, over, write}
-use Rattle.model.specs.Table.{tableAnswer, tableBytes, tableParts, noTable, readTable, writeTable}
-use Rattle.model.specs.Recording.{recordingAnswer, recordingBytes, recordingParts, noRecording, readRecording, recordingWritable, writeRecording, rowLimit}
-use Rattle.model.specs.Witness.{witnessFrame, witnessAnswer, witnessBytes, witnessParts, noWitness, readWitness, rowsIn, witnessWritable, writeWitness, witnessLimit}
+use Rattle.model.specs.Table.{tableScan, tableAnswer, tableBytes, tableParts, noTable, readTable, writeTable}
+use Rattle.model.specs.Recording.{recordingAnswer, recordingBytes, recordingParts, noRecording, readRecording, recordingEarly, recordingWritable, writeRecording}
+use Rattle.model.specs.Witness.{witnessFrame, witnessAnswer, witnessBytes, witnessParts, noWitness, readWitness, rowsIn, witnessWritable, writeWitness}
 use Rattle.model.specs.declared.TableParts.{TableParts}
 use Rattle.model.specs.declared.TableReading.{TableReading}
 use Rattle.model.specs.declared.RecordingParts.{RecordingParts}
@@ -30,7 +33,7 @@ use Rattle.model.specs.declared.Refusal.{Refusal}
 use Rattle.model.specs.declared.Refusal.the-variants.{WriteRoom, RecordingCount, WitnessCount}
 use Rattle.model.specs.declared.Writing.{Writing}
 use Rattle.model.specs.declared.Writing.the-variants.{Written, Unwritten}
-use Rattle.model.proofs.Basics.{unless-sound, andThen-left, andThen-right}
+use Rattle.model.proofs.Tests.{test, le-test}
 use Rattle.model.specs.Same.{SameTable, TableZero, SameRecording, RecordingZero, SameWitness, WitnessZero}
 use Rattle.model.proofs.TableTrip.{table-back, zero-beyond}
 use Rattle.model.proofs.RecordingForm.{recording-back, recording-zero}
@@ -63,21 +66,20 @@ written Sound bytes room n e = let (stands, fits) = by (leb (length bytes) (leng
 
 -- what was written lies within the room
 module _ (w : Writing) (roomThen : List ℕ) (n : ℕ) where
-  fits : (a : Reading) (bytes room : List ℕ) → w ≡ write a bytes room .answer → roomThen ≡ write a bytes room .room → w ≡ Written n → n ≤ length roomThen
-  fits a bytes room answered lent done = subst (λ (r : List ℕ). n ≤ length r) (sym lent) (written a bytes room n (sym answered ∙ done) .2)
+  fits : (a : Reading) (bytes room : List ℕ) → Writes (write a bytes room) w roomThen → w ≡ Written n → n ≤ length roomThen
+  fits a bytes room g done = subst (λ (r : List ℕ). n ≤ length r) (sym (g .lent)) (written a bytes room n (sym (g .answered) ∙ done) .2)
 
-  pub table-fits : (t : TableParts) (room : List ℕ) → (w ≡ writeTable t room .answer) × (roomThen ≡ writeTable t room .room) → w ≡ Written n → n ≤ length roomThen
+  pub table-fits : (t : TableParts) (room : List ℕ) → Writes (writeTable t room) w roomThen → w ≡ Written n → n ≤ length roomThen
   unfolding writeTable
-  table-fits t room (answered, lent) = fits (tableAnswer (tableBytes t)) (tableBytes t) room answered lent
+  table-fits t room = fits (tableAnswer (tableBytes t)) (tableBytes t) room
 
-  pub recording-fits : (table : List ℕ) (r : RecordingParts) (room : List ℕ) → (w ≡ writeRecording table r room .answer) × (roomThen ≡ writeRecording table r room .room)
-      → w ≡ Written n → n ≤ length roomThen
+  pub recording-fits : (table : List ℕ) (r : RecordingParts) (room : List ℕ) → Writes (writeRecording table r room) w roomThen → w ≡ Written n → n ≤ length roomThen
   unfolding writeRecording
-  recording-fits table r room (answered, lent) = fits (recordingWritable table r) (recordingBytes r) room answered lent
+  recording-fits table r room = fits (recordingWritable table r) (recordingBytes r) room
 
-  pub witness-fits : (v : WitnessParts) (room : List ℕ) → (w ≡ writeWitness v room .answer) × (roomThen ≡ writeWitness v room .room) → w ≡ Written n → n ≤ length roomThen
+  pub witness-fits : (v : WitnessParts) (room : List ℕ) → Writes (writeWitness v room) w roomThen → w ≡ Written n → n ≤ length roomThen
   unfolding writeWitness
-  witness-fits v room (answered, lent) = fits (witnessWritable v) (witnessBytes (rowsIn v)) room answered lent
+  witness-fits v room = fits (witnessWritable v) (witnessBytes (rowsIn v)) room
 
 less-nothing : (n : ℕ) → n - 0 ≡ n
 less-nothing n = omega arith
@@ -92,30 +94,30 @@ all-below (x ∷ xs) (u ∷ us) s (suc i) = all-below xs us (s .1) i
 -- no bytes are refused, with parts that are all 0
 
 pub no-table-read : readTable [] .parts ≡ noTable
-unfolding readTable tableAnswer
+unfolding readTable tableAnswer tableScan framed
 no-table-read = refl
 
 pub no-recording-read : readRecording [] [] .parts ≡ noRecording
-unfolding readRecording recordingAnswer tableAnswer
+unfolding readRecording recordingAnswer tableAnswer tableScan framed
 no-recording-read = refl
 
 pub no-witness-read : readWitness [] .parts ≡ noWitness
-unfolding readWitness witnessAnswer witnessFrame
+unfolding readWitness witnessAnswer witnessFrame framedRows framed
 no-witness-read = refl
 
 -- a function's two ways out, by writing's answer
-module _ (given : Lent) (roomThen : List ℕ) (w : Writing) (answered : w ≡ given .answer) (lent : roomThen ≡ given .room) {A : Type 0} (read : ℕ → A) (refused : Refusal → A) (x : A) (kept : Type 0) where
+module _ (given : Lent) (roomThen : List ℕ) (w : Writing) (g : Writes given w roomThen) {A : Type 0} (read : ℕ → A) (refused : Refusal → A) (x : A) (kept : Type 0) where
   pub read-back : (n : ℕ) → w ≡ Written n → x ≡ read n → kept → ReadsBack given roomThen (backBy read refused (given .answer)) x kept
-  read-back n done e k = record { lent = lent; answered = e ∙ ap (backBy read refused) (sym done ∙ answered); back = λ m p. k }
+  read-back n done e k = record { lent = g .lent; answered = e ∙ ap (backBy read refused) (sym done ∙ g .answered); back = λ m p. k }
 
   pub not-written : (why : Refusal) → w ≡ Unwritten why → x ≡ refused why → ReadsBack given roomThen (backBy read refused (given .answer)) x kept
   not-written why e f =
-      record { lent = lent; answered = f ∙ ap (backBy read refused) (sym e ∙ answered); back = λ m p. absurd (never m (sym e ∙ answered ∙ p)) }
+      record { lent = g .lent; answered = f ∙ ap (backBy read refused) (sym e ∙ g .answered); back = λ m p. absurd (never m (sym e ∙ g .answered ∙ p)) }
     where
       never : (m : ℕ) → Unwritten why ≡ Written m → ⊥
       never m q = let z : _≡_ {A = ℕ} 0 1 = cc in omega arith
 
-pub table-kept : (t : TableParts) → length (t .guards) ≡ 2048 → (room : List ℕ) (n : ℕ) → writeTable t room .answer ≡ Written n
+pub table-kept : (t : TableParts) → length (t .guards) ≡ guardLimit * transitionLimit → (room : List ℕ) (n : ℕ) → writeTable t room .answer ≡ Written n
     → (x : TableReading) → x ≡ readTable (take n (writeTable t room .room)) → TableKept t x
 unfolding writeTable readTable
 table-kept t guards room n done x read =
@@ -126,31 +128,27 @@ table-kept t guards room n done x read =
     in
     record {
       sound = ap (λ (y : TableReading). y .answer) same ∙ sound;
+      numbers = ap readingValues (ap (λ (y : TableReading). y .answer) same ∙ sound);
       same = subst (λ (p : TableParts). SameTable p t) (sym parts) (table-back t guards sound);
       beyond = subst TableZero (sym parts) (zero-beyond (tableBytes t) sound);
     }
 
 pub recording-kept : (table : List ℕ) (r : RecordingParts) → ((i : ℕ) → i < r .count → byteAt (r .times) i < 65536) → (room : List ℕ) (n : ℕ)
     → writeRecording table r room .answer ≡ Written n → (x : RecordingReading) → x ≡ readRecording table (take n (writeRecording table r room .room)) → RecordingKept r x
-unfolding writeRecording readRecording recordingWritable
+unfolding writeRecording readRecording recordingWritable recordingEarly
 recording-kept table r times room n done x read =
     let (writable, stands, _) = written (recordingWritable table r) (recordingBytes r) room n done in
-    let later = andThen-right (tableAnswer table) (firstOf (unless (leb (r .count) rowLimit) RecordingCount ∷ recordingAnswer table (recordingBytes r) ∷ [])) writable in
-    let few : r .count ≤ rowLimit =
-    leb-true (r .count) rowLimit
-    (unless-sound (leb (r .count) rowLimit) RecordingCount
-    (andThen-left (unless (leb (r .count) rowLimit) RecordingCount) (firstOf (recordingAnswer table (recordingBytes r) ∷ [])) later))
-    in
-    let sound : recordingAnswer table (recordingBytes r) ≡ Sound =
-    andThen-left (recordingAnswer table (recordingBytes r)) Sound
-    (andThen-right (unless (leb (r .count) rowLimit) RecordingCount) (firstOf (recordingAnswer table (recordingBytes r) ∷ [])) later)
-    in
+    let early : List Reading = tableAnswer table ∷ unless (leb (r .count) rowLimit) RecordingCount ∷ [] in
+    let all : List Reading = recordingEarly table (r .count) ∷ recordingAnswer table (recordingBytes r) ∷ [] in
+    let few : r .count ≤ rowLimit = le-test _ _ RecordingCount (test early (test all writable 0) 1) in
+    let sound : recordingAnswer table (recordingBytes r) ≡ Sound = test all writable 1 in
     let same : x ≡ readRecording table (recordingBytes r) = read ∙ ap (readRecording table) stands in
     let parts : x .parts ≡ recordingParts (recordingBytes r) =
     ap (λ (y : RecordingReading). y .parts) same ∙ ap (λ (a : Reading). cond (isSound a) (recordingParts (recordingBytes r)) noRecording) sound
     in
     record {
       sound = ap (λ (y : RecordingReading). y .answer) same ∙ sound;
+      numbers = ap readingValues (ap (λ (y : RecordingReading). y .answer) same ∙ sound);
       same = subst (λ (p : RecordingParts). SameRecording p r) (sym parts) (recording-back r few times);
       beyond = subst RecordingZero (sym parts) (recording-zero (recordingBytes r));
     }
@@ -161,58 +159,53 @@ unfolding writeWitness readWitness witnessWritable
 witness-kept v times room n done x read =
     let bytes : List ℕ = witnessBytes (rowsIn v) in
     let (writable, stands, _) = written (witnessWritable v) bytes room n done in
-    let few : v .count ≤ witnessLimit =
-    leb-true (v .count) witnessLimit
-    (unless-sound (leb (v .count) witnessLimit) WitnessCount
-    (andThen-left (unless (leb (v .count) witnessLimit) WitnessCount) (firstOf (witnessAnswer bytes ∷ [])) writable))
-    in
-    let sound : witnessAnswer bytes ≡ Sound =
-    andThen-left (witnessAnswer bytes) Sound
-    (andThen-right (unless (leb (v .count) witnessLimit) WitnessCount) (firstOf (witnessAnswer bytes ∷ [])) writable)
-    in
+    let all : List Reading = unless (leb (v .count) witnessLimit) WitnessCount ∷ witnessAnswer bytes ∷ [] in
+    let few : v .count ≤ witnessLimit = le-test _ _ WitnessCount (test all writable 0) in
+    let sound : witnessAnswer bytes ≡ Sound = test all writable 1 in
     let same : x ≡ readWitness bytes = read ∙ ap readWitness stands in
     let parts : x .parts ≡ witnessParts bytes =
     ap (λ (y : WitnessReading). y .parts) same ∙ ap (λ (a : Reading). cond (isSound a) (witnessParts bytes) noWitness) sound
     in
     record {
       sound = ap (λ (y : WitnessReading). y .answer) same ∙ sound;
+      numbers = ap readingValues (ap (λ (y : WitnessReading). y .answer) same ∙ sound);
       same = subst (λ (p : WitnessParts). SameWitness p v) (sym parts) (witness-parts-back v few times);
       beyond = subst WitnessZero (sym parts) (witness-zero bytes);
     }
 
 -- the functions' ways out
 
-module _ (t : TableParts) (room roomThen : List ℕ) (w : Writing) (answered : w ≡ writeTable t room .answer) (lent : roomThen ≡ writeTable t room .room) (x : TableReading) where
-  pub table-read : length (t .guards) ≡ 2048 → (n : ℕ) → w ≡ Written n → x ≡ readTable (take (n - 0) roomThen) → ReadsBack (writeTable t room) roomThen (tableBack (writeTable t room)) x (TableKept t x)
+module _ (t : TableParts) (room roomThen : List ℕ) (w : Writing) (g : Writes (writeTable t room) w roomThen) (x : TableReading) where
+  pub table-read : length (t .guards) ≡ guardLimit * transitionLimit → (n : ℕ) → w ≡ Written n → x ≡ readTable (take (n - 0) roomThen) → ReadsBack (writeTable t room) roomThen (tableBack (writeTable t room)) x (TableKept t x)
   table-read full n done read =
-      let back : x ≡ readTable (take n (writeTable t room .room)) = read ∙ ap₂ (λ (j : ℕ) (r : List ℕ). readTable (take j r)) (less-nothing n) lent in
-      read-back (writeTable t room) roomThen w answered lent _ _ x (TableKept t x) n done back (table-kept t full room n (sym answered ∙ done) x back)
+      let back : x ≡ readTable (take n (writeTable t room .room)) = read ∙ ap₂ (λ (j : ℕ) (r : List ℕ). readTable (take j r)) (less-nothing n) (g .lent) in
+      read-back (writeTable t room) roomThen w g _ _ x (TableKept t x) n done back (table-kept t full room n (sym (g .answered) ∙ done) x back)
 
   pub table-unwritten : (why : Refusal) → w ≡ Unwritten why → (x .answer ≡ Unsound why) × (x .parts ≡ noTable)
       → ReadsBack (writeTable t room) roomThen (tableBack (writeTable t room)) x (TableKept t x)
   table-unwritten why e (a, p) =
-      not-written (writeTable t room) roomThen w answered lent _ _ x (TableKept t x) why e (λ i. record { answer = a i; parts = p i })
+      not-written (writeTable t room) roomThen w g _ _ x (TableKept t x) why e (λ i. record { answer = a i; parts = p i })
 
-module _ (table : List ℕ) (r : RecordingParts) (room roomThen : List ℕ) (w : Writing) (answered : w ≡ writeRecording table r room .answer) (lent : roomThen ≡ writeRecording table r room .room) (x : RecordingReading) where
+module _ (table : List ℕ) (r : RecordingParts) (room roomThen : List ℕ) (w : Writing) (g : Writes (writeRecording table r room) w roomThen) (x : RecordingReading) where
   pub recording-read : ((i : ℕ) → i < r .count → byteAt (r .times) i < 65536) → (n : ℕ) → w ≡ Written n → x ≡ readRecording table (take (n - 0) roomThen)
       → ReadsBack (writeRecording table r room) roomThen (recordingBack table (writeRecording table r room)) x (RecordingKept r x)
   recording-read times n done read =
-      let back : x ≡ readRecording table (take n (writeRecording table r room .room)) = read ∙ ap₂ (λ (j : ℕ) (b : List ℕ). readRecording table (take j b)) (less-nothing n) lent in
-      read-back (writeRecording table r room) roomThen w answered lent _ _ x (RecordingKept r x) n done back
-      (recording-kept table r times room n (sym answered ∙ done) x back)
+      let back : x ≡ readRecording table (take n (writeRecording table r room .room)) = read ∙ ap₂ (λ (j : ℕ) (b : List ℕ). readRecording table (take j b)) (less-nothing n) (g .lent) in
+      read-back (writeRecording table r room) roomThen w g _ _ x (RecordingKept r x) n done back
+      (recording-kept table r times room n (sym (g .answered) ∙ done) x back)
 
   pub recording-unwritten : (why : Refusal) → w ≡ Unwritten why → (x .answer ≡ Unsound why) × (x .parts ≡ noRecording)
       → ReadsBack (writeRecording table r room) roomThen (recordingBack table (writeRecording table r room)) x (RecordingKept r x)
   recording-unwritten why e (a, p) =
-      not-written (writeRecording table r room) roomThen w answered lent _ _ x (RecordingKept r x) why e (λ i. record { answer = a i; parts = p i })
+      not-written (writeRecording table r room) roomThen w g _ _ x (RecordingKept r x) why e (λ i. record { answer = a i; parts = p i })
 
-module _ (v : WitnessParts) (room roomThen : List ℕ) (w : Writing) (answered : w ≡ writeWitness v room .answer) (lent : roomThen ≡ writeWitness v room .room) (x : WitnessReading) where
+module _ (v : WitnessParts) (room roomThen : List ℕ) (w : Writing) (g : Writes (writeWitness v room) w roomThen) (x : WitnessReading) where
   pub witness-read : ((i : ℕ) → i < v .count → byteAt (v .times) i < 65536) → (n : ℕ) → w ≡ Written n → x ≡ readWitness (take (n - 0) roomThen) → ReadsBack (writeWitness v room) roomThen (witnessBack (writeWitness v room)) x (WitnessKept v x)
   witness-read times n done read =
-      let back : x ≡ readWitness (take n (writeWitness v room .room)) = read ∙ ap₂ (λ (j : ℕ) (b : List ℕ). readWitness (take j b)) (less-nothing n) lent in
-      read-back (writeWitness v room) roomThen w answered lent _ _ x (WitnessKept v x) n done back (witness-kept v times room n (sym answered ∙ done) x back)
+      let back : x ≡ readWitness (take n (writeWitness v room .room)) = read ∙ ap₂ (λ (j : ℕ) (b : List ℕ). readWitness (take j b)) (less-nothing n) (g .lent) in
+      read-back (writeWitness v room) roomThen w g _ _ x (WitnessKept v x) n done back (witness-kept v times room n (sym (g .answered) ∙ done) x back)
 
   pub witness-unwritten : (why : Refusal) → w ≡ Unwritten why → (x .answer ≡ Unsound why) × (x .parts ≡ noWitness)
       → ReadsBack (writeWitness v room) roomThen (witnessBack (writeWitness v room)) x (WitnessKept v x)
   witness-unwritten why e (a, p) =
-      not-written (writeWitness v room) roomThen w answered lent _ _ x (WitnessKept v x) why e (λ i. record { answer = a i; parts = p i })
+      not-written (writeWitness v room) roomThen w g _ _ x (WitnessKept v x) why e (λ i. record { answer = a i; parts = p i })

@@ -4,6 +4,7 @@ use mathlib.Core.Path.{_≡_}
 use mathlib.Core.List.{List}
 use lib.ListN.{take}
 use Rattle.model.specs.Room.{Lent}
+use Rattle.model.specs.Numbers.{values, readingValues}
 use Rattle.model.specs.Table.{readTable, noTable}
 use Rattle.model.specs.Recording.{readRecording, noRecording}
 use Rattle.model.specs.Witness.{readWitness, noWitness}
@@ -36,20 +37,23 @@ recordingBack table given =
 abbrev pub witnessBack : Lent → WitnessReading
 witnessBack given = backBy (λ n. readWitness (take n (given .room))) (λ why. record { answer = Unsound why; parts = noWitness }) (given .answer)
 
--- sound, the same parts, and 0 beyond them
+-- sound, with the numbers 0, 0 and 0, the same parts, and 0 beyond them
 
 pub record TableKept (t : TableParts) (x : TableReading) : Type 0 where
   pub sound : x .answer ≡ Sound
+  pub numbers : readingValues (x .answer) ≡ values 0 0 0
   pub same : SameTable (x .parts) t
   pub beyond : TableZero (x .parts)
 
 pub record RecordingKept (r : RecordingParts) (x : RecordingReading) : Type 0 where
   pub sound : x .answer ≡ Sound
+  pub numbers : readingValues (x .answer) ≡ values 0 0 0
   pub same : SameRecording (x .parts) r
   pub beyond : RecordingZero (x .parts)
 
 pub record WitnessKept (w : WitnessParts) (x : WitnessReading) : Type 0 where
   pub sound : x .answer ≡ Sound
+  pub numbers : readingValues (x .answer) ≡ values 0 0 0
   pub same : SameWitness (x .parts) w
   pub beyond : WitnessZero (x .parts)
 

@@ -2,6 +2,7 @@
 use Prim.Native.Nat.{ℕ}
 use mathlib.Core.Path.{_≡_}
 use mathlib.Core.List.{List}
+use Rattle.model.specs.Answers.{Writes}
 use Rattle.model.specs.Room.{Lent, write}
 use Rattle.model.specs.Table.{tableAnswer, tableParts, writeTable}
 use Rattle.model.specs.Recording.{recordingAnswer, recordingParts, writeRecording}
@@ -27,6 +28,5 @@ rewriteWitness b room = again (witnessAnswer b) (writeWitness (witnessParts b) r
 
 -- an answer and a room are the definition's; and of sound bytes, the same bytes, where they fit
 pub record Rewrites (answer : Reading) (b room roomThen : List ℕ) (given : Lent) (r : Writing) : Type 0 where
-  pub answered : r ≡ given .answer
-  pub lent : roomThen ≡ given .room
+  pub writes : Writes given r roomThen
   pub same : answer ≡ Sound → given ≡ write Sound b room

@@ -1,5 +1,5 @@
 -- What the definitions of a witness give, by the tests that the code makes.
-use Prim.Native.Nat.{ℕ, zero, suc, _+_, _-_, _*_, _<_, _≤_}
+use Prim.Native.Nat.{ℕ, zero, suc, _+_, _-_, _<_, _≤_}
 use native.Mathlib.Omega.{arith}
 use mathlib.Core.Path.{_≡_, refl, sym, ap, subst, _∙_}
 use mathlib.Core.List.{List, [], _∷_, _++_, append-nil}
@@ -12,7 +12,7 @@ use Rattle.model.specs.Limits.{timeLimit, witnessLimit}
 use Rattle.model.specs.Answers.{Writes}
 use Rattle.model.specs.Bytes.{wordAt, tab, padded}
 use Rattle.model.specs.First.{isSound}
-use Rattle.model.specs.Witness.{Row, inForm, follows, inPlace, misformed, badRow, rowAt, rowsAt, rowsIn, witnessFrame, witnessAnswer, witnessParts, noWitness, readWitness, witnessBytes, witnessWritable, writeWitness}
+use Rattle.model.specs.Witness.{Row, noTransition, inForm, follows, inPlace, misformed, badRow, rowAt, rowsAt, rowsIn, witnessFrame, witnessAnswer, witnessParts, noWitness, readWitness, witnessBytes, witnessWritable, writeWitness}
 use Rattle.model.specs.Room.{Lent, write}
 use Rattle.model.specs.declared.WitnessParts.{WitnessParts}
 use Rattle.model.specs.declared.Reading.{Reading}
@@ -48,7 +48,7 @@ module _ (r : Row) where
         unfolding inForm
         form-fires h = rw (le-leb (r .mark) 2 mark, le-leb 1 (r .time) early, le-leb (r .time) timeLimit late, ne-eqb (r .mark) 1 h)
 
-        pub form-removed : r .mark ≡ 1 → eqb (r .transition) 255 ≡ inForm r
+        pub form-removed : r .mark ≡ 1 → eqb (r .transition) noTransition ≡ inForm r
         unfolding inForm
         form-removed h = rw (le-leb (r .mark) 2 mark, le-leb 1 (r .time) early, le-leb (r .time) timeLimit late, eq-eqb (r .mark) 1 h)
 

@@ -14,7 +14,7 @@ enum-known-answer c = search needs
 
 -- src/lib.rt:34:9
 returns : tie.Need-returns
-returns c = recording-refused _ _ _ (λ i. omega (arith, c .before .before .before .before .before .shared-slice-known2 .given i)) _ (c .before .before .before .read-recording .ensures) _ (c .before .answer .given .1)
+returns c = recording-refused _ _ _ (λ i. omega (arith, c .before .before .before .before .before .shared-slice-known2 .given i)) _ (c .before .before .before .read-recording .ensures .0) _ (c .before .answer .given .1)
 
 enum-told : tie.Need-enum-told
 enum-told c = search needs
@@ -30,8 +30,8 @@ same-length c = search needs
 -- src/lib.rt:28:1
 returns-2 : tie.Need-returns-2
 returns-2 c =
-    recording-rewritten _ _ _ (λ i. omega (arith, c .before .before .before .before .before .before .before .before .before .shared-slice-known2 .given i)) _ (c .before .before .before .before .before .before .before .read-recording .ensures) (c .before .before .before .before .before .enum-told .given .1) _ _
-    (c .before .before .write-recording .ensures .0) (c .before .before .write-recording .ensures .1)
+    recording-rewritten _ _ _ (λ i. omega (arith, c .before .before .before .before .before .before .before .before .before .shared-slice-known2 .given i)) _ (c .before .before .before .before .before .before .before .read-recording .ensures .0) (c .before .before .before .before .before .enum-told .given .1) _ _
+    (c .before .before .write-recording .ensures)
 
 pub rewrite-recording-spec : {M : Type 1} → statement M
 rewrite-recording-spec =

@@ -14,7 +14,7 @@ enum-known-answer c = search needs
 
 -- src/lib.rt:22:9
 returns : tie.Need-returns
-returns c = table-refused _ _ (λ i. omega (arith, c .before .before .before .before .before .shared-slice-known .given i)) _ (c .before .before .before .read-table .ensures) _ (c .before .answer .given .1)
+returns c = table-refused _ _ (λ i. omega (arith, c .before .before .before .before .before .shared-slice-known .given i)) _ (c .before .before .before .read-table .ensures .0) _ (c .before .answer .given .1)
 
 enum-told : tie.Need-enum-told
 enum-told c = search needs
@@ -30,8 +30,8 @@ same-length c = search needs
 -- src/lib.rt:16:1
 returns-2 : tie.Need-returns-2
 returns-2 c =
-    table-rewritten _ _ (λ i. omega (arith, c .before .before .before .before .before .before .before .before .before .shared-slice-known .given i)) _ (c .before .before .before .before .before .before .before .read-table .ensures) (c .before .before .before .before .before .enum-told .given .1) _ _
-    (c .before .before .write-table .ensures .0) (c .before .before .write-table .ensures .1)
+    table-rewritten _ _ (λ i. omega (arith, c .before .before .before .before .before .before .before .before .before .shared-slice-known .given i)) _ (c .before .before .before .before .before .before .before .read-table .ensures .0) (c .before .before .before .before .before .enum-told .given .1) _ _
+    (c .before .before .write-table .ensures)
 
 pub rewrite-table-spec : {M : Type 1} → statement M
 rewrite-table-spec =

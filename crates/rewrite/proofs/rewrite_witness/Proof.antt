@@ -14,7 +14,7 @@ enum-known-answer c = search needs
 
 -- src/lib.rt:46:9
 returns : tie.Need-returns
-returns c = witness-refused _ _ (λ i. omega (arith, c .before .before .before .before .before .shared-slice-known .given i)) _ (c .before .before .before .read-witness .ensures) _ (c .before .answer .given .1)
+returns c = witness-refused _ _ (λ i. omega (arith, c .before .before .before .before .before .shared-slice-known .given i)) _ (c .before .before .before .read-witness .ensures .0) _ (c .before .answer .given .1)
 
 enum-told : tie.Need-enum-told
 enum-told c = search needs
@@ -30,8 +30,8 @@ same-length c = search needs
 -- src/lib.rt:40:1
 returns-2 : tie.Need-returns-2
 returns-2 c =
-    witness-rewritten _ _ (λ i. omega (arith, c .before .before .before .before .before .before .before .before .before .shared-slice-known .given i)) _ (c .before .before .before .before .before .before .before .read-witness .ensures) (c .before .before .before .before .before .enum-told .given .1) _ _
-    (c .before .before .write-witness .ensures .0) (c .before .before .write-witness .ensures .1)
+    witness-rewritten _ _ (λ i. omega (arith, c .before .before .before .before .before .before .before .before .before .shared-slice-known .given i)) _ (c .before .before .before .before .before .before .before .read-witness .ensures .0) (c .before .before .before .before .before .enum-told .given .1) _ _
+    (c .before .before .write-witness .ensures)
 
 pub rewrite-witness-spec : {M : Type 1} → statement M
 rewrite-witness-spec =

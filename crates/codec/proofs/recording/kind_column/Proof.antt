@@ -1,5 +1,6 @@
 use native.Mathlib.Omega.{arith}
 use mathlib.Core.Path.{refl, ap, _∙_}
+use Rattle.model.specs.Limits.{rowLimit}
 use Rattle.model.specs.Bytes.{padded, tab}
 use Rattle.model.specs.Recording.{recordingParts, rowKindAt}
 use Rattle.frame.proofs.Columns.{filled-zeros}
@@ -19,7 +20,7 @@ bytes-column-requires c κs = search needs
 returns : tie.Need-returns
 unfolding recordingParts
 returns c = let b = c .before .before .before .before .before .args .b .now in
-    c .before .bytes-column .ensures ∙ filled-zeros (rowKindAt b) (c .before .before .before .word .result) 512 _ (omega arith) refl ∙ ap (λ m. padded 512 (tab (rowKindAt b) m)) (c .before .before .before .word .ensures .0)
+    c .before .bytes-column .ensures ∙ filled-zeros (rowKindAt b) (c .before .before .before .word .result) rowLimit _ (omega arith) refl ∙ ap (λ m. padded rowLimit (tab (rowKindAt b) m)) (c .before .before .before .word .ensures .0)
 
 pub kind-column-spec : {M : Type 1} → statement M
 kind-column-spec =

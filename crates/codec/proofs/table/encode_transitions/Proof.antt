@@ -3,6 +3,7 @@ use native.Mathlib.Omega.{arith}
 use mathlib.Core.Path.{_≡_, refl, sym, ap, _∙_}
 use mathlib.Core.List.{List, _++_}
 use lib.ListN.{length}
+use Rattle.model.specs.Limits.{transitionLimit}
 use Rattle.model.specs.Bytes.{joined}
 use Rattle.model.specs.Room.{over}
 use Rattle.model.specs.Table.{transitionBytes}
@@ -12,7 +13,7 @@ use Rattle.codec.proofs.table.encode_transitions.Statement.{statement}
 use Rattle.codec.proofs.table.encode_transitions.Tie as tie
 
 abbrev Inv-loop : tie.InvT-loop
-Inv-loop t out₀ n at₀ i₀ out at i = (i ≤ n) × (n ≤ 64) × (at ≤ 72 + 39 * i) × (length out ≡ length out₀)
+Inv-loop t out₀ n at₀ i₀ out at i = (i ≤ n) × (n ≤ transitionLimit) × (at ≤ 72 + 39 * i) × (length out ≡ length out₀)
     × ((head room : List ℕ) → length head ≡ at₀ → 2568 ≤ length room → out₀ ≡ over head room
     → (out ≡ over (head ++ joined (transitionBytes t) i) room) × (at ≡ length (head ++ joined (transitionBytes t) i)))
 

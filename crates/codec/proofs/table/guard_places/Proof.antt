@@ -1,4 +1,5 @@
 use Prim.Native.Nat.{_<_, _≤_, _-_, _+_, _*_}
+use Rattle.model.specs.Limits.{guardLimit, transitionLimit}
 use Rattle.codec.proofs.Tables.{next-at, guard-inside, guard-turn}
 use native.Mathlib.Omega.{arith}
 use mathlib.Core.Path.{_≡_, sym, refl, ap, _∙_}
@@ -10,7 +11,7 @@ use Rattle.codec.proofs.table.guard_places.Statement.{statement}
 use Rattle.codec.proofs.table.guard_places.Tie as tie
 
 abbrev Inv-loop : tie.InvT-loop
-Inv-loop b n guards₀ at₀ i₀ guards at i = (i ≤ n) × (n ≡ transitionsAt b) × (at ≤ 518 + 262 * i) × (at ≡ transitionAt b i) × (length guards ≡ 2048) × (guards ≡ padded 2048 (joined (guardPlace b) i))
+Inv-loop b n guards₀ at₀ i₀ guards at i = (i ≤ n) × (n ≡ transitionsAt b) × (at ≤ 518 + 262 * i) × (at ≡ transitionAt b i) × (length guards ≡ 2048) × (guards ≡ padded (guardLimit * transitionLimit) (joined (guardPlace b) i))
 
 abbrev μ-loop : tie.MeasureT-loop
 μ-loop b n guards₀ at₀ i₀ guards at i = n - i
@@ -91,7 +92,7 @@ loop-again c = let b = c .before .before .before .before .before .before .before
 
 returns : tie.Need-returns Inv-loop μ-loop
 returns c = let all : c .before .loop .i ≡ transitionsAt (c .before .before .before .before .before .args .b .now) = omega arith in
-    c .before .loop .inv .5 ∙ ap (λ n. padded 2048 (joined (guardPlace (c .before .before .before .before .before .args .b .now)) n)) all
+    c .before .loop .inv .5 ∙ ap (λ n. padded (guardLimit * transitionLimit) (joined (guardPlace (c .before .before .before .before .before .args .b .now)) n)) all
 
 pub guard-places-spec : {M : Type 1} → statement M
 guard-places-spec =

@@ -1,6 +1,7 @@
 use Prim.Native.Nat.{ℕ, _+_, _*_}
 use native.Mathlib.Omega.{arith}
 use mathlib.Core.Path.{_≡_, refl, ap, _∙_}
+use Rattle.model.specs.Limits.{kindLimit}
 use Rattle.model.specs.Bytes.{byteAt, padded, tab}
 use Rattle.frame.proofs.Columns.{filled-zeros}
 use Rattle.model.proofs.Places.{tab-same}
@@ -29,7 +30,7 @@ returns c = let a = c .before .before .before .before .before .args in
     let f : ℕ → ℕ = λ i. byteAt b (8 + a .field + 2 * i) in
     let g : ℕ → ℕ = λ i. byteAt b (8 + 2 * i + a .field) in
     let same : (i : ℕ) → 8 + a .field + 2 * i ≡ 8 + 2 * i + a .field = λ i. omega arith in
-    c .before .bytes-column .ensures ∙ filled-zeros f (c .before .before .before .byte .result) 32 _ (omega arith) refl ∙ ap (padded 32) (tab-same f g (c .before .before .before .byte .result) (λ i h. ap (byteAt b) (same i)) ∙ ap (tab g) (c .before .before .before .byte .ensures .0))
+    c .before .bytes-column .ensures ∙ filled-zeros f (c .before .before .before .byte .result) kindLimit _ (omega arith) refl ∙ ap (padded kindLimit) (tab-same f g (c .before .before .before .byte .result) (λ i h. ap (byteAt b) (same i)) ∙ ap (tab g) (c .before .before .before .byte .ensures .0))
 
 pub kind-column-spec : {M : Type 1} → statement M
 kind-column-spec =

@@ -1,3 +1,4 @@
+use Rattle.model.specs.Limits.{transitionLimit}
 use Rattle.frame.proofs.Columns.{column-padded, column-more}
 use Rattle.codec.proofs.Tables.{next-at}
 use Rattle.model.specs.Bytes.{padded, byteAt, tab}
@@ -12,7 +13,7 @@ use Rattle.codec.proofs.table.transition_column.Statement.{statement}
 use Rattle.codec.proofs.table.transition_column.Tie as tie
 
 abbrev Inv-loop : tie.InvT-loop
-Inv-loop b field n column₀ at₀ i₀ column at i = (i ≤ n) × (n ≤ 64) × (at ≤ 518 + 262 * i) × (at ≡ transitionAt b i) × (column ≡ tab (λ j. byteAt b (transitionAt b j + field)) i ++ drop i column₀)
+Inv-loop b field n column₀ at₀ i₀ column at i = (i ≤ n) × (n ≤ transitionLimit) × (at ≤ 518 + 262 * i) × (at ≡ transitionAt b i) × (column ≡ tab (λ j. byteAt b (transitionAt b j + field)) i ++ drop i column₀)
 
 abbrev μ-loop : tie.MeasureT-loop
 μ-loop b field n column₀ at₀ i₀ column at i = n - i
@@ -85,7 +86,7 @@ returns : tie.Need-returns Inv-loop μ-loop
 returns c = let a = c .before .before .before .before .before .args in
     let f : ℕ → ℕ = λ j. byteAt (a .b .now) (transitionAt (a .b .now) j + a .field) in
     let all : c .before .loop .i ≡ c .before .before .before .byte .result = omega arith in
-    c .before .loop .inv .4 ∙ column-padded f (c .before .loop .i) 64 ∙ ap (λ n. padded 64 (tab f n)) (all ∙ c .before .before .before .byte .ensures .0)
+    c .before .loop .inv .4 ∙ column-padded f (c .before .loop .i) transitionLimit ∙ ap (λ n. padded transitionLimit (tab f n)) (all ∙ c .before .before .before .byte .ensures .0)
 
 pub transition-column-spec : {M : Type 1} → statement M
 transition-column-spec =

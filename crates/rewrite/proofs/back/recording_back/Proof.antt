@@ -45,7 +45,7 @@ returns : tie.Need-returns
 returns c =
     let w = c .before .before .before .before .before .before .before .before .write-recording .ensures in
     let s = c .before .before .before .before .before .before .before .before .before .before .before .before in
-    recording-read _ _ _ _ _ (w .0) (w .1) _ (λ i h. all-below (s .args .r .times) (s .good .1 .0 .1 .1 .1 .0 .0) (s .good .1 .0 .1 .1 .1 .0 .1 .1) i) _ (c .before .before .before .before .written .given .1) (c .read-recording .ensures)
+    recording-read _ _ _ _ _ w _ (λ i h. all-below (s .args .r .times) (s .good .1 .0 .1 .1 .1 .0 .0) (s .good .1 .0 .1 .1 .1 .0 .1 .1) i) _ (c .before .before .before .before .written .given .1) (c .read-recording .ensures .0)
 
 -- src/back.rt:58:1
 same-length-2 : tie.Need-same-length-2
@@ -55,7 +55,7 @@ same-length-2 c = search needs
 returns-2 : tie.Need-returns-2
 returns-2 c =
     let w = c .before .before .before .before .before .before .write-recording .ensures in
-    recording-unwritten _ _ _ _ _ (w .0) (w .1) _ _ (c .before .before .written2 .given .1) (c .refused-recording .ensures)
+    recording-unwritten _ _ _ _ _ w _ _ (c .before .before .written2 .given .1) (c .refused-recording .ensures)
 
 pub recording-back-spec : {M : Type 1} → statement M
 recording-back-spec =

@@ -18,7 +18,7 @@ read-recording-requires c κs = search needs
 
 -- src/back.rt:48:1
 returns : tie.Need-returns
-returns c = (refl, ap (λ (x : _). x .parts) (c .before .read-recording .ensures) ∙ no-recording-read)
+returns c = (refl, ap (λ (x : _). x .parts) (c .before .read-recording .ensures .0) ∙ no-recording-read)
 
 pub refused-recording-spec : {M : Type 1} → statement M
 refused-recording-spec =

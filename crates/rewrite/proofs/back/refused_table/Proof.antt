@@ -14,7 +14,7 @@ read-table-requires c κs = search needs
 
 -- src/back.rt:25:1
 returns : tie.Need-returns
-returns c = (refl, ap (λ (x : _). x .parts) (c .before .read-table .ensures) ∙ no-table-read)
+returns c = (refl, ap (λ (x : _). x .parts) (c .before .read-table .ensures .0) ∙ no-table-read)
 
 pub refused-table-spec : {M : Type 1} → statement M
 refused-table-spec = tie.close (tie.spec slice-aggregate-read-table read-table-requires returns)

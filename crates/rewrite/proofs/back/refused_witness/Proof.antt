@@ -14,7 +14,7 @@ read-witness-requires c κs = search needs
 
 -- src/back.rt:71:1
 returns : tie.Need-returns
-returns c = (refl, ap (λ (x : _). x .parts) (c .before .read-witness .ensures) ∙ no-witness-read)
+returns c = (refl, ap (λ (x : _). x .parts) (c .before .read-witness .ensures .0) ∙ no-witness-read)
 
 pub refused-witness-spec : {M : Type 1} → statement M
 refused-witness-spec =

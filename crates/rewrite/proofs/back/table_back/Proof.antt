@@ -47,7 +47,7 @@ returns : tie.Need-returns
 returns c =
     let w = c .before .before .before .before .before .before .before .before .write-table .ensures in
     let s = c .before .before .before .before .before .before .before .before .before .before .before in
-    table-read _ _ _ _ (w .0) (w .1) _ (sym (length-map (s .args .t .guards) (λ x. x)) ∙ s .good .0 .1 .1 .1 .1 .1 .1 .1 .1 .1 .1 .1 .1 .1 .1 .1 .1 .0 .1 .0 .1) _ (c .before .before .before .before .written .given .1) (c .read-table .ensures)
+    table-read _ _ _ _ w _ (sym (length-map (s .args .t .guards) (λ x. x)) ∙ s .good .0 .1 .1 .1 .1 .1 .1 .1 .1 .1 .1 .1 .1 .1 .1 .1 .1 .0 .1 .0 .1) _ (c .before .before .before .before .written .given .1) (c .read-table .ensures .0)
 
 -- src/back.rt:35:1
 same-length-2 : tie.Need-same-length-2
@@ -57,7 +57,7 @@ same-length-2 c = search needs
 returns-2 : tie.Need-returns-2
 returns-2 c =
     let w = c .before .before .before .before .before .before .write-table .ensures in
-    table-unwritten _ _ _ _ (w .0) (w .1) _ _ (c .before .before .written2 .given .1) (c .refused-table .ensures)
+    table-unwritten _ _ _ _ w _ _ (c .before .before .written2 .given .1) (c .refused-table .ensures)
 
 pub table-back-spec : {M : Type 1} → statement M
 table-back-spec =
