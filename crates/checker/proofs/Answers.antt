@@ -7,24 +7,23 @@ use mathlib.Core.Logic.{_↔_}
 use mathlib.Core.Option.{Option, none, some}
 use Rattle.model.specs.First.{andThen}
 use Rattle.model.specs.Monitor.{Monitor}
-use Rattle.model.specs.Table.{tableAnswer, SoundTable, monitorAt}
+use Rattle.model.specs.Table.{monitorAt}
 use Rattle.model.specs.Recording.{recordingAnswer, packetsAt}
 use Rattle.model.specs.Witness.{Row, Formed, misformed, rowsAt, badRow, witnessFrame, witnessAnswer}
+use Rattle.model.specs.Numbers.{checkingValues}
 use Rattle.model.specs.Rules.{begin, broken, checked, checkRefusal, checkAnswer}
 use Rattle.model.specs.declared.Refusal.{Refusal}
 use Rattle.model.specs.declared.Reading.{Reading}
 use Rattle.model.specs.declared.Reading.the-variants.{Sound, Unsound}
+use Rattle.model.specs.declared.Checking.{Checking}
 use Rattle.model.specs.declared.Checking.the-variants.{Unchecked}
 use Rattle.model.proofs.Basics.{andThen-left, andThen-right}
 use Rattle.model.proofs.Explained.{explained}
+use Rattle.model.proofs.RecordingForm.{sound-table}
 use Rattle.monitor.specs.From.{monitorFrom, offsetsOf}
 use Rattle.monitor.proofs.Described.{monitor-from}
 use Rattle.checker.specs.Standing.{checkedRows}
-use Rattle.checker.specs.Claim.{IsPermitted, Faithful}
-
-table-sound : (t r : List ℕ) → recordingAnswer t r ≡ Sound → SoundTable t
-unfolding recordingAnswer
-table-sound t r e = andThen-left (tableAnswer t) _ e
+use Rattle.checker.specs.Claim.{IsPermitted, Faithful, Checks}
 
 module _ (t r w : List ℕ) where
   last : Reading
@@ -47,7 +46,7 @@ module _ (t r w : List ℕ) where
     pub answer-rows : witnessFrame w ≡ Sound → checkedRows (monitorFrom t (offsetsOf t)) (packetsAt r) (rowsAt w) ≡ checkAnswer t r w
     unfolding checkedRows last
     answer-rows f =
-        ap (λ (m : Monitor). checked (badRow (broken m (begin (packetsAt r)) 0 (rowsAt w))) (rowsAt w)) (monitor-from t (table-sound t r e))
+        ap (λ (m : Monitor). checked (badRow (broken m (begin (packetsAt r)) 0 (rowsAt w))) (rowsAt w)) (monitor-from t (sound-table t r e))
         ∙ whole (broken (monitorAt t) (begin (packetsAt r)) 0 (rowsAt w))
         ∙ sym (framed ∙ ap (λ (a : Reading). checked (andThen a (andThen last Sound)) (rowsAt w)) f)
       where
@@ -63,7 +62,7 @@ formed : (o : Option ℕ) → andThen (badRow o) Sound ≡ Sound → o ≡ none
 formed none e = refl
 formed (some i) e = let z : _≡_ {A = ℕ} 0 1 = cc in absurd (omega arith)
 
-pub faithful : (t r w : List ℕ) → Faithful t r w (checkAnswer t r w)
+faithful : (t r w : List ℕ) → Faithful t r w (checkAnswer t r w)
 unfolding witnessAnswer last
 faithful t r w s f =
     let frame : witnessFrame w ≡ Sound = andThen-left (witnessFrame w) _ f in
@@ -73,3 +72,6 @@ faithful t r w s f =
     let same = permitted-none (broken (monitorAt t) (begin (packetsAt r)) 0 (rowsAt w)) (rowsAt w) in
     let onto = explained (monitorAt t) (packetsAt r) (rowsAt w) form in
     (λ p. onto .0 (same .0 (subst IsPermitted whole p)), λ x. subst IsPermitted (sym whole) (same .1 (onto .1 x)))
+
+pub checks : (t r w : List ℕ) (x : Checking) → x ≡ checkAnswer t r w → Checks t r w x
+checks t r w x e = record { answered = e; numbers = ap checkingValues e; faithful = subst (Faithful t r w) (sym e) (faithful t r w) }

@@ -10,8 +10,8 @@ use lib.Dec.{leb, ltb, eqb}
 use borrow.Author.Tests.{ltb-true, leb-true, eqb-true, eq-eqb, ne-eqb}
 use Rattle.model.specs.Monitor.{wait}
 use Rattle.model.specs.declared.Config.{Config}
-use Rattle.model.specs.Recording.{timeLimit}
-use Rattle.model.specs.Witness.{noTransition, added, isRemoved, inForm, follows, inPlace}
+use Rattle.model.specs.Limits.{timeLimit}
+use Rattle.model.specs.Witness.{added, noTransition, added, isRemoved, inForm, follows, inPlace}
 use Rattle.model.proofs.Basics.{and-left, and-right}
 use Rattle.witness.specs.declared.Entry.{Entry}
 use Rattle.witness.specs.Rows.{rowOf}
@@ -51,7 +51,7 @@ place-times p e h = go (eqb (p .time) 0) refl h
 
     form : inForm (rowOf e) ≡ true → (e .time ≤ timeLimit) × (1 ≤ e .time)
     form q =
-        let r = late (leb (e .mark) 2) (leb 1 (e .time)) (leb (e .time) timeLimit) (not (isRemoved (rowOf e)) || eqb (e .transition) noTransition) q in
+        let r = late (leb (e .mark) added) (leb 1 (e .time)) (leb (e .time) timeLimit) (not (isRemoved (rowOf e)) || eqb (e .transition) noTransition) q in
         (leb-true (e .time) timeLimit (r .1), leb-true 1 (e .time) (r .0))
 
     behind : follows (rowOf p) (rowOf e) ≡ true → p .time ≤ e .time

@@ -1,10 +1,13 @@
--- Demand 2's words on the checker: a sound witness is permitted exactly when it explains the recording.
+-- What the checker promises. In demand 2's words: a witness of sound form is permitted exactly when it explains the recording.
+use mathlib.Core.Path.{_≡_}
 use mathlib.Core.List.{List}
 use mathlib.Core.Logic.{_↔_}
 use Prim.Native.Nat.{ℕ}
 use Rattle.model.specs.Table.{monitorAt}
 use Rattle.model.specs.Recording.{packetsAt, SoundRecording}
 use Rattle.model.specs.Witness.{rowsAt, SoundForm}
+use Rattle.model.specs.Rules.{checkAnswer}
+use Rattle.model.specs.Numbers.{checkingValues}
 use Rattle.model.specs.Claims.{Explains}
 use Rattle.model.specs.declared.Checking.{Checking}
 use Rattle.model.specs.declared.Checking.the-variants.{Permitted, Unchecked}
@@ -16,3 +19,9 @@ IsPermitted (Unchecked r) = ⊥
 abbrev pub Faithful : (table recording witness : List ℕ) → Checking → Type 0
 Faithful table recording witness r =
     SoundRecording table recording → SoundForm witness → IsPermitted r ↔ Explains (monitorAt table) (packetsAt recording) (rowsAt witness)
+
+-- for any bytes: the definition's answer, document 01's numbers of it, and demand 2
+pub record Checks (table recording witness : List ℕ) (r : Checking) : Type 0 where
+  pub answered : r ≡ checkAnswer table recording witness
+  pub numbers : checkingValues r ≡ checkingValues (checkAnswer table recording witness)
+  pub faithful : Faithful table recording witness r

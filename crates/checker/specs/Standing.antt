@@ -1,13 +1,13 @@
 -- What the code's small state stands for among the model's rows and progress.
-use Prim.Native.Nat.{_≤_}
+use Prim.Native.Nat.{_+_, _≤_}
 use mathlib.Core.Path.{_≡_}
 use mathlib.Core.List.{List}
 use mathlib.Core.Bool.{true, cond}
 use mathlib.Core.Option.{Option, none, some}
 use lib.ListN.{length, getD, drop}
 use lib.Dec.{eqb}
+use Rattle.model.specs.Limits.{timeLimit}
 use Rattle.model.specs.Trace.{Packet}
-use Rattle.model.specs.Recording.{timeLimit}
 use Rattle.model.specs.Monitor.{Monitor}
 use Rattle.model.specs.Witness.{Row, badRow}
 use Rattle.model.specs.Rules.{Progress, begin, broken, checked}
@@ -35,11 +35,11 @@ progressOf recording s =
 abbrev pub stepOf : List Packet → Step → Option Progress
 stepOf recording s = cond (s .sound) (some (progressOf recording (s .to))) none
 
--- the clocks read at most the ticks until the monitor last fired, and no time is past the last
+-- the clocks read at most the ticks until the monitor last fired, no time is past the last, and an airtime is a byte
 pub record Bounded (s : Standing) : Type 0 where
   pub fired : s .now ≤ s .before .time
   pub last : s .before .time ≤ timeLimit
-  pub free : s .free ≤ 4352
+  pub free : s .free ≤ timeLimit + 256
   pub clocks : length (s .config .clocks) ≡ 2
   pub first : getD (s .config .clocks) 0 0 ≤ s .now
   pub second : getD (s .config .clocks) 1 0 ≤ s .now

@@ -2,6 +2,8 @@
 use codec::recording::recording_answer;
 use model::Checking;
 use model::Config;
+use model::KEPT;
+use model::REMOVED;
 use model::Reading;
 use model::Refusal;
 use monitor::airtime_of;
@@ -29,7 +31,7 @@ ghost use Rattle.model.specs.Witness.{kept, inPlace, rowsAt, witnessFrame};
 ghost use Rattle.model.specs.Rules.{begin, noneBefore, isNext, noneAt, sends, removes, keeps, adds, account, checkAnswer};
 ghost use Rattle.monitor.specs.From.{monitorFrom};
 ghost use Rattle.witness.specs.Rows.{rowOf};
-ghost use Rattle.checker.specs.Claim.{Faithful};
+ghost use Rattle.checker.specs.Claim.{Checks};
 ghost use Rattle.checker.specs.Standing.{beforeOf, progressOf, Bounded, Ready, Stepped, checkedRows};
 
 // What the rows so far have come to. While there is no row before, its time is 0.
@@ -225,10 +227,10 @@ fn accounted<'a>(
     if !none_before(recording, next, e.time) {
         return refused(s);
     }
-    if e.mark == 0 {
+    if e.mark == KEPT {
         return keep_row(table, offsets, recording, s, e);
     }
-    if e.mark == 1 {
+    if e.mark == REMOVED {
         return remove_row(table, offsets, recording, s, e);
     }
     add_row(table, offsets, recording, s, e)
@@ -239,7 +241,7 @@ fn begun() -> Standing
 {
     Standing {
         before: Entry {
-            mark: 0,
+            mark: KEPT,
             time: 0,
             kind: 0,
             transition: 0,
@@ -258,7 +260,7 @@ fn begun() -> Standing
 fn change_by(e: Entry) -> u64
     ensures { λ r. ⌜ (r ≡ cond (eqb (e .mark) kept) 0 1) × (r ≤ 1) ⌝ }
 {
-    if e.mark == 0 { 0 } else { 1 }
+    if e.mark == KEPT { 0 } else { 1 }
 }
 
 // The rows in turn, for the table's records at the offsets.
@@ -311,8 +313,7 @@ fn answered(
 
 // The answer on a witness: 0, or the first number that applies.
 pub fn check_witness(table: &[u8], recording: &[u8], witness: &[u8]) -> Checking
-    ensures { λ r. ⌜ r ≡ checkAnswer (now (table .entry)) (now (recording .entry)) (now (witness .entry)) ⌝ }
-    ensures { λ r. ⌜ Faithful (now (table .entry)) (now (recording .entry)) (now (witness .entry)) r ⌝ }
+    ensures { λ r. ⌜ Checks (now (table .entry)) (now (recording .entry)) (now (witness .entry)) r ⌝ }
 {
     let read = recording_answer(table, recording);
     let frame = witness_frame(witness);

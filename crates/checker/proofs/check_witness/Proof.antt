@@ -1,7 +1,5 @@
-use mathlib.Core.Path.{sym, subst}
 use borrow.Author.Needs.{needs}
-use Rattle.checker.specs.Claim.{Faithful}
-use Rattle.checker.proofs.Answers.{faithful}
+use Rattle.checker.proofs.Answers.{checks}
 use Rattle.checker.proofs.check_witness.Statement.{statement}
 use Rattle.checker.proofs.check_witness.Tie as tie
 
@@ -15,11 +13,7 @@ answered-requires : tie.Need-answered-requires
 answered-requires c κs = (c .before .recording-answer .ensures, c .witness-frame .ensures)
 
 returns : tie.Need-returns
-returns c =
-    let a = c .before .before .before .before .before .before .args in (
-      c .answered .ensures,
-      subst (Faithful (a .table .now) (a .recording .now) (a .witness .now)) (sym (c .answered .ensures)) (faithful (a .table .now) (a .recording .now) (a .witness .now)),
-    )
+returns c = checks _ _ _ _ (c .answered .ensures)
 
 pub check-witness-spec : {M : Type 1} → statement M
 check-witness-spec = tie.close (tie.spec recording-answer-requires witness-frame-requires answered-requires returns)
