@@ -7,13 +7,14 @@ use mathlib.Core.Option.{none, some}
 use lib.ListN.{length, take, drop, getElem?, List·getD-append, length-append}
 use lib.Dec.{leb}
 use borrow.Author.Tests.{lt-ltb, le-ltb, le-leb, lt-leb}
+use Rattle.model.specs.Limits.{witnessLimit}
 use Rattle.model.specs.Bytes.{tab}
 use Rattle.model.specs.Numbers.{refusalValues}
 use Rattle.model.specs.First.{unless}
 use Rattle.model.specs.Room.{over}
 use Rattle.model.specs.Table.{monitorAt}
 use Rattle.model.specs.Recording.{packetsAt, recordingAnswer, SoundRecording}
-use Rattle.model.specs.Witness.{Row, rowAt, rowsAt, witnessCountAt, witnessBytes, witnessLimit}
+use Rattle.model.specs.Witness.{Row, rowAt, rowsAt, witnessCountAt, witnessBytes}
 use Rattle.model.specs.Order.{Preferred}
 use Rattle.model.specs.Claims.{Judged}
 use Rattle.model.specs.Validation.{preferred, verdict, refusal, validation, roomBy, scratchAfter, roomAfter, scratchWanted, roomWanted}
@@ -29,7 +30,7 @@ use Rattle.model.proofs.Places.{tab-same}
 use Rattle.model.proofs.WitnessForm.{witness-back, witness-length}
 use Rattle.model.proofs.RecordingForm.{sane-recording}
 use Rattle.model.proofs.Judgement.{sound-judged}
-use Rattle.lines.specs.Written.{Wrote, rowsStanding, FewRows, Judging, Lines}
+use Rattle.lines.specs.Written.{Wrote, rowsStanding, FewRows, FilesJudged, Lines}
 use Rattle.lines.proofs.Stores.{wrote-front}
 use Rattle.lines.proofs.Digits.{line-length}
 use Rattle.lines.proofs.Rows.{rows-length}
@@ -170,7 +171,7 @@ module _ (files table recording : List ℕ) (budget : ℕ) (scratch room : List 
       v ≡ validation table recording budget (length scratch) (length room) →
       scratchLeft ≡ scratchAfter table recording budget scratch room → roomLeft ≡ roomAfter table recording budget scratch room →
       Wrote (verdictLines v (rowsStanding v roomLeft)) 0 text textLeft next →
-      Judging files budget scratch room text scratchLeft roomLeft textLeft next
+      FilesJudged files budget scratch room text scratchLeft roomLeft textLeft next
   judging {text} {scratchLeft} {roomLeft} {textLeft} {v} {next} t r e s l w =
       let same : (A : List ℕ → List ℕ → Type 0) → A table recording → A (take (tableLength files) files) (drop (tableLength files) files) =
       λ A x. subst (λ (q : List ℕ). A (take (tableLength files) files) q) r (subst (λ (q : List ℕ). A q recording) t x)
@@ -213,12 +214,12 @@ module _ (input scratch room : List ℕ) {text textLeft : List ℕ} {n : ℕ} wh
       }
 
   pub lines-judged : {files scratchLeft roomLeft : List ℕ} {budget : ℕ} → 4 ≤ length input → length input ≤ 8192 → files ≡ filesIn input → budget ≡ budgetIn input →
-      Judging files budget scratch room text scratchLeft roomLeft textLeft n → Lines input scratch room text scratchLeft roomLeft textLeft n
+      FilesJudged files budget scratch room text scratchLeft roomLeft textLeft n → Lines input scratch room text scratchLeft roomLeft textLeft n
   unfolding linesFor scratchFor roomFor
   lines-judged {files} {scratchLeft} {roomLeft} {budget} four most f b judged =
-      let j : Judging (filesIn input) (budgetIn input) scratch room text scratchLeft roomLeft textLeft n =
-      subst (λ (l : List ℕ). Judging l (budgetIn input) scratch room text scratchLeft roomLeft textLeft n) f
-      (subst (λ (k : ℕ). Judging files k scratch room text scratchLeft roomLeft textLeft n) b judged)
+      let j : FilesJudged (filesIn input) (budgetIn input) scratch room text scratchLeft roomLeft textLeft n =
+      subst (λ (l : List ℕ). FilesJudged l (budgetIn input) scratch room text scratchLeft roomLeft textLeft n) f
+      (subst (λ (k : ℕ). FilesJudged files k scratch room text scratchLeft roomLeft textLeft n) b judged)
       in
       record {
         count = rw (le-ltb _ _ four, le-ltb _ _ most, linesFor) (wrote-front (j .wrote) .0);

@@ -4,10 +4,11 @@ use mathlib.Core.Path.{_≡_}
 use mathlib.Core.List.{List, []}
 use lib.ListN.{length, take, drop}
 use lib.Seq.{sets}
+use Rattle.model.specs.Limits.{witnessLimit}
 use Rattle.model.specs.Bytes.{tab}
 use Rattle.model.specs.Desk.{tableLength, linesFor, judgedLines, inText, scratchFor, roomFor}
 use Rattle.model.specs.Validation.{scratchAfter, roomAfter}
-use Rattle.model.specs.Witness.{Row, rowAt, witnessLimit}
+use Rattle.model.specs.Witness.{Row, rowAt}
 use Rattle.model.specs.declared.Verdict.{Verdict}
 use Rattle.model.specs.declared.Verdict.the-variants.{Accepted, Rejected, Exhausted, Refused}
 
@@ -23,9 +24,6 @@ pub record Wrote (bytes : List ℕ) (at : ℕ) (entry exit : List ℕ) (next : �
 abbrev pub Small : ℕ → ℕ → Type 0
 Small at bytes = at + bytes ≤ 2 ^ 40
 
-abbrev pub row : (mark time kind transition : ℕ) → Row
-row mark time kind transition = record { mark = mark; time = time; kind = kind; transition = transition }
-
 -- the rows that stand in a witness room, as many as the verdict says
 abbrev pub rowsStanding : Verdict → List ℕ → List Row
 rowsStanding (Accepted cost rows) witness = tab (rowAt witness) rows
@@ -40,7 +38,7 @@ FewRows (Exhausted budget instant) = Unit {0}
 FewRows (Refused r) = Unit {0}
 
 -- table and recording judged, with the lent bytes before and after
-pub record Judging (files : List ℕ) (budget : ℕ) (scratch room text scratchLeft roomLeft textLeft : List ℕ) (next : ℕ) : Type 0 where
+pub record FilesJudged (files : List ℕ) (budget : ℕ) (scratch room text scratchLeft roomLeft textLeft : List ℕ) (next : ℕ) : Type 0 where
   pub wrote :
       Wrote (judgedLines (length scratch) (length room) (take (tableLength files) files) (drop (tableLength files) files) budget) 0 text textLeft next
   pub scratch-after : scratchLeft ≡ scratchAfter (take (tableLength files) files) (drop (tableLength files) files) budget scratch room

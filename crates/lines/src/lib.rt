@@ -4,12 +4,18 @@ ghost use mathlib.Core.Path.{_≡_};
 ghost use mathlib.Core.List.{[], _∷_, _++_};
 ghost use Prim.Native.Nat.{_+_, _*_, _<_, _≤_};
 ghost use lib.ListN.{length};
+ghost use Rattle.model.specs.Limits.{witnessLimit};
 ghost use Rattle.model.specs.Bytes.{tab};
 ghost use Rattle.model.specs.Witness.{rowAt};
 ghost use Rattle.model.specs.Desk.{budgetIn, tableLength, digits, spaced, line, markWord, rowLine, rowLines, verdictLines};
-ghost use Rattle.lines.specs.Written.{Wrote, Small, row, rowsStanding, FewRows, Judging, Lines};
+ghost use Rattle.witness.specs.Rows.{rowOf};
+ghost use Rattle.lines.specs.Written.{Wrote, Small, rowsStanding, FewRows, FilesJudged, Lines};
+use model::KEPT;
+use model::REMOVED;
 use model::Verdict;
 use numbers::refusal_numbers;
+use witness::Entry;
+use witness::row_at;
 
 fn emit(text: &mut [u8], at: usize, b: u8) -> usize
     requires { ⌜ Small at 1 ⌝ }
@@ -78,38 +84,33 @@ fn marked(mark: u8, time: u64, kind: u64, text: &mut [u8], at: usize) -> usize
     requires { ⌜ Small at 49 ⌝ }
     ensures { λ r. ⌜ Wrote (markWord mark ++ spaced time ++ spaced kind) at (now (text .entry)) (now (text .exit)) r ⌝ }
 {
-    if mark == 0 {
+    if mark == KEPT {
         return numbers(b"kept", time, kind, text, at);
     }
-    if mark == 1 {
+    if mark == REMOVED {
         return numbers(b"removed", time, kind, text, at);
     }
     numbers(b"added", time, kind, text, at)
 }
 
-fn row_line(mark: u8, time: u64, kind: u64, transition: u64, text: &mut [u8], at: usize) -> usize
+fn row_line(e: Entry, text: &mut [u8], at: usize) -> usize
     requires { ⌜ Small at 71 ⌝ }
-    ensures { λ r. ⌜ Wrote (rowLine (row mark time kind transition)) at (now (text .entry)) (now (text .exit)) r ⌝ }
+    ensures { λ r. ⌜ Wrote (rowLine (rowOf e)) at (now (text .entry)) (now (text .exit)) r ⌝ }
 {
-    let behind = marked(mark, time, kind, text, at);
-    let next = number(transition, text, behind);
+    let behind = marked(e.mark, e.time as u64, e.kind as u64, text, at);
+    let next = number(e.transition as u64, text, behind);
     emit(text, next, b'\n')
 }
 
 fn line_at(witness: &[u8], i: usize, text: &mut [u8], at: usize) -> usize
-    requires { ⌜ (i < 4608) × Small at 71 ⌝ }
+    requires { ⌜ (i < witnessLimit) × Small at 71 ⌝ }
     ensures { λ r. ⌜ Wrote (rowLine (rowAt (now (witness .entry)) i)) at (now (text .entry)) (now (text .exit)) r ⌝ }
 {
-    let start = 5 * i;
-    let mark = wire::byte(witness, 5 + start);
-    let time = wire::word(witness, 6 + start) as u64;
-    let kind = wire::byte(witness, 8 + start) as u64;
-    let transition = wire::byte(witness, 9 + start) as u64;
-    row_line(mark, time, kind, transition, text, at)
+    row_line(row_at(witness, i as u16), text, at)
 }
 
 fn row_lines(witness: &[u8], rows: usize, text: &mut [u8], at: usize) -> usize
-    requires { ⌜ (rows ≤ 4608) × Small at (71 * rows) ⌝ }
+    requires { ⌜ (rows ≤ witnessLimit) × Small at (71 * rows) ⌝ }
     ensures { λ r. ⌜ Wrote (rowLines (tab (rowAt (now (witness .entry))) rows)) at (now (text .entry)) (now (text .exit)) r ⌝ }
 {
     let mut next = at;
@@ -168,7 +169,7 @@ fn budget(input: &[u8]) -> u32
 }
 
 fn judge(files: &[u8], budget: u32, scratch: &mut [u8], room: &mut [u8], text: &mut [u8]) -> usize
-    ensures { λ r. ⌜ Judging (now (files .entry)) budget (now (scratch .entry)) (now (room .entry)) (now (text .entry)) (now (scratch .exit)) (now (room .exit)) (now (text .exit)) r ⌝ }
+    ensures { λ r. ⌜ FilesJudged (now (files .entry)) budget (now (scratch .entry)) (now (room .entry)) (now (text .entry)) (now (scratch .exit)) (now (room .exit)) (now (text .exit)) r ⌝ }
 {
     let split = table_length(files);
     let verdict = engine::validate(&files[0..split], &files[split..], budget, scratch, room);

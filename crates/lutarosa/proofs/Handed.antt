@@ -1,10 +1,9 @@
 -- A promise of an answer, and that answer's numbers, as promises of the definition's answer.
 use Prim.Native.Nat.{ℕ}
-use mathlib.Core.Path.{_≡_, ap, subst, _∙_}
+use mathlib.Core.Path.{_≡_, subst, _∙_}
 use mathlib.Core.List.{List}
 use Rattle.model.specs.Numbers.{verdictValues, checkingValues, writingValues}
 use Rattle.model.specs.Room.{Lent}
-use Rattle.model.specs.Rules.{checkAnswer}
 use Rattle.model.specs.declared.Checking.{Checking}
 use Rattle.model.specs.declared.Reading.{Reading}
 use Rattle.model.specs.declared.Verdict.{Verdict}
@@ -12,7 +11,7 @@ use Rattle.model.specs.declared.Writing.{Writing}
 use Rattle.numbers.specs.Told.{told}
 use Rattle.numbers.specs.declared.Answer.{Answer}
 use Rattle.engine.specs.Validates.{Validates}
-use Rattle.checker.specs.Claim.{Faithful}
+use Rattle.checker.specs.Claim.{Checks}
 use Rattle.rewrite.specs.Rewriting.{Rewrites}
 use Rattle.lutarosa.specs.Face.{Validated, Checked, Rewritten}
 
@@ -21,16 +20,16 @@ pub validated : {table recording : List ℕ} {budget : ℕ} {scratch room scratc
     Validated table recording budget scratch room scratchThen roomThen a
 validated {table} {recording} {budget} {scratch} {room} {scratchThen} {roomThen} p e =
     record {
-      answered = e ∙ ap verdictValues (p .answered);
+      answered = e ∙ p .numbers;
       promised = subst (Validates table recording budget scratch room scratchThen roomThen) (p .answered) p;
     }
 
-pub checked : (table recording witness : List ℕ) {r : Checking} {a : Answer} →
-    r ≡ checkAnswer table recording witness → Faithful table recording witness r → told a ≡ checkingValues r → Checked table recording witness a
-checked table recording witness is faithful e =
-    record { answered = e ∙ ap checkingValues is; promised = subst (Faithful table recording witness) is faithful }
+pub checked : {table recording witness : List ℕ} {r : Checking} {a : Answer} → Checks table recording witness r → told a ≡ checkingValues r →
+    Checked table recording witness a
+checked {table} {recording} {witness} p e =
+    record { answered = e ∙ p .numbers; promised = subst (Checks table recording witness) (p .answered) p }
 
 pub rewritten : {answer : Reading} {b room roomThen : List ℕ} {given : Lent} {r : Writing} {a : Answer} →
     Rewrites answer b room roomThen given r → told a ≡ writingValues r → Rewritten answer b room roomThen given a
 rewritten {answer} {b} {room} {roomThen} {given} p e =
-    record { answered = e ∙ ap writingValues (p .answered); promised = subst (Rewrites answer b room roomThen given) (p .answered) p }
+    record { answered = e ∙ p .writes .numbers; promised = subst (Rewrites answer b room roomThen given) (p .writes .answered) p }

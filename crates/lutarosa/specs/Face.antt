@@ -11,7 +11,7 @@ use Rattle.model.specs.declared.Reading.{Reading}
 use Rattle.numbers.specs.Told.{told}
 use Rattle.numbers.specs.declared.Answer.{Answer}
 use Rattle.engine.specs.Validates.{Validates}
-use Rattle.checker.specs.Claim.{Faithful}
+use Rattle.checker.specs.Claim.{Checks}
 use Rattle.rewrite.specs.Rewriting.{Rewrites}
 
 pub record Validated (table recording : List ℕ) (budget : ℕ) (scratch room scratchThen roomThen : List ℕ) (a : Answer) : Type 0 where
@@ -20,7 +20,7 @@ pub record Validated (table recording : List ℕ) (budget : ℕ) (scratch room s
 
 pub record Checked (table recording witness : List ℕ) (a : Answer) : Type 0 where
   pub answered : told a ≡ checkingValues (checkAnswer table recording witness)
-  pub promised : Faithful table recording witness (checkAnswer table recording witness)
+  pub promised : Checks table recording witness (checkAnswer table recording witness)
 
 -- answer: of reading the bytes; given: the definition's answer and room
 pub record Rewritten (answer : Reading) (b room roomThen : List ℕ) (given : Lent) (a : Answer) : Type 0 where

@@ -13,12 +13,12 @@ marked-requires c κs = search needs
 number-requires : tie.Need-number-requires
 number-requires c κs =
     let a = c .before .before .before .before .before .before .args in
-    omega (arith, numbers-length (markWord (a .mark)) (a .time) (a .kind), mark-length (a .mark))
+    omega (arith, numbers-length (markWord (a .e .mark)) (a .e .time) (a .e .kind), mark-length (a .e .mark))
 
 emit-requires : tie.Need-emit-requires
 emit-requires c κs =
     let a = c .before .before .before .before .before .before .before .before .before .before .args in
-    omega (arith, numbers-length (markWord (a .mark)) (a .time) (a .kind), mark-length (a .mark), spaced-length (a .transition))
+    omega (arith, numbers-length (markWord (a .e .mark)) (a .e .time) (a .e .kind), mark-length (a .e .mark), spaced-length (a .e .transition))
 
 same-length : tie.Need-same-length
 same-length c = search needs
