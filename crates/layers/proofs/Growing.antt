@@ -8,20 +8,15 @@ use mathlib.Core.Bool.{true}
 use mathlib.Core.List.{List}
 use lib.ListN.{length}
 use Rattle.bits.specs.Member.{mem, PutIn}
-use Rattle.layers.specs.Growth.{Within, Grown}
+use Rattle.layers.specs.Growth.{Grown}
 
 module _ (to size : ℕ) where
-  pub within-same : (s : List ℕ) → Within to size s s
-  within-same s = record { long = refl; outside = λ i h. refl }
-
-  pub within-then : {a b c : List ℕ} → Within to size a b → Within to size b c → Within to size a c
-  within-then f g = record { long = g .long ∙ f .long; outside = λ i h. g .outside i h ∙ f .outside i h }
-
   -- nothing that is new is below the size
   pub grown-same : (new : ℕ → Type 0) (s : List ℕ) → ((z : ℕ) → z < size → new z → ⊥) → Grown new to size s s
   grown-same new s nothing =
       record {
-        within = within-same s;
+        long = refl;
+        outside = λ i h. refl;
         inside = λ fits z h. (λ e. inl e, λ w. ⊎-elim (λ e. e) (λ v. absurd (nothing z h v)) w);
       }
 
@@ -29,7 +24,8 @@ module _ (to size : ℕ) where
   pub grown-as : {p q : ℕ → Type 0} {a b : List ℕ} → ((z : ℕ) → p z ↔ q z) → Grown p to size a b → Grown q to size a b
   grown-as same g =
       record {
-        within = g .within;
+        long = g .long;
+        outside = g .outside;
         inside = λ fits z h. (
           λ e. ⊎-elim (λ w. inl w) (λ v. inr (same z .0 v)) (g .inside fits z h .0 e),
           λ w. g .inside fits z h .1 (⊎-elim (λ e. inl e) (λ v. inr (same z .1 v)) w),
@@ -40,12 +36,13 @@ module _ (to size : ℕ) where
   pub grown-then : {p q : ℕ → Type 0} {a b c : List ℕ} → Grown p to size a b → Grown q to size b c → Grown (λ z. p z ⊎ q z) to size a c
   grown-then {p} {q} {a} {b} {c} f g =
       record {
-        within = within-then (f .within) (g .within);
+        long = g .long ∙ f .long;
+        outside = λ i h. g .outside i h ∙ f .outside i h;
         inside = λ fits z h. (there fits z h, back fits z h);
       }
     where
       fits-still : to + size ≤ 8 * length a → to + size ≤ 8 * length b
-      fits-still h = omega (arith, f .within .long)
+      fits-still h = omega (arith, f .long)
 
       there : to + size ≤ 8 * length a → (z : ℕ) → z < size → mem c (to + z) ≡ true → (mem a (to + z) ≡ true) ⊎ (p z ⊎ q z)
       there fits z h e =
@@ -63,7 +60,8 @@ module _ (to size : ℕ) where
   pub grown-one : {a b : List ℕ} (n : ℕ) → n < size → PutIn (to + n) a b → Grown (λ z. n ≡ z) to size a b
   grown-one {a} {b} n few put =
       record {
-        within = record { long = put .size; outside = λ i h. put .others i (λ e. ⊎-elim (λ l. omega arith) (λ l. omega arith) h) };
+        long = put .size;
+        outside = λ i h. put .others i (λ e. ⊎-elim (λ l. omega arith) (λ l. omega arith) h);
         inside = λ fits z h. by fits z (ℕ-discrete n z);
       }
     where

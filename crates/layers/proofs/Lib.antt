@@ -1,4 +1,5 @@
 mod Places
+pub mod Apart
 mod Growing
 mod Moves
 mod Reaching

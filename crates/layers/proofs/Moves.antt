@@ -7,10 +7,9 @@ use mathlib.Core.Logic.{_↔_, _⊎_, inl, inr}
 use mathlib.Core.Bool.{Bool, true, false, true≢false}
 use mathlib.Core.List.{List}
 use mathlib.Core.Option.{Option, none, some}
-use Rattle.model.specs.Situation.{moveLimit, transitionLimit}
-use Rattle.model.specs.Layers.{firstFrom}
+use Rattle.model.specs.Situation.{restMove, moveLimit}
+use Rattle.model.specs.Layers.{into, firstFrom}
 use Rattle.model.proofs.SetLaws.{FirstOf, firstFrom-first, firstFrom-hit, firstFrom-miss}
-use Rattle.model.proofs.WalkLaws.{into}
 use Rattle.layers.specs.Advance.{inRow}
 use Rattle.layers.specs.Growth.{Gives, Enough, leadsTo}
 
@@ -71,17 +70,17 @@ module _ (step : ℕ → Option ℕ) where
           by (no m) = let same : j ≡ k = omega arith in inr (subst (λ (i : ℕ). step i ≡ some z) same e)
 
   module _ {kept end : ℕ} (enough : Enough step kept end) where
-    pub gives-enough : (z : ℕ) → (Gives step 0 kept z ⊎ Gives step transitionLimit end z) ↔ Gives step 0 moveLimit z
+    pub gives-enough : (z : ℕ) → (Gives step 0 kept z ⊎ Gives step restMove end z) ↔ Gives step 0 moveLimit z
     gives-enough z = (there, back)
       where
-        there : Gives step 0 kept z ⊎ Gives step transitionLimit end z → Gives step 0 moveLimit z
+        there : Gives step 0 kept z ⊎ Gives step restMove end z → Gives step 0 moveLimit z
         there (inl (k, l, h, e)) = (k, l, omega (arith, enough .keeps), e)
         there (inr (k, l, h, e)) = (k, omega arith, omega (arith, enough .ends), e)
 
-        back : Gives step 0 moveLimit z → Gives step 0 kept z ⊎ Gives step transitionLimit end z
-        back (k, l, h, e) = by (decLt k kept) (decLt k transitionLimit) (decLt k end)
+        back : Gives step 0 moveLimit z → Gives step 0 kept z ⊎ Gives step restMove end z
+        back (k, l, h, e) = by (decLt k kept) (decLt k restMove) (decLt k end)
           where
-            by : Dec (k < kept) → Dec (k < transitionLimit) → Dec (k < end) → Gives step 0 kept z ⊎ Gives step transitionLimit end z
+            by : Dec (k < kept) → Dec (k < restMove) → Dec (k < end) → Gives step 0 kept z ⊎ Gives step restMove end z
             by (yes a) y w = inl (k, l, a, e)
             by (no a) (yes b) w = absurd (nowhere (enough .between k (omega arith) b) e)
             by (no a) (no b) (yes d) = inr (k, omega arith, d, e)
@@ -101,24 +100,24 @@ module _ (step : ℕ → Option ℕ) where
           by (inl e) = inl e
           by (inr e) = absurd (omega arith)
 
-      module _ (none-kept : kept ≤ r) (q : ℕ) (added-first : q ≡ firstFrom (leadsTo step scratch to size) (end - transitionLimit) transitionLimit) where
-        second : FirstOf (leadsTo step scratch to size) (end - transitionLimit) transitionLimit q
-        second = first-at (leadsTo step scratch to size) added-first
+      module _ (none-kept : kept ≤ r) (q : ℕ) (other-first : q ≡ firstFrom (leadsTo step scratch to size) (end - restMove) restMove) where
+        second : FirstOf (leadsTo step scratch to size) (end - restMove) restMove q
+        second = first-at (leadsTo step scratch to size) other-first
 
         earlier : (i : ℕ) → i < q → leadsTo step scratch to size i ≡ false
-        earlier i h = by (decLt i kept) (decLt i transitionLimit)
+        earlier i h = by (decLt i kept) (decLt i restMove)
           where
-            by : Dec (i < kept) → Dec (i < transitionLimit) → leadsTo step scratch to size i ≡ false
+            by : Dec (i < kept) → Dec (i < restMove) → leadsTo step scratch to size i ≡ false
             by (yes a) w = first .before i (omega arith) (omega arith)
             by (no a) (yes b) = ap (into (inRow scratch to size)) (enough .between i (omega arith) b)
             by (no a) (no b) = second .before i (omega arith) h
 
-        pub first-added : q < end → q ≡ firstFrom (leadsTo step scratch to size) moveLimit 0
-        first-added h =
+        pub first-other : q < end → q ≡ firstFrom (leadsTo step scratch to size) moveLimit 0
+        first-other h =
             first-is (leadsTo step scratch to size)
             (record { from = omega arith; within = omega (arith, enough .ends); before = λ i l m. earlier i m; found = by (second .found) })
           where
-            by : (leadsTo step scratch to size q ≡ true) ⊎ (q ≡ transitionLimit + (end - transitionLimit)) → (leadsTo step scratch to size q ≡ true) ⊎ (q ≡ 0 + moveLimit)
+            by : (leadsTo step scratch to size q ≡ true) ⊎ (q ≡ restMove + (end - restMove)) → (leadsTo step scratch to size q ≡ true) ⊎ (q ≡ 0 + moveLimit)
             by (inl e) = inl e
             by (inr e) = absurd (omega (arith, enough .from))
 

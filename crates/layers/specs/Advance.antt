@@ -3,13 +3,12 @@ use Prim.Native.Nat.{ℕ, _+_, _*_, _<_, _≤_}
 use mathlib.Core.Path.{_≡_}
 use mathlib.Core.Logic.{_↔_, _⊎_}
 use mathlib.Core.List.{List}
-use mathlib.Core.Bool.{Bool, true, _&&_}
+use mathlib.Core.Bool.{Bool, true, false, _&&_, _||_}
 use mathlib.Core.Option.{Option, some}
 use lib.ListN.{length}
-use lib.Dec.{ltb}
+use lib.Dec.{leb, ltb}
 use Rattle.model.specs.Situation.{moveLimit}
-use Rattle.model.specs.Layers.{firstFrom}
-use Rattle.model.proofs.WalkLaws.{into}
+use Rattle.model.specs.Layers.{into, firstFrom}
 use Rattle.bits.specs.Member.{mem}
 use Rattle.situation.specs.Stepping.{situationBy, arriveFrom}
 use Rattle.situation.specs.declared.Shape.{Shape}
@@ -22,14 +21,18 @@ stepAt table offsets h heard n k = arriveFrom table offsets h heard (situationBy
 abbrev pub inRow : List ℕ → (start size z : ℕ) → Bool
 inRow scratch start size z = ltb z size && mem scratch (start + z)
 
--- what the members of one row give, by a step, is put into another row
+-- the row at bit to ends within so many bits, and does not meet the row at bit from
+unfoldable pub apart : (from to size bits : ℕ) → Bool
+apart from to size bits = leb (to + size) bits && (leb (from + size) to || leb (to + size) from)
+
+-- what the members of one row give, by a step, is put into another row; nothing, where the two are not apart
 pub record Advanced (step : ℕ → ℕ → Option ℕ) (from to size : ℕ) (before after : List ℕ) : Type 0 where
   pub long : length after ≡ length before
   pub outside : (i : ℕ) → (i < to) ⊎ (to + size ≤ i) → mem after i ≡ mem before i
-  -- where the row fits and the two do not meet
-  pub inside : to + size ≤ 8 * length before → (from + size ≤ to) ⊎ (to + size ≤ from) → (z : ℕ) → z < size
+  pub inside : apart from to size (8 * length before) ≡ true → (z : ℕ) → z < size
       → (mem after (to + z) ≡ true)
       ↔ ((mem before (to + z) ≡ true) ⊎ ((n : ℕ) × (k : ℕ) × (n < size) × (mem before (from + n) ≡ true) × (k < moveLimit) × (step n k ≡ some z)))
+  pub refused : apart from to size (8 * length before) ≡ false → after ≡ before
 
 -- the least move that leads from n into a row; the number of moves if none does
 abbrev pub leastInto : (step : ℕ → ℕ → Option ℕ) → List ℕ → (to size n : ℕ) → ℕ

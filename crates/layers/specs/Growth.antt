@@ -6,19 +6,15 @@ use mathlib.Core.List.{List}
 use mathlib.Core.Bool.{Bool, true}
 use mathlib.Core.Option.{Option, none, some}
 use lib.ListN.{length}
-use Rattle.model.specs.Situation.{moveLimit, transitionLimit}
-use Rattle.model.proofs.WalkLaws.{into}
+use Rattle.model.specs.Situation.{restMove, moveLimit}
+use Rattle.model.specs.Layers.{into}
 use Rattle.bits.specs.Member.{mem}
 use Rattle.layers.specs.Advance.{inRow}
 
--- bits outside a row are as they were
-pub record Within (to size : ℕ) (before after : List ℕ) : Type 0 where
+-- what is new is put into a row, where that fits; bits outside it are as they were
+pub record Grown (new : ℕ → Type 0) (to size : ℕ) (before after : List ℕ) : Type 0 where
   pub long : length after ≡ length before
   pub outside : (i : ℕ) → (i < to) ⊎ (to + size ≤ i) → mem after i ≡ mem before i
-
--- .. and what is new in it is put in, where the row fits
-pub record Grown (new : ℕ → Type 0) (to size : ℕ) (before after : List ℕ) : Type 0 where
-  pub within : Within to size before after
   pub inside : to + size ≤ 8 * length before → (z : ℕ) → z < size → (mem after (to + z) ≡ true) ↔ ((mem before (to + z) ≡ true) ⊎ new z)
 
 -- one of the moves lo .. hi gives z
@@ -29,10 +25,10 @@ Gives step lo hi z = (k : ℕ) × (lo ≤ k) × (k < hi) × (step k ≡ some z)
 abbrev pub leadsTo : (step : ℕ → Option ℕ) → List ℕ → (to size k : ℕ) → Bool
 leadsTo step scratch to size k = into (inRow scratch to size) (step k)
 
--- no move below 129 leads anywhere but those below kept and those from 64 to end
+-- no move leads anywhere but those below kept and those from restMove to end
 pub record Enough (step : ℕ → Option ℕ) (kept end : ℕ) : Type 0 where
-  pub keeps : kept ≤ transitionLimit
-  pub from : transitionLimit < end
+  pub keeps : kept ≤ restMove
+  pub from : restMove < end
   pub ends : end ≤ moveLimit
-  pub between : (k : ℕ) → kept ≤ k → k < transitionLimit → step k ≡ none
+  pub between : (k : ℕ) → kept ≤ k → k < restMove → step k ≡ none
   pub beyond : (k : ℕ) → end ≤ k → k < moveLimit → step k ≡ none

@@ -1,5 +1,5 @@
 -- Where the rows of a recording are a packet trace, a cursor finds what is recorded at its instant, and passes on to the next.
-use Prim.Native.Nat.{ℕ, zero, suc, _+_, _-_, _≤_, _<_}
+use Prim.Native.Nat.{ℕ, zero, suc, _+_, _≤_, _<_}
 use native.Mathlib.Decide.{decLt}
 use native.Mathlib.Nat.{not-suc-le-zero}
 use native.Mathlib.Omega.{arith}
@@ -9,13 +9,15 @@ use mathlib.Core.Bool.{Bool, true, false, false≢true}
 use mathlib.Core.Option.{none, some}
 use lib.ListN.{length, getD, List·getD-append}
 use lib.Dec.{ltb, eqb}
-use borrow.Author.Tests.{lt-ltb, le-ltb, eq-eqb, ne-eqb, ltb-true, eqb-true}
+use borrow.Author.Tests.{lt-ltb, le-ltb, eq-eqb, ltb-true, eqb-true}
+use Rattle.model.specs.Limits.{rowLimit}
 use Rattle.model.specs.Bytes.{tab, padded}
 use Rattle.model.specs.Monitor.{Monitor}
 use Rattle.model.specs.Trace.{Packet, Spaced, PacketTrace}
 use Rattle.model.specs.Recording.{countAt, timeAt, rowKindAt, recordingParts, packetsOf, packetsAt}
 use Rattle.model.specs.Situation.{recordedAt}
 use Rattle.model.proofs.Basics.{length-tab, getD-tab, and-left, and-right}
+use Rattle.model.proofs.Instants.{recorded-here, recorded-later}
 use Rattle.situation.specs.Rows.{isAt, heardAt, passedBy, Cursor}
 
 -- on packets
@@ -26,24 +28,16 @@ nowhere = record { time = 0; kind = 0 }
 abbrev time : List Packet → ℕ → ℕ
 time ps k = getD ps k nowhere .time
 
-recorded-here : (p : Packet) (r : List Packet) (t : ℕ) → p .time ≡ t → recordedAt (p ∷ r) t ≡ some (p .kind)
-unfolding recordedAt
-recorded-here p r t e = rw (eq-eqb (p .time) t e, recordedAt)
-
-recorded-other : (p : Packet) (r : List Packet) (t : ℕ) → (p .time ≡ t → ⊥) → recordedAt (p ∷ r) t ≡ recordedAt r t
-unfolding recordedAt
-recorded-other p r t e = rw (ne-eqb (p .time) t e, recordedAt)
-
 recorded-none : (ps : List Packet) (t : ℕ) → ((k : ℕ) → k < length ps → time ps k ≡ t → ⊥) → recordedAt ps t ≡ none
 unfolding recordedAt
 recorded-none [] t other = refl
-recorded-none (p ∷ r) t other = recorded-other p r t (other 0 (omega arith)) ∙ recorded-none r t (λ k h. other (suc k) (omega arith))
+recorded-none (p ∷ r) t other = recorded-later p r t (other 0 (omega arith)) ∙ recorded-none r t (λ k h. other (suc k) (omega arith))
 
 recorded-first : (ps : List Packet) (i t : ℕ) → i < length ps → time ps i ≡ t → ((k : ℕ) → k < i → time ps k ≡ t → ⊥) → recordedAt ps t ≡ some (getD ps i nowhere .kind)
 recorded-first [] i t h e other = absurd (not-suc-le-zero h)
 recorded-first (p ∷ r) zero t h e other = recorded-here p r t e
 recorded-first (p ∷ r) (suc i) t h e other =
-    recorded-other p r t (other 0 (omega arith)) ∙ recorded-first r i t (omega arith) e (λ k l. other (suc k) (omega arith))
+    recorded-later p r t (other 0 (omega arith)) ∙ recorded-first r i t (omega arith) e (λ k l. other (suc k) (omega arith))
 
 module _ (m : Monitor) where
   later : (p : Packet) (r : List Packet) → Spaced m p r → (k : ℕ) → k < length r → p .time < time r k
@@ -68,7 +62,7 @@ module _ (m : Monitor) where
 
 -- on bytes
 
-column : (f : ℕ → ℕ) (k n : ℕ) → k < n → getD (padded 512 (tab f n)) k 0 ≡ f k
+column : (f : ℕ → ℕ) (k n : ℕ) → k < n → getD (padded rowLimit (tab f n)) k 0 ≡ f k
 unfolding padded
 column f k n h = List·getD-append (tab f n) _ 0 k (omega (arith, length-tab f n)) ∙ getD-tab f 0 n k h
 

@@ -8,15 +8,16 @@ use mathlib.Core.Bool.{Bool, true, false, cond, _&&_}
 use mathlib.Core.Option.{Option, none, some, Option·map, bind}
 use lib.ListN.{getD, getElem?}
 use lib.Dec.{eqb}
-use borrow.Author.Tests.{eq-eqb, ne-eqb, lt-ltb, le-ltb}
+use borrow.Author.Tests.{eq-eqb, ne-eqb}
 use Rattle.model.specs.Bytes.{byteAt}
 use Rattle.model.specs.Guard.{holds}
 use Rattle.model.specs.Monitor.{Monitor, Transition, fires, airtime, toUnit, after}
 use Rattle.model.specs.Table.{transitionsAt}
-use Rattle.model.specs.Situation.{keep, rest, add, configOf, withAir, tick, sent, triggerOf, moved, stepBy, moveOf}
+use Rattle.model.specs.Situation.{keep, rest, add, configOf, withAir, tick, sent, triggerOf, moved, stepBy, restMove, firstAdd, moveOf}
 use Rattle.model.specs.declared.Config.{Config}
 use Rattle.model.specs.declared.Situation.{Situation}
 use Rattle.model.proofs.Basics.{getElem-tab, getElem-tab-past}
+use Rattle.model.proofs.Instants.{moveOf-keep, moveOf-rest, moveOf-add}
 use Rattle.model.proofs.Numbering.{outcome}
 use Rattle.monitor.specs.From.{firing, monitorFrom, transitionFrom}
 use Rattle.monitor.specs.declared.Fired.{Fired}
@@ -41,7 +42,7 @@ still-ticked h s air e = ap (tickedBy h (configOf s)) e
 
 -- a sent row
 
-neither : {A : Type 0} (b : Bool) → cond {A = Option A} b none none ≡ none
+pub neither : {A : Type 0} (b : Bool) → cond {A = Option A} b none none ≡ none
 neither true = refl
 neither false = refl
 
@@ -209,22 +210,16 @@ may-other m k a e = rw (ne-eqb a k e) (on (toUnit m k))
 
 -- moves by number
 
-pub move-keep : (k : ℕ) → k < 64 → moveOf k ≡ keep k
-unfolding moveOf
-move-keep k h = simp (lt-ltb k 64 h)
+pub move-rest : (k : ℕ) → k ≡ restMove → moveOf k ≡ rest
+move-rest k e = ap moveOf e ∙ moveOf-rest
 
-pub move-rest : (k : ℕ) → k ≡ 64 → moveOf k ≡ rest
-unfolding moveOf
-move-rest k e = ap moveOf e
-
-pub move-add : (k : ℕ) → 64 ≤ k → (k ≡ 64 → ⊥) → moveOf k ≡ add (k - 65)
-unfolding moveOf
-move-add k h e = simp (le-ltb k 64 h, ne-eqb k 64 e)
+pub move-add : (k : ℕ) → restMove ≤ k → (k ≡ restMove → ⊥) → moveOf k ≡ add (k - firstAdd)
+move-add k h e = let at : k ≡ firstAdd + (k - firstAdd) = omega arith in ap moveOf at ∙ moveOf-add (k - firstAdd)
 
 -- where the air is taken, only the move without a row leads somewhere
-pub taken-nowhere : (h : Shape) (m : Monitor) (recorded : Option ℕ) (s : Situation) (k : ℕ) → (k ≡ 64 → ⊥) → (s .air ≡ 0 → ⊥) → nowhere s ≡ stepped h m recorded s (moveOf k)
-taken-nowhere h m recorded s k row e = on (decLt k 64)
+pub taken-nowhere : (h : Shape) (m : Monitor) (recorded : Option ℕ) (s : Situation) (k : ℕ) → (k ≡ restMove → ⊥) → (s .air ≡ 0 → ⊥) → nowhere s ≡ stepped h m recorded s (moveOf k)
+taken-nowhere h m recorded s k row e = on (decLt k restMove)
   where
-    on : Dec (k < 64) → nowhere s ≡ stepped h m recorded s (moveOf k)
-    on (yes l) = kept-taken h m s k e recorded ∙ ap (stepped h m recorded s) (sym (move-keep k l))
-    on (no l) = added-taken h m recorded s (k - 65) e ∙ ap (stepped h m recorded s) (sym (move-add k (omega arith) row))
+    on : Dec (k < restMove) → nowhere s ≡ stepped h m recorded s (moveOf k)
+    on (yes l) = kept-taken h m s k e recorded ∙ ap (stepped h m recorded s) (sym (moveOf-keep k l))
+    on (no l) = added-taken h m recorded s (k - firstAdd) e ∙ ap (stepped h m recorded s) (sym (move-add k (omega arith) row))

@@ -7,10 +7,10 @@ use mathlib.Core.List.{[], _∷_}
 use borrow.Author.Tests.{ne-eqb}
 use Rattle.model.specs.Monitor.{Monitor}
 use Rattle.model.specs.Size.{cap, size, largestAirtime}
-use Rattle.model.specs.Situation.{number, situationOf}
+use Rattle.model.specs.Situation.{InRange, number, situationOf}
+use Rattle.model.specs.Sane.{Sane}
 use Rattle.model.specs.declared.Situation.{Situation}
-use Rattle.model.proofs.Chains.{Sane}
-use Rattle.model.proofs.Numbering.{InRange, number-below, back, forth}
+use Rattle.model.proofs.Numbering.{number-below, back, forth}
 use Rattle.situation.specs.declared.Shape.{Shape}
 use Rattle.situation.specs.Numbering.{Fits, numberBy, digitBy, restBy, situationBy}
 

@@ -5,6 +5,7 @@ use mathlib.Core.List.{[], _∷_}
 use mathlib.Core.Bool.{cond}
 use lib.ListN.{getD}
 use lib.Dec.{leb, eqb}
+use Rattle.model.specs.Limits.{variableLimit}
 use Rattle.model.specs.Monitor.{Monitor}
 use Rattle.model.specs.Size.{cap}
 use Rattle.model.specs.Table.{monitorOf}
@@ -19,9 +20,9 @@ pub record Fits (h : Shape) (m : Monitor) : Type 0 where
   pub first : h .first ≡ cap m 0 + 1
   pub second : h .second ≡ cap m 1 + 1
 
--- 2 to the number of variables, of which a table has at most 4; 0 for more
+-- 2 to the number of variables; 0 where they are more than a table has
 unfoldable pub masksOf : ℕ → ℕ
-masksOf variables = cond (leb variables 4) (2 ^ variables) 0
+masksOf variables = cond (leb variables variableLimit) (2 ^ variables) 0
 
 unfoldable pub shapeOf : TableParts → Shape
 shapeOf t =

@@ -11,6 +11,8 @@ use Rattle.model.specs.declared.Config.{Config}
 use Rattle.model.specs.declared.Situation.{Situation}
 use Rattle.situation.specs.declared.Shape.{Shape}
 use Rattle.situation.specs.declared.Next.{Next}
+use Rattle.situation.specs.declared.step.Trigger.{Trigger}
+use Rattle.situation.specs.declared.step.Trigger.the-variants.{Absent, Kind}
 
 -- what a step from situation s answers; where it leads nowhere, s stands there
 abbrev pub leading : Situation → Option Situation → Next
@@ -19,6 +21,10 @@ leading s (some x) = record { leads = true; to = x }
 
 abbrev pub nextOf : Next → Option Situation
 nextOf n = cond (n .leads) (some (n .to)) none
+
+abbrev pub triggerKind : Trigger → Option ℕ
+triggerKind Absent = none
+triggerKind (Kind k) = some k
 
 -- clocks as they are written by a shape
 unfoldable pub cappedBy : Shape → List ℕ → List ℕ

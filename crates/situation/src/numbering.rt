@@ -3,6 +3,7 @@ use crate::Shape;
 use guard::size::clock_values;
 use model::Situation;
 use model::TableParts;
+use model::VARIABLE_LIMIT;
 use wire::short;
 ghost use mathlib.Core.Path.{_≡_};
 ghost use Prim.Native.Nat.{_+_, _*_, _≤_, _<_};
@@ -11,7 +12,11 @@ ghost use Rattle.situation.specs.Numbering.{masksOf, shapeOf, digitBy, r
 fn masks_of(variables: u8) -> u8
     ensures { λ r. ⌜ r ≡ masksOf variables ⌝ }
 {
-    if variables <= 4 { 1 << variables } else { 0 }
+    if variables <= VARIABLE_LIMIT {
+        1 << variables
+    } else {
+        0
+    }
 }
 
 pub fn shape_of(t: TableParts) -> Shape

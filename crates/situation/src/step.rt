@@ -5,6 +5,8 @@ use crate::Next;
 use crate::Shape;
 use crate::numbering::number;
 use model::Config;
+use model::FIRST_ADD;
+use model::REST;
 use model::Situation;
 use monitor::airtime_of;
 use monitor::fire;
@@ -19,7 +21,13 @@ ghost use Rattle.model.specs.Situation.{keep, rest, add, configOf, tick, moveOf
 ghost use Rattle.monitor.specs.From.{monitorFrom};
 ghost use Rattle.situation.specs.Rows.{heardOf};
 ghost use Rattle.situation.specs.Stepping.{arrivalOf, arriveFrom};
-ghost use Rattle.situation.specs.Steps.{leading, cappedBy, tickedBy, sentBy, triggerFrom, mayAdd, stepped};
+ghost use Rattle.situation.specs.Steps.{leading, cappedBy, tickedBy, sentBy, triggerKind, triggerFrom, mayAdd, stepped};
+
+// The kind on which a transition fires, where it does.
+enum Trigger {
+    Absent,
+    Kind(u8),
+}
 
 // A clock one tick later, where it has that many values.
 fn clock_ticked(reads: u16, values: u16) -> u16
@@ -95,17 +103,17 @@ fn sent<'a>(table: &'a [u8], offsets: &'a [u16], h: Shape, j: usize, kind: u8, s
 }
 
 // The kind on which transition j fires, if it does from a state.
-fn trigger_from<'a>(table: &'a [u8], offsets: &'a [u16], state: u8, j: usize) -> Heard
-    ensures { λ r. ⌜ heardOf r ≡ triggerFrom (monitorFrom (now (table .entry)) (now (offsets .entry))) state j ⌝ }
+fn trigger_from<'a>(table: &'a [u8], offsets: &'a [u16], state: u8, j: usize) -> Trigger
+    ensures { λ r. ⌜ triggerKind r ≡ triggerFrom (monitorFrom (now (table .entry)) (now (offsets .entry))) state j ⌝ }
 {
     if byte(table, 7) as usize <= j {
-        return Heard::Nothing;
+        return Trigger::Absent;
     }
     let at = short(offsets, j) as usize;
     if byte(table, at) == state {
-        return Heard::Kind(byte(table, at + 2));
+        return Trigger::Kind(byte(table, at + 2));
     }
-    Heard::Nothing
+    Trigger::Absent
 }
 
 // A row of a kind may be added: what is recorded there, if anything, is of another kind and can be removed.
@@ -172,7 +180,7 @@ fn added<'a>(
     ensures { λ r. ⌜ r ≡ stepped h (monitorFrom (now (table .entry)) (now (offsets .entry))) (heardOf heard) s (add j) ⌝ }
 {
     let trigger = trigger_from(table, offsets, s.state, j);
-    let Heard::Kind(kind) = trigger else {
+    let Trigger::Kind(kind) = trigger else {
         return nowhere(s);
     };
     if may_add(table, heard, kind) {
@@ -181,7 +189,7 @@ fn added<'a>(
     nowhere(s)
 }
 
-// The step by move k: below 64 keep by that transition, 64 nothing, from 65 on add by transition k - 65.
+// The step by move k: below REST keep by that transition, REST adds nothing, from FIRST_ADD on add by transition k - FIRST_ADD.
 pub fn next<'a>(
     table: &'a [u8],
     offsets: &'a [u16],
@@ -192,16 +200,16 @@ pub fn next<'a>(
 ) -> Next
     ensures { λ r. ⌜ r ≡ stepped h (monitorFrom (now (table .entry)) (now (offsets .entry))) (heardOf heard) s (moveOf k) ⌝ }
 {
-    if k == 64 {
+    if k == REST {
         return rested(table, h, heard, s);
     }
     if s.air != 0 {
         return nowhere(s);
     }
-    if k < 64 {
+    if k < REST {
         return kept(table, offsets, h, heard, s, k);
     }
-    added(table, offsets, h, heard, s, k - 65)
+    added(table, offsets, h, heard, s, k - FIRST_ADD)
 }
 
 // The same step on numbers.

@@ -1,6 +1,6 @@
 -- `layers::least_into` meets its contract.
 use borrow.Author.Needs.{needs}
-use Rattle.layers.proofs.Moves.{first-kept, first-added, first-none}
+use Rattle.layers.proofs.Moves.{first-kept, first-other, first-none}
 use Rattle.layers.proofs.least_into.Statement.{statement}
 use Rattle.layers.proofs.least_into.Tie as tie
 
@@ -25,21 +25,21 @@ first-of-requires-2 c κs = search needs
 
 returns-2 : tie.Need-returns-2
 returns-2 c =
-    let added = c .before .before in
-    let test = added .before in
+    let other = c .before .before in
+    let test = other .before in
     let kept = test .before .before in
     let worth = kept .before in
     rw (← worth .before .situation-of .ensures)
-    (first-added _ (worth .worth .ensures _ _) _ _ _ _ (kept .first-of .ensures) (test .if1 .left) _ (added .first-of2 .ensures) (c .if2 .taken))
+    (first-other _ (worth .worth .ensures _ _) _ _ _ _ (kept .first-of .ensures) (test .if1 .left) _ (other .first-of2 .ensures) (c .if2 .taken))
 
 returns-3 : tie.Need-returns-3
 returns-3 c =
-    let added = c .before .before in
-    let test = added .before in
+    let other = c .before .before in
+    let test = other .before in
     let kept = test .before .before in
     let worth = kept .before in
     rw (← worth .before .situation-of .ensures)
-    (first-none _ (worth .worth .ensures _ _) _ _ _ _ (kept .first-of .ensures) (test .if1 .left) _ (added .first-of2 .ensures) (c .if2 .left))
+    (first-none _ (worth .worth .ensures _ _) _ _ _ _ (kept .first-of .ensures) (test .if1 .left) _ (other .first-of2 .ensures) (c .if2 .left))
 
 pub least-into-spec : {M : Type 1} → statement M
 least-into-spec =

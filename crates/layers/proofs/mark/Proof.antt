@@ -44,14 +44,14 @@ same-length c = search needs
 returns-2 : tie.Need-returns-2
 returns-2 c =
     let put = c .before .before in
-    let n = put .before .before .before .before .n .given in
-    let came = put .before .before .before .before .before .before in
+    let n = put .before .before .before .before .before .n .given in
+    let came = put .before .before .before .before .before .before .before in
     grown-as _ _ (λ z. there (n .0 .0) z (n .1) (came .arrive .ensures)) (grown-one _ _ (n .0 .0) (put .before .before .if1 .taken) (put .put .ensures))
 
 returns-3 : tie.Need-returns-3
 returns-3 c =
-    let n = c .before .before .n .given in
-    let came = c .before .before .before .before in
+    let n = c .before .before .before .n .given in
+    let came = c .before .before .before .before .before in
     grown-same _ _ _ _
     (λ z h w. let same : n .0 .0 ≡ z = there (n .0 .0) z (n .1) (came .arrive .ensures) .1 w in omega (arith, c .if1 .left))
 

@@ -1,4 +1,4 @@
--- `layers::mark_range` meets its contract: at move k the moves lo .. k are done.
+-- `layers::mark_range` meets its contract: at move k the moves before it are done.
 use Prim.Native.Nat.{_-_, _≤_, max}
 use native.Mathlib.Omega.{arith}
 use borrow.Author.Needs.{needs}
@@ -10,11 +10,11 @@ use Rattle.layers.proofs.mark_range.Statement.{statement}
 use Rattle.layers.proofs.mark_range.Tie as tie
 
 abbrev Inv-loop : tie.InvT-loop
-Inv-loop table offsets h heard s lo hi scratch₀ to size k₀ scratch k =
-    (lo ≤ k) × (k ≤ max lo hi) × Grown (Gives (arriveFrom table offsets h (heardOf heard) s) lo k) to size scratch₀ scratch
+Inv-loop table offsets h heard s moves scratch₀ to k₀ scratch k =
+    (moves .lo ≤ k) × (k ≤ max (moves .lo) (moves .hi)) × Grown (Gives (arriveFrom table offsets h (heardOf heard) s) (moves .lo) k) (to .start) (to .size) scratch₀ scratch
 
 abbrev μ-loop : tie.MeasureT-loop
-μ-loop table offsets h heard s lo hi scratch₀ to size k₀ scratch k = hi - k
+μ-loop table offsets h heard s moves scratch₀ to k₀ scratch k = moves .hi - k
 
 loop-holds : tie.Need-loop-holds Inv-loop μ-loop
 loop-holds c = (omega arith, omega arith, grown-same _ _ _ _ (λ z h. gives-none _ _ _ z (omega arith)))
@@ -30,17 +30,18 @@ loop-less c = search needs
 
 loop-again : tie.Need-loop-again Inv-loop μ-loop
 loop-again c =
-    let at = c .before .before .before .before .before in
-    let low : at .before .before .before .before .args .lo ≤ at .loop .k = at .loop .inv .0 in
+    let at = c .before .before .before .before .before .before in
+    let low : at .before .before .before .before .args .moves .lo ≤ at .loop .k = at .loop .inv .0 in
     (omega arith, omega arith, grown-as _ _ (λ z. gives-more _ _ _ z low) (grown-then _ _ (at .loop .inv .2) (c .before .before .mark .ensures)))
 
 same-length : tie.Need-same-length Inv-loop μ-loop
-same-length c = c .before .loop .inv .2 .within .long
+same-length c = c .before .before .loop .inv .2 .long
 
 returns : tie.Need-returns Inv-loop μ-loop
 returns c =
-    let at = c .before in
-    let high : at .loop .k ≤ max (at .before .before .before .before .args .lo) (at .before .before .before .before .args .hi) = at .loop .inv .1 in
+    let at = c .before .before in
+    let moves = at .before .before .before .before .args .moves in
+    let high : at .loop .k ≤ max (moves .lo) (moves .hi) = at .loop .inv .1 in
     grown-as _ _ (λ z. (λ (k, l, h, e). (k, l, omega arith, e), λ (k, l, h, e). (k, l, omega arith, e))) (at .loop .inv .2)
 
 pub mark-range-spec : {M : Type 1} → statement M

@@ -34,11 +34,11 @@ from-same step {to = to} {size = size} {a = a} {b = b} e g = subst (λ (v : Situ
 
 returns : tie.Need-returns
 returns c =
-    let added = c .before .before in
-    let kept = added .before .before .before .before in
+    let other = c .before .before in
+    let kept = other .before .before .before .before in
     let worth = kept .before .before in
     from-same (arriveFrom _ _ _ _) (worth .before .situation-of .ensures)
-    (grown-as _ _ (gives-enough _ (worth .worth .ensures _ _)) (grown-then _ _ (kept .mark-range .ensures) (added .mark-range2 .ensures)))
+    (grown-as _ _ (gives-enough _ (worth .worth .ensures _ _)) (grown-then _ _ (kept .mark-range .ensures) (other .mark-range2 .ensures)))
 
 pub spread-spec : {M : Type 1} → statement M
 spread-spec =

@@ -5,7 +5,9 @@ use mathlib.Core.Path.{_≡_, sym, subst}
 use mathlib.Core.List.{List}
 use mathlib.Core.Option.{Option, none}
 use borrow.Author.Needs.{needs}
+use Rattle.model.specs.Limits.{transitionLimit}
 use Rattle.model.specs.Table.{transitionsAt}
+use Rattle.model.specs.Situation.{restMove, firstAdd}
 use Rattle.model.specs.declared.Situation.{Situation}
 use Rattle.situation.specs.Stepping.{heardOf, arriveFrom}
 use Rattle.situation.specs.declared.Shape.{Shape}
@@ -16,8 +18,8 @@ use Rattle.layers.proofs.worth.Statement.{statement}
 use Rattle.layers.proofs.worth.Tie as tie
 
 -- the air is free
-free : (t o : List ℕ) (h : Shape) (r : Option ℕ) (s : Situation) (kept count : ℕ) → count ≡ min (transitionsAt t) 64 → kept ≤ 64
-    → ((k : ℕ) → kept ≤ k → k < 64 → arriveFrom t o h r s k ≡ none) → Enough (arriveFrom t o h r s) kept (65 + count)
+free : (t o : List ℕ) (h : Shape) (r : Option ℕ) (s : Situation) (kept count : ℕ) → count ≡ min (transitionsAt t) transitionLimit → kept ≤ restMove
+    → ((k : ℕ) → kept ≤ k → k < restMove → arriveFrom t o h r s k ≡ none) → Enough (arriveFrom t o h r s) kept (firstAdd + count)
 free t o h r s kept count e few between =
     record {
       keeps = few;
@@ -60,7 +62,7 @@ returns-2 c o h =
     let a = c .before .before .before .before .before .before .args in
     let t = a .table .now in
     let called = c .before .before .transitions in
-    subst (λ (r : Heard). Enough (arriveFrom t o h (heardOf r) (a .s)) 0 (65 + called .result)) (sym (c .enum-told .given .1))
+    subst (λ (r : Heard). Enough (arriveFrom t o h (heardOf r) (a .s)) 0 (firstAdd + called .result)) (sym (c .enum-told .given .1))
     (free t o h none (a .s) 0 (called .result) (called .ensures) (omega arith) (λ k l m. no-keep t o h (a .s) k m))
 
 returns-3 : tie.Need-returns-3

@@ -1,8 +1,8 @@
 use mathlib.Core.Path.{_≡_, ap, sym, _∙_}
 use Rattle.monitor.specs.From.{monitorFrom}
-use Rattle.situation.specs.declared.Heard.{Heard}
-use Rattle.situation.specs.declared.Heard.the-variants.{Kind}
+use Rattle.situation.specs.declared.step.Trigger.the-variants.{Kind}
 use Rattle.situation.specs.Rows.{heardOf}
+use Rattle.situation.specs.Steps.{triggerKind}
 use Rattle.situation.proofs.Moves.{added-none, added-row, added-not}
 use borrow.Author.Needs.{needs}
 use Rattle.situation.proofs.step.added.Statement.{statement}
@@ -25,7 +25,7 @@ returns c =
     let a = c .before .before .before .before .before .before .args in
     let m = monitorFrom (a .table .now) (a .offsets .now) in
     c .nowhere .ensures
-    ∙ added-none (a .h) m (heardOf (a .heard)) (a .s) (a .j) (sym (c .before .before .before .trigger-from .ensures) ∙ ap (λ (x : Heard). heardOf x) (c .before .enum-told .given .1))
+    ∙ added-none (a .h) m (heardOf (a .heard)) (a .s) (a .j) (sym (c .before .before .before .trigger-from .ensures) ∙ ap triggerKind (c .before .enum-told .given .1))
 
 may-add-requires : tie.Need-may-add-requires
 may-add-requires c κs = search needs
@@ -39,7 +39,7 @@ returns-2 c =
     let m = monitorFrom (a .table .now) (a .offsets .now) in
     let p = c .before .before .before .before .trigger .given .0 in
     let q : c .before .before .before .before .before .before .trigger-from .result ≡ Kind (p .0) = cc in
-    let e = sym (c .before .before .before .before .before .before .trigger-from .ensures) ∙ ap (λ (x : Heard). heardOf x) q in
+    let e = sym (c .before .before .before .before .before .before .trigger-from .ensures) ∙ ap triggerKind q in
     c .sent .ensures
     ∙ added-row (a .h) m (heardOf (a .heard)) (a .s) (a .j) (p .0) e (sym (c .before .before .may-add .ensures (a .offsets .now)) ∙ c .before .if1 .taken)
 
@@ -52,7 +52,7 @@ returns-3 c =
     let m = monitorFrom (a .table .now) (a .offsets .now) in
     let p = c .before .before .before .before .trigger .given .0 in
     let q : c .before .before .before .before .before .before .trigger-from .result ≡ Kind (p .0) = cc in
-    let e = sym (c .before .before .before .before .before .before .trigger-from .ensures) ∙ ap (λ (x : Heard). heardOf x) q in
+    let e = sym (c .before .before .before .before .before .before .trigger-from .ensures) ∙ ap triggerKind q in
     c .nowhere2 .ensures
     ∙ added-not (a .h) m (heardOf (a .heard)) (a .s) (a .j) (p .0) e (sym (c .before .before .may-add .ensures (a .offsets .now)) ∙ c .before .if1 .left)
 

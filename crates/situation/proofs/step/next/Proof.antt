@@ -1,6 +1,7 @@
 use mathlib.Core.Path.{ap, sym, _∙_}
 use Rattle.situation.specs.Steps.{stepped}
-use Rattle.situation.proofs.Moves.{move-keep, move-rest, move-add, taken-nowhere}
+use Rattle.model.proofs.Instants.{moveOf-keep}
+use Rattle.situation.proofs.Moves.{move-rest, move-add, taken-nowhere}
 use borrow.Author.Needs.{needs}
 use Rattle.situation.proofs.step.next.Statement.{statement}
 use Rattle.situation.proofs.step.next.Tie as tie
@@ -21,7 +22,7 @@ kept-requires : tie.Need-kept-requires
 kept-requires c κs = search needs
 
 returns-3 : tie.Need-returns-3
-returns-3 c = c .kept .ensures ∙ ap (stepped _ _ _ _) (sym (move-keep _ (c .before .if3 .taken)))
+returns-3 c = c .kept .ensures ∙ ap (stepped _ _ _ _) (sym (moveOf-keep _ (c .before .if3 .taken)))
 
 sub-added : tie.Need-sub-added
 sub-added c = search needs
