@@ -36,7 +36,9 @@ ghost use Rattle.model.specs.Table.{countsOf, kindRecord, kindRecords, apart, t
 
 // Limits of counts and of a guard's length, which are bytes.
 const KINDS: u8 = KIND_LIMIT as u8;
+
 const TRANSITIONS: u8 = TRANSITION_LIMIT as u8;
+
 const GUARD_LENGTH: u8 = GUARD_LIMIT as u8;
 
 // The longest table.

@@ -25,7 +25,14 @@ pub fn largest_bound(t: TableParts, clock: usize) -> u64
         let end = GUARD_LIMIT * j + byte(&t.lengths, j) as usize;
         most = larger(
             most,
-            guard_bound(&t.guards, GUARD_LIMIT * j, end, t.variables, t.clocks, clock),
+            guard_bound(
+                &t.guards,
+                GUARD_LIMIT * j,
+                end,
+                t.variables,
+                t.clocks,
+                clock,
+            ),
         );
         j += 1;
     }

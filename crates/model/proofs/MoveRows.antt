@@ -177,7 +177,6 @@ air-free free t = go (leb free (suc t)) refl
 
 -- one instant
 
-
 -- what rows come to, none where one breaks a rule
 unfoldable pub accounts : Monitor → Progress → List Row → Option Progress
 accounts m p [] = some p

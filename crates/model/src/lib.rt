@@ -3,28 +3,41 @@
 // The constants are document 01's limits and codes (specs/Limits, Witness, Situation).
 
 pub const STATE_LIMIT: u8 = 16;
+
 pub const VARIABLE_LIMIT: u8 = 4;
+
 pub const CLOCK_LIMIT: u8 = 2;
+
 pub const KIND_LIMIT: usize = 32;
+
 pub const TRANSITION_LIMIT: usize = 64;
+
 pub const AIRTIME_LIMIT: u8 = 15;
 // the longest guard, and the places of each guard in a table's parts
 pub const GUARD_LIMIT: usize = 32;
+
 pub const SIZE_LIMIT: u64 = 65536;
 // rows of a recording, and the latest time of a row there and in a witness
 pub const ROW_LIMIT: usize = 512;
+
 pub const TIME_LIMIT: u16 = 4096;
+
 pub const WITNESS_LIMIT: usize = 4608;
 
 // marks of a witness's rows, and the transition number of a removed one
 pub const KEPT: u8 = 0;
+
 pub const REMOVED: u8 = 1;
+
 pub const ADDED: u8 = 2;
+
 pub const NO_TRANSITION: u8 = 255;
 
 // moves as numbers: below REST keep by that transition, REST adds nothing, from FIRST_ADD on add by a transition
 pub const REST: usize = TRANSITION_LIMIT;
+
 pub const FIRST_ADD: usize = REST + 1;
+
 pub const MOVE_LIMIT: usize = FIRST_ADD + TRANSITION_LIMIT;
 
 // A monitor table's parts. Places beyond a count, and beyond a guard's length, are 0 after reading and are ignored in writing.
