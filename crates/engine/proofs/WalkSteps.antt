@@ -28,6 +28,7 @@ use Rattle.situation.specs.Stepping.{arriveFrom, situationBy}
 use Rattle.situation.specs.declared.Shape.{Shape}
 use Rattle.situation.proofs.Cursors.{first-cursor}
 use Rattle.layers.specs.Advance.{stepAt, inRow, leastInto}
+use Rattle.engine.specs.declared.measures.Measures.{Measures}
 use Rattle.engine.specs.Setting.{Setting}
 use Rattle.engine.specs.PruneRows.{PrunedRows}
 use Rattle.engine.specs.WalkRows.{Wrote, Room, Stands, rowsFrom, WalkedOn}
@@ -108,48 +109,48 @@ module _ (table recording : List ℕ) (last : ℕ) where
       (sym (add-one (t + 1))) (sym (add-one t))
 
 module _
-    (table offsets recording : List ℕ) (h : Shape) (size last : ℕ) (set : Setting table offsets recording h size last)
-    (scratch : List ℕ) (row : ℕ) (rows : PrunedRows table recording scratch row size last)
+    (table offsets recording : List ℕ) (g : Measures) (set : Setting table offsets recording g)
+    (scratch : List ℕ) (rows : PrunedRows table recording scratch (g .row) (g .size) (g .last))
   where
     -- the code's least move into the next row is that of the definition
-    least-move : (t n : ℕ) (heard : Option ℕ) → t < last → heard ≡ recordedAt (packetsAt recording) (t + 1) → getD (possible table recording t) n false ≡ true → n < size
-        → leastInto (stepAt table offsets h heard) scratch (8 * row * (t + 1)) size n
-        ≡ least.leastInto (sizeOf table) moveLimit (stepOf table recording) (reaching table recording (last - (t + 1)) (suc t)) t n
+    least-move : (t n : ℕ) (heard : Option ℕ) → t < g .last → heard ≡ recordedAt (packetsAt recording) (t + 1) → getD (possible table recording t) n false ≡ true → n < g .size
+        → leastInto (stepAt table offsets (g .shape) heard) scratch (8 * g .row * (t + 1)) (g .size) n
+        ≡ least.leastInto (sizeOf table) moveLimit (stepOf table recording) (reaching table recording (g .last - (t + 1)) (suc t)) t n
     least-move t n heard early q here l =
-        least-step table offsets recording h size last set heard scratch (8 * row * (t + 1)) (t + 1) t n q (add-one t) l
-        ∙ least-same (sizeOf table) moveLimit (stepOf table recording) (firstNumber (monitorAt table)) (last - (t + 1)) t n (inRow scratch (8 * row * (t + 1)) size)
-        (subst (λ (u : ℕ). PrunedBy table recording (last - (t + 1)) u (inRow scratch (8 * row * (t + 1)) size)) (add-one t)
-        (in-row-pruned table offsets recording h size last set scratch (8 * row * (t + 1)) (last - (t + 1)) (t + 1) (rows (t + 1) (omega arith))))
+        least-step table offsets recording g set heard scratch (8 * g .row * (t + 1)) (t + 1) t n q (add-one t) l
+        ∙ least-same (sizeOf table) moveLimit (stepOf table recording) (firstNumber (monitorAt table)) (g .last - (t + 1)) t n (inRow scratch (8 * g .row * (t + 1)) (g .size))
+        (subst (λ (u : ℕ). PrunedBy table recording (g .last - (t + 1)) u (inRow scratch (8 * g .row * (t + 1)) (g .size))) (add-one t)
+        (in-row-pruned table offsets recording g set scratch (8 * g .row * (t + 1)) (g .last - (t + 1)) (t + 1) (rows (t + 1) (omega arith))))
         (omega (arith, set .whole)) here
 
-    pub leading : (t n j : ℕ) (heard : Option ℕ) (k : ℕ) → t < last → heard ≡ recordedAt (packetsAt recording) (t + 1)
-        → k ≡ leastInto (stepAt table offsets h heard) scratch (8 * row * (t + 1)) size n → Stands table recording last t n j
-        → Leading table recording last t n k heard (stepAt table offsets h heard n k)
+    pub leading : (t n j : ℕ) (heard : Option ℕ) (k : ℕ) → t < g .last → heard ≡ recordedAt (packetsAt recording) (t + 1)
+        → k ≡ leastInto (stepAt table offsets (g .shape) heard) scratch (8 * g .row * (t + 1)) (g .size) n → Stands table recording (g .last) t n j
+        → Leading table recording (g .last) t n k heard (stepAt table offsets (g .shape) heard n k)
     leading t n j heard k early q e stands =
         record {
           number = on .number;
-          arrives = ap (λ (o : Option ℕ). stepAt table offsets h o n k) q ∙ set .stepping (t + 1) n k below ∙ arrives;
+          arrives = ap (λ (o : Option ℕ). stepAt table offsets (g .shape) o n k) q ∙ set .stepping (t + 1) n k below ∙ arrives;
           few = omega (arith, same, on .few);
           fits = subst (λ (o : Option ℕ). Fits m o (moveOf k)) (sym q) (fits-number m (packetsAt recording) (t + 1) n k (on .number) arrives);
           here = subst (λ (u : ℕ). getD (possible table recording u) (on .number) false ≡ true) (sym (add-one t)) (on .here);
           alive = subst (λ (u : ℕ). getD (reaching table recording left u) (on .number) false ≡ true) (sym (add-one t)) (on .alive);
           split =
-              rows-split table recording last t n k (on .number) early (on .moves ∙ ap (λ (i : ℕ). i ∷ leastFrom (sizeOf table) moveLimit (stepOf table recording) left (suc t) (on .number)) (sym same))
-              ∙ ap (λ (o : Option ℕ). rowsBy m o (t + 1) (moveOf k) ++ rowsFrom table recording last (t + 1) (on .number)) (sym q);
+              rows-split table recording (g .last) t n k (on .number) early (on .moves ∙ ap (λ (i : ℕ). i ∷ leastFrom (sizeOf table) moveLimit (stepOf table recording) left (suc t) (on .number)) (sym same))
+              ∙ ap (λ (o : Option ℕ). rowsBy m o (t + 1) (moveOf k) ++ rowsFrom table recording (g .last) (t + 1) (on .number)) (sym q);
         }
       where
         m : Monitor
         m = monitorAt table
 
         left : ℕ
-        left = last - (t + 1)
+        left = g .last - (t + 1)
 
-        below : n < size
+        below : n < g .size
         below = omega (arith, set .whole, inside (sizeOf table) moveLimit (stepOf table recording) (firstNumber m) t n (stands .here))
 
         on : Next (sizeOf table) moveLimit (stepOf table recording) (firstNumber m) left t n (least.leastInto (sizeOf table) moveLimit (stepOf table recording) (reaching table recording left (suc t)) t n)
         on =
-            let more : last - t ≡ suc left = omega arith in
+            let more : g .last - t ≡ suc left = omega arith in
             next (sizeOf table) moveLimit (stepOf table recording) (firstNumber m) left t n (stands .here)
             (subst (λ (u : ℕ). getD (reaching table recording u t) n false ≡ true) more (stands .alive))
 
@@ -205,37 +206,37 @@ module _ {table recording : List ℕ} {last t n r : ℕ} {before after : List �
         }
 
 -- where the walk begins and ends
-module _ (table offsets recording : List ℕ) (h : Shape) (size last : ℕ) (set : Setting table offsets recording h size last) where
-  pub stands-first : 0 < count (possible table recording last) → Stands table recording last 0 (firstNumber (monitorAt table)) 0
+module _ (table offsets recording : List ℕ) (g : Measures) (set : Setting table offsets recording g) where
+  pub stands-first : 0 < count (possible table recording (g .last)) → Stands table recording (g .last) 0 (firstNumber (monitorAt table)) 0
   unfolding layer
   stands-first some-left =
       let m = monitorAt table in
       let step = stepOf table recording in
       let below : firstNumber m < sizeOf table = first-number-below (set .sane) in
-      let (z, l, member) = count-some (possible table recording last) some-left in
-      let (ks, long, leads) = layer-leads (sizeOf table) moveLimit step (firstNumber m) last z member in
-      let whole : last ≡ last - 0 = omega arith in
+      let (z, l, member) = count-some (possible table recording (g .last)) some-left in
+      let (ks, long, leads) = layer-leads (sizeOf table) moveLimit step (firstNumber m) (g .last) z member in
+      let whole : g .last ≡ g .last - 0 = omega arith in
       record {
         here = getD-set-same (replicate (sizeOf table) false) (firstNumber m) true false (omega (arith, length-replicate (sizeOf table) false));
-        alive = alive-carries (sizeOf table) moveLimit step (last - 0) 0 (firstNumber m) below .1 (ks, z, long ∙ whole, leads);
+        alive = alive-carries (sizeOf table) moveLimit step (g .last - 0) 0 (firstNumber m) below .1 (ks, z, long ∙ whole, leads);
         cursor = first-cursor m recording (set .sound .trace);
       }
 
-  pub rows-all : rowsFrom table recording last 0 (firstNumber (monitorAt table)) ≡ preferred (monitorAt table) (packetsAt recording)
+  pub rows-all : rowsFrom table recording (g .last) 0 (firstNumber (monitorAt table)) ≡ preferred (monitorAt table) (packetsAt recording)
   unfolding preferred
   rows-all =
-      let whole : last - 0 ≡ endOf (packetsAt recording) = omega (arith, set .end) in
+      let whole : g .last - 0 ≡ endOf (packetsAt recording) = omega (arith, set .end) in
       ap (λ (u : ℕ). rowsOf (monitorAt table) (packetsAt recording) 1 (leastFrom (sizeOf table) moveLimit (stepOf table recording) u 0 (firstNumber (monitorAt table)))) whole
       ∙ ap (rowsOf (monitorAt table) (packetsAt recording) 1) (sym (leastMoves-from (sizeOf table) moveLimit (stepOf table recording) (firstNumber (monitorAt table)) (endOf (packetsAt recording))))
 
-  pub rows-end : (n : ℕ) → rowsFrom table recording last last n ≡ []
+  pub rows-end : (n : ℕ) → rowsFrom table recording (g .last) (g .last) n ≡ []
   unfolding rowsOf
   rows-end n =
-      let none-left : last - last ≡ 0 = omega arith in
-      ap (λ (u : ℕ). rowsOf (monitorAt table) (packetsAt recording) (last + 1) (leastFrom (sizeOf table) moveLimit (stepOf table recording) u last n)) none-left
-      ∙ ap (rowsOf (monitorAt table) (packetsAt recording) (last + 1)) (leastFrom-zero (sizeOf table) moveLimit (stepOf table recording) last n)
+      let none-left : g .last - g .last ≡ 0 = omega arith in
+      ap (λ (u : ℕ). rowsOf (monitorAt table) (packetsAt recording) (g .last + 1) (leastFrom (sizeOf table) moveLimit (stepOf table recording) u (g .last) n)) none-left
+      ∙ ap (rowsOf (monitorAt table) (packetsAt recording) (g .last + 1)) (leastFrom-zero (sizeOf table) moveLimit (stepOf table recording) (g .last) n)
 
-  pub rows-fit : length (preferred (monitorAt table) (packetsAt recording)) ≤ last + length (packetsAt recording)
+  pub rows-fit : length (preferred (monitorAt table) (packetsAt recording)) ≤ g .last + length (packetsAt recording)
   unfolding preferred
   rows-fit =
       omega (
@@ -245,14 +246,14 @@ module _ (table offsets recording : List ℕ) (h : Shape) (size last : ℕ) (set
         length-least (sizeOf table) moveLimit (stepOf table recording) (firstNumber (monitorAt table)) (endOf (packetsAt recording)),
       )
 
-  pub walked-first : (room : List ℕ) → 5 ≤ length room → Walked table recording last 0 (firstNumber (monitorAt table)) 0 room room
+  pub walked-first : (room : List ℕ) → 5 ≤ length room → Walked table recording (g .last) 0 (firstNumber (monitorAt table)) 0 room room
   walked-first room l = record { rows = []; wrote = wrote-none 0 room (omega arith); whole = rows-all }
 
-  pub walked-all : {t n r : ℕ} {before after : List ℕ} → Walked table recording last t n r before after → t ≡ last
+  pub walked-all : {t n r : ℕ} {before after : List ℕ} → Walked table recording (g .last) t n r before after → t ≡ g .last
       → Wrote (preferred (monitorAt table) (packetsAt recording)) 0 r before after
   walked-all {t} {n} walked e =
       wrote-same
       (sym (append-nil (walked .rows))
-      ∙ ap (λ (l : List Row). walked .rows ++ l) (sym (ap (λ (u : ℕ). rowsFrom table recording last u n) e ∙ rows-end n))
+      ∙ ap (λ (l : List Row). walked .rows ++ l) (sym (ap (λ (u : ℕ). rowsFrom table recording (g .last) u n) e ∙ rows-end n))
       ∙ walked .whole)
       (walked .wrote)

@@ -17,7 +17,7 @@ use Rattle.model.proofs.LeastLaws.{alive, leastFrom}
 use Rattle.model.proofs.MoveRows.{marked}
 use Rattle.wire.specs.Placed.{placed}
 use Rattle.situation.specs.Rows.{Cursor}
-use Rattle.situation.specs.declared.Shape.{Shape}
+use Rattle.engine.specs.declared.measures.Measures.{Measures}
 use Rattle.engine.specs.Setting.{Setting}
 use Rattle.engine.specs.PruneRows.{PrunedRows}
 
@@ -25,12 +25,11 @@ use Rattle.engine.specs.PruneRows.{PrunedRows}
 pub record Triggers (table offsets : List ℕ) : Type 0 where
   pub trigger : (j : ℕ) (t : Transition) → getElem? (monitorAt table .transitions) j ≡ some t → byteAt table (getD offsets j 0 + 2) ≡ t .trigger
 
--- what a walk goes by: rows of the scratch, of at most 8,192 bytes, that are pruned
-pub record Ground (table offsets recording : List ℕ) (h : Shape) (scratch : List ℕ) (row size last : ℕ) : Type 0 where
-  pub set : Setting table offsets recording h size last
+-- what a walk goes by: pruned rows of the scratch
+pub record Ground (table offsets recording scratch : List ℕ) (g : Measures) : Type 0 where
+  pub setting : Setting table offsets recording g
   pub triggers : Triggers table offsets
-  pub pruned : PrunedRows table recording scratch row size last
-  pub small : row ≤ 8192
+  pub pruned : PrunedRows table recording scratch (g .row) (g .size) (g .last)
 
 -- rows stand in the room from row r on, and next is the number of the row behind them
 pub record Wrote (rows : List Row) (r next : ℕ) (before after : List ℕ) : Type 0 where

@@ -1,4 +1,5 @@
 // The walk along the least moves, whose rows are the preferred witness.
+use crate::measures::Measures;
 use situation::Arrival;
 use situation::Heard;
 use situation::Shape;
@@ -12,8 +13,8 @@ ghost use mathlib.Core.List.{[], _∷_};
 ghost use mathlib.Core.Option.{some};
 ghost use lib.ListN.{length};
 ghost use Rattle.model.specs.Table.{monitorAt};
-ghost use Rattle.model.specs.Recording.{packetsAt, endOf};
-ghost use Rattle.model.specs.Situation.{triggerOf, moveOf, firstNumber};
+ghost use Rattle.model.specs.Recording.{packetsAt};
+ghost use Rattle.model.specs.Situation.{triggerOf, moveOf};
 ghost use Rattle.model.specs.Layers.{count};
 ghost use Rattle.model.specs.Room.{over};
 ghost use Rattle.model.specs.Validation.{addedRow, rowsBy, possibleAfter, preferred};
@@ -146,27 +147,26 @@ fn walk_on<'a>(
     table: &'a [u8],
     offsets: &'a [u16],
     recording: &'a [u8],
-    h: Shape,
+    g: Measures,
     scratch: &'a [u8],
-    row: usize,
-    size: usize,
     room: &mut [u8],
     t: usize,
     at: Place,
 ) -> Place
-    requires { ⌜ Ground (now table) (now offsets) (now recording) h (now scratch) row size (endOf (packetsAt (now recording))) × (t < endOf (packetsAt (now recording))) × Stands (now table) (now recording) (endOf (packetsAt (now recording))) t (at .number) (at .cursor) × Room (rowsFrom (now table) (now recording) (endOf (packetsAt (now recording))) t (at .number)) (at .rows) (now room) ⌝ }
-    ensures { λ r. ⌜ WalkedOn (now (table .entry)) (now (recording .entry)) (endOf (packetsAt (now (recording .entry)))) t (at .number) (at .rows) (r .number) (r .cursor) (r .rows) (now (room .entry)) (now (room .exit)) ⌝ }
+    requires { ⌜ Ground (now table) (now offsets) (now recording) (now scratch) g × (t < g .last) × Stands (now table) (now recording) (g .last) t (at .number) (at .cursor) × Room (rowsFrom (now table) (now recording) (g .last) t (at .number)) (at .rows) (now room) ⌝ }
+    ensures { λ r. ⌜ WalkedOn (now (table .entry)) (now (recording .entry)) (g .last) t (at .number) (at .rows) (r .number) (r .cursor) (r .rows) (now (room .entry)) (now (room .exit)) ⌝ }
 {
     let instant = t as u64 + 1;
     let heard = heard_at(recording, at.cursor, instant);
+    let h = g.shape;
     let least = least_move(
         table,
         offsets,
         h,
         heard,
         scratch,
-        8 * row * (t + 1),
-        size,
+        8 * g.row * (t + 1),
+        g.size,
         at.number,
     );
     let cursor = passed(recording, at.cursor, instant);
@@ -178,41 +178,26 @@ fn walk_on<'a>(
     }
 }
 
-// Writes the preferred witness into the room, along the pruned rows, from the first situation's number. The result is the number of its rows.
+// Writes the preferred witness into the room, along the pruned rows. The result is the number of its rows.
 pub(crate) fn walk<'a>(
     table: &'a [u8],
     offsets: &'a [u16],
     recording: &'a [u8],
-    h: Shape,
+    g: Measures,
     scratch: &'a [u8],
-    row: usize,
-    size: usize,
-    last: usize,
-    first: u64,
     room: &mut [u8],
 ) -> usize
-    requires { ⌜ Ground (now table) (now offsets) (now recording) h (now scratch) row size last × (0 < count (possibleAfter (monitorAt (now table)) (packetsAt (now recording)) last)) × (first ≡ firstNumber (monitorAt (now table))) × (5 + 5 * (last + length (packetsAt (now recording))) ≤ length (now room)) ⌝ }
+    requires { ⌜ Ground (now table) (now offsets) (now recording) (now scratch) g × (0 < count (possibleAfter (monitorAt (now table)) (packetsAt (now recording)) (g .last))) × (5 + 5 * (g .last + length (packetsAt (now recording))) ≤ length (now room)) ⌝ }
     ensures { λ r. ⌜ (r ≡ length (preferred (monitorAt (now (table .entry))) (packetsAt (now (recording .entry))))) × (now (room .exit) ≡ over (witnessBytes (preferred (monitorAt (now (table .entry))) (packetsAt (now (recording .entry))))) (now (room .entry))) ⌝ }
 {
     let mut at = Place {
-        number: first,
+        number: g.first,
         cursor: 0,
         rows: 0,
     };
     let mut t = 0;
-    while t < last {
-        at = walk_on(
-            table,
-            offsets,
-            recording,
-            h,
-            scratch,
-            row,
-            size,
-            room,
-            t,
-            at,
-        );
+    while t < g.last {
+        at = walk_on(table, offsets, recording, g, scratch, room, t, at);
         t += 1;
     }
     let rows = at.rows;
