@@ -1,4 +1,4 @@
--- Rows written into a room one behind the other, and the header before them.
+-- Rows written into a room one behind the other, and the frame before them.
 use Prim.Native.Nat.{ℕ, _+_, _*_, _≤_}
 use native.Mathlib.Omega.{arith}
 use mathlib.Core.Path.{_≡_, refl, sym, ap, ap₂, subst, _∙_}
@@ -9,7 +9,8 @@ use Rattle.model.specs.Room.{over}
 use Rattle.model.specs.Witness.{Row, rowBytes, rowsBytes, witnessBytes}
 use Rattle.wire.specs.Placed.{placed}
 use Rattle.wire.proofs.Room.{placed-fits}
-use Rattle.engine.specs.WalkRows.{Wrote, Room, header}
+use Rattle.frame.specs.Framed.{rowsFrame}
+use Rattle.engine.specs.WalkRows.{Wrote, Room}
 
 -- the bytes of rows
 
@@ -97,10 +98,10 @@ pub room-behind : {a : List Row} (b : List Row) {r n : ℕ} {x y : List ℕ} →
 room-behind {a} b {r} {n} {x} {y} w h =
     omega (arith, length-append a b, w .count, wrote-length w (omega (arith, length-append a b)))
 
--- all rows and the header
-pub wrote-headed : {a : List Row} {n : ℕ} {x y : List ℕ} → Wrote a 0 n x y → Room a 0 x → placed (header n) 0 y ≡ over (witnessBytes a) x
+-- all rows and the frame
+pub wrote-framed : {a : List Row} {n : ℕ} {x y : List ℕ} → Wrote a 0 n x y → Room a 0 x → placed (rowsFrame (3 + 5 * n) n) 0 y ≡ over (witnessBytes a) x
 unfolding witnessBytes
-wrote-headed {a} {n} {x} {y} w h =
+wrote-framed {a} {n} {x} {y} w h =
     let all : n ≡ length a = omega (arith, w .count) in
-    ap₂ (λ (k : ℕ) (l : List ℕ). placed (header k) 0 l) all (w .bytes)
-    ∙ placed-before (header (length a)) (rowsBytes a) x (omega (arith, rows-bytes-length a))
+    ap₂ (λ (k : ℕ) (l : List ℕ). placed (rowsFrame (3 + 5 * k) k) 0 l) all (w .bytes)
+    ∙ placed-before (rowsFrame (3 + 5 * length a) (length a)) (rowsBytes a) x (omega (arith, rows-bytes-length a))

@@ -14,7 +14,7 @@ use Rattle.model.specs.Recording.{packetsAt, endOf}
 use Rattle.model.specs.Layers.{count, layer, arrived}
 use Rattle.model.specs.Situation.{moveOf, moveLimit, recordedAt, firstNumber}
 use Rattle.model.specs.Validation.{rowsBy, rowsOf, movesOf, preferred}
-use Rattle.model.specs.Witness.{Row}
+use Rattle.model.specs.Witness.{Row, witnessLimit}
 use Rattle.model.specs.declared.Situation.{Situation}
 use Rattle.model.proofs.SetLaws.{member-within, leadsInto-member, count-some}
 use Rattle.model.proofs.LayerLaws.{length-layer, layer-suc, layer-leads}
@@ -190,6 +190,10 @@ module _ {table recording : List ℕ} {last t n r : ℕ} {before after : List �
     pub room-left : Room (rowsFrom table recording last t n) r after
     room-left = room-behind (rowsFrom table recording last t n) (walked .wrote) (omega (arith, ap length (walked .whole)))
 
+    pub walked-few : r ≤ length (preferred (monitorAt table) (packetsAt recording))
+    walked-few =
+        omega (arith, walked .wrote .count, ap length (walked .whole), length-append (walked .rows) (rowsFrom table recording last t n))
+
     pub walked-length : length after ≡ length before
     walked-length = wrote-length (walked .wrote) (omega (arith, ap length (walked .whole), length-append (walked .rows) (rowsFrom table recording last t n)))
 
@@ -245,6 +249,10 @@ module _ (table offsets recording : List ℕ) (g : Measures) (set : Setting tabl
         rows-short (monitorAt table) (packetsAt recording) (set .sound) (movesOf (monitorAt table) (packetsAt recording)),
         length-least (sizeOf table) moveLimit (stepOf table recording) (firstNumber (monitorAt table)) (endOf (packetsAt recording)),
       )
+
+  -- a witness has at most 4,096 + 512 rows
+  pub rows-few : length (preferred (monitorAt table) (packetsAt recording)) ≤ witnessLimit
+  rows-few = omega (arith, rows-fit)
 
   pub walked-first : (room : List ℕ) → 5 ≤ length room → Walked table recording (g .last) 0 (firstNumber (monitorAt table)) 0 room room
   walked-first room l = record { rows = []; wrote = wrote-none 0 room (omega arith); whole = rows-all }

@@ -6,7 +6,7 @@ use mathlib.Core.Bool.{true, false}
 use mathlib.Core.Option.{Option, none, some}
 use lib.ListN.{length, getD, getElem?}
 use Rattle.model.specs.Size
-use Rattle.model.specs.Bytes.{byteAt, wordBytes}
+use Rattle.model.specs.Bytes.{byteAt}
 use Rattle.model.specs.Monitor.{Transition}
 use Rattle.model.specs.Table.{monitorAt}
 use Rattle.model.specs.Recording.{packetsAt}
@@ -44,10 +44,6 @@ Room rows r room = 5 + 5 * (r + length rows) ≤ length room
 abbrev pub heardRow : (mark t : ℕ) → Option ℕ → (transition : ℕ) → List Row
 heardRow mark t none j = []
 heardRow mark t (some k) j = marked mark t k j ∷ []
-
--- what stands before the rows: the length of what follows it, the version, the number of rows
-abbrev pub header : ℕ → List ℕ
-header n = wordBytes (3 + 5 * n) ++ (1 ∷ []) ++ wordBytes n
 
 -- the walk stands after instant t at number n, from which the end, last, can be reached, and j rows are recorded up to t
 pub record Stands (table recording : List ℕ) (last t n j : ℕ) : Type 0 where

@@ -1,5 +1,6 @@
 // The walk along the least moves, whose rows are the preferred witness.
 use crate::measures::Measures;
+use frame::frame_bytes;
 use situation::Arrival;
 use situation::Heard;
 use situation::Shape;
@@ -7,6 +8,11 @@ use situation::numbering::situation_of;
 use situation::rows::heard_at;
 use situation::rows::passed;
 use situation::step::arrive;
+use wire::byte;
+use wire::place;
+use wire::short;
+use witness::Entry;
+use witness::row_bytes;
 ghost use Prim.Native.Nat.{ℕ, _+_, _*_, _≤_, _<_};
 ghost use mathlib.Core.Path.{_≡_};
 ghost use mathlib.Core.List.{[], _∷_};
@@ -18,12 +24,14 @@ ghost use Rattle.model.specs.Situation.{triggerOf, moveOf};
 ghost use Rattle.model.specs.Layers.{count};
 ghost use Rattle.model.specs.Room.{over};
 ghost use Rattle.model.specs.Validation.{addedRow, rowsBy, possibleAfter, preferred};
-ghost use Rattle.model.specs.Witness.{witnessBytes};
-ghost use Rattle.model.proofs.MoveRows.{marked, Fits};
+ghost use Rattle.model.specs.Witness.{witnessLimit, witnessBytes};
+ghost use Rattle.model.proofs.MoveRows.{Fits};
 ghost use Rattle.wire.specs.Placed.{placed};
+ghost use Rattle.frame.specs.Framed.{rowsFrame};
+ghost use Rattle.witness.specs.Rows.{rowOf};
 ghost use Rattle.situation.specs.Rows.{heardOf};
 ghost use Rattle.layers.specs.Advance.{stepAt, leastInto};
-ghost use Rattle.engine.specs.WalkRows.{Triggers, Ground, Wrote, Room, heardRow, header, Stands, rowsFrom, WalkedOn};
+ghost use Rattle.engine.specs.WalkRows.{Triggers, Ground, Wrote, Room, heardRow, Stands, rowsFrom, WalkedOn};
 
 // A least move, and the number that it leads to.
 struct Least {
@@ -39,28 +47,31 @@ struct Place {
 }
 
 // Writes row number r and gives the next row's number, as the functions below do.
-fn put_row(room: &mut [u8], r: usize, mark: u8, t: u64, kind: u8, transition: u8) -> usize
-    requires { ⌜ Room (marked mark t kind transition ∷ []) r (now room) ⌝ }
-    ensures { λ n. ⌜ Wrote (marked mark t kind transition ∷ []) r n (now (room .entry)) (now (room .exit)) ⌝ }
+fn put_row(room: &mut [u8], r: usize, row: Entry) -> usize
+    requires { ⌜ Room (rowOf row ∷ []) r (now room) ⌝ }
+    ensures { λ n. ⌜ Wrote (rowOf row ∷ []) r n (now (room .entry)) (now (room .exit)) ⌝ }
 {
-    let bytes = [
-        mark,
-        (t / 256 % 256) as u8,
-        (t % 256) as u8,
-        kind,
-        transition,
-    ];
-    wire::place(&bytes, room, 5 + 5 * r);
+    let bytes = row_bytes(row);
+    place(&bytes, room, 5 + 5 * r);
     r + 1
 }
 
 // A kept or a removed row, if a row is recorded.
-fn put_heard(room: &mut [u8], r: usize, mark: u8, t: u64, heard: Heard, transition: u8) -> usize
+fn put_heard(room: &mut [u8], r: usize, mark: u8, t: u16, heard: Heard, transition: u8) -> usize
     requires { ⌜ Room (heardRow mark t (heardOf heard) transition) r (now room) ⌝ }
     ensures { λ n. ⌜ Wrote (heardRow mark t (heardOf heard) transition) r n (now (room .entry)) (now (room .exit)) ⌝ }
 {
     match heard {
-        Heard::Kind(kind) => put_row(room, r, mark, t, kind, transition),
+        Heard::Kind(kind) => put_row(
+            room,
+            r,
+            Entry {
+                mark,
+                time: t,
+                kind,
+                transition,
+            },
+        ),
         Heard::Nothing => r,
     }
 }
@@ -71,14 +82,23 @@ fn put_added<'a>(
     offsets: &'a [u16],
     room: &mut [u8],
     r: usize,
-    t: u64,
+    t: u16,
     j: usize,
 ) -> usize
     requires { ⌜ Triggers (now table) (now offsets) × (j < 256) × ((a : ℕ) × (triggerOf (monitorAt (now table)) j ≡ some a)) × Room (addedRow t (triggerOf (monitorAt (now table)) j) j) r (now room) ⌝ }
     ensures { λ n. ⌜ Wrote (addedRow t (triggerOf (monitorAt (now (table .entry))) j) j) r n (now (room .entry)) (now (room .exit)) ⌝ }
 {
-    let kind = wire::byte(table, wire::short(offsets, j) as usize + 2);
-    put_row(room, r, 2, t, kind, j as u8)
+    let kind = byte(table, short(offsets, j) as usize + 2);
+    put_row(
+        room,
+        r,
+        Entry {
+            mark: 2,
+            time: t,
+            kind,
+            transition: j as u8,
+        },
+    )
 }
 
 // The rows of move k at instant t.
@@ -87,7 +107,7 @@ fn put_move<'a>(
     offsets: &'a [u16],
     room: &mut [u8],
     r: usize,
-    t: u64,
+    t: u16,
     heard: Heard,
     k: usize,
 ) -> usize
@@ -106,18 +126,11 @@ fn put_move<'a>(
 
 // What stands before the rows.
 fn put_header(room: &mut [u8], rows: usize)
-    requires { ⌜ 5 + 5 * rows ≤ length (now room) ⌝ }
-    ensures { λ n. ⌜ now (room .exit) ≡ placed (header rows) 0 (now (room .entry)) ⌝ }
+    requires { ⌜ rows ≤ witnessLimit ⌝ }
+    ensures { λ n. ⌜ now (room .exit) ≡ placed (rowsFrame (3 + 5 * rows) rows) 0 (now (room .entry)) ⌝ }
 {
-    let length = 3 + 5 * rows;
-    let bytes = [
-        (length / 256 % 256) as u8,
-        (length % 256) as u8,
-        1,
-        (rows / 256 % 256) as u8,
-        (rows % 256) as u8,
-    ];
-    wire::place(&bytes, room, 0);
+    let frame = frame_bytes((3 + 5 * rows) as u16, rows as u16);
+    place(&frame, room, 0);
 }
 
 // The least move from situation n into the row at bit to.
@@ -170,7 +183,15 @@ fn walk_on<'a>(
         at.number,
     );
     let cursor = passed(recording, at.cursor, instant);
-    let rows = put_move(table, offsets, room, at.rows, instant, heard, least.k);
+    let rows = put_move(
+        table,
+        offsets,
+        room,
+        at.rows,
+        instant as u16,
+        heard,
+        least.k,
+    );
     Place {
         number: least.to,
         cursor,

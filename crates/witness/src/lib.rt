@@ -199,7 +199,7 @@ pub fn read_witness(b: &[u8]) -> WitnessReading
     WitnessReading { answer, parts }
 }
 
-fn row_bytes(e: Entry) -> [u8; 5]
+pub fn row_bytes(e: Entry) -> [u8; 5]
     ensures { λ s. ⌜ s ≡ rowBytes (rowOf e) ⌝ }
 {
     [

@@ -55,6 +55,9 @@ least-move-requires c κs = let led = on (c .before .before) _ refl in (led .num
 passed-requires : tie.Need-passed-requires
 passed-requires c κs = search needs
 
+cast-put-move : tie.Need-cast-put-move
+cast-put-move c = search needs
+
 put-move-requires : tie.Need-put-move-requires
 put-move-requires c κs =
     let least = c .before .before in
@@ -98,6 +101,7 @@ walk-on-spec =
     mul-least-move-2
     least-move-requires
     passed-requires
+    cast-put-move
     put-move-requires
     same-length
     returns)
