@@ -27,7 +27,7 @@ use Rattle.situation.proofs.Cursors.{heard-recorded}
 use Rattle.layers.specs.Advance.{stepAt, inRow, leastInto}
 use Rattle.engine.specs.declared.measures.Measures.{Measures}
 use Rattle.engine.specs.Setting.{Setting, LayersUpTo, RowHolds}
-use Rattle.engine.specs.PruneRows.{backBy, stays, RowCut, PrunedAt, PrunedRow}
+use Rattle.engine.specs.PruneRows.{cursorBefore, stays, RowCut, PrunedAt, PrunedRow}
 use Rattle.engine.proofs.PruneCursors.{last-cursor, back-cursor}
 
 -- rows do not meet
@@ -161,7 +161,7 @@ module _ (table offsets recording : List ℕ) (g : Measures) (set : Setting tabl
 
   -- one turn: the cursor and the rows go back by an instant
   pub pruned-turn : (j now t : ℕ) (s r : List ℕ) → 0 < t → t ≤ g .last → Cursor recording j (t + 1) → PrunedTo table recording s (g .row) (g .size) (g .last) t
-      → now ≡ backBy recording j (t - 1 + 1)
+      → now ≡ cursorBefore recording j (t - 1 + 1)
       → RowCut (stepAt table offsets (g .shape) (heardAt recording now (t - 1 + 1))) (8 * g .row * (t - 1)) (8 * g .row * (t - 1 + 1)) (g .size) (g .size) s r
       → Cursor recording now (t - 1 + 1) × PrunedTo table recording r (g .row) (g .size) (g .last) (t - 1)
   pruned-turn j now t s r some l at done e cut =

@@ -31,7 +31,7 @@ use Rattle.layers.specs.Advance.{stepAt, inRow, leastInto}
 use Rattle.engine.specs.declared.measures.Measures.{Measures}
 use Rattle.engine.specs.Setting.{Setting}
 use Rattle.engine.specs.PruneRows.{PrunedRows}
-use Rattle.engine.specs.WalkRows.{Wrote, Room, Stands, rowsFrom, WalkedOn}
+use Rattle.engine.specs.WalkRows.{RowsPut, Room, Stands, rowsAfter, WalkedOn}
 use Rattle.engine.proofs.PruneLayers.{sizeOf, stepOf, possible, reaching, PrunedBy, in-row-pruned, least-step}
 use Rattle.engine.proofs.WalkRoom.{wrote-none, wrote-same, wrote-more, wrote-length, room-behind}
 use Rattle.engine.proofs.WalkMoves.{fits-number}
@@ -89,15 +89,15 @@ pub record Leading (table recording : List ℕ) (last t n k : ℕ) (heard : Opti
   pub fits : Fits (monitorAt table) heard (moveOf k)
   pub here : getD (possible table recording (t + 1)) number false ≡ true
   pub alive : getD (reaching table recording (last - (t + 1)) (t + 1)) number false ≡ true
-  pub split : rowsFrom table recording last t n ≡ rowsBy (monitorAt table) heard (t + 1) (moveOf k) ++ rowsFrom table recording last (t + 1) number
+  pub split : rowsAfter table recording last t n ≡ rowsBy (monitorAt table) heard (t + 1) (moveOf k) ++ rowsAfter table recording last (t + 1) number
 
 module _ (table recording : List ℕ) (last : ℕ) where
   -- the rows of the first of the least moves, and the rows of the others
   rows-split : (t n k x : ℕ) → t < last
       → leastFrom (sizeOf table) moveLimit (stepOf table recording) (suc (last - (t + 1))) t n
       ≡ k ∷ leastFrom (sizeOf table) moveLimit (stepOf table recording) (last - (t + 1)) (suc t) x
-      → rowsFrom table recording last t n
-      ≡ rowsBy (monitorAt table) (recordedAt (packetsAt recording) (t + 1)) (t + 1) (moveOf k) ++ rowsFrom table recording last (t + 1) x
+      → rowsAfter table recording last t n
+      ≡ rowsBy (monitorAt table) (recordedAt (packetsAt recording) (t + 1)) (t + 1) (moveOf k) ++ rowsAfter table recording last (t + 1) x
   unfolding rowsOf
   rows-split t n k x l e =
       let m = monitorAt table in
@@ -136,7 +136,7 @@ module _
           alive = subst (λ (u : ℕ). getD (reaching table recording left u) (on .number) false ≡ true) (sym (add-one t)) (on .alive);
           split =
               rows-split table recording (g .last) t n k (on .number) early (on .moves ∙ ap (λ (i : ℕ). i ∷ leastFrom (sizeOf table) moveLimit (stepOf table recording) left (suc t) (on .number)) (sym same))
-              ∙ ap (λ (o : Option ℕ). rowsBy m o (t + 1) (moveOf k) ++ rowsFrom table recording (g .last) (t + 1) (on .number)) (sym q);
+              ∙ ap (λ (o : Option ℕ). rowsBy m o (t + 1) (moveOf k) ++ rowsAfter table recording (g .last) (t + 1) (on .number)) (sym q);
         }
       where
         m : Monitor
@@ -162,7 +162,7 @@ module _
 
 pub onward : {table recording : List ℕ} {last t n k : ℕ} {heard to : Option ℕ} → Leading table recording last t n k heard to
     → {x j r next : ℕ} {before after : List ℕ} → to ≡ some x → Cursor recording j (t + 1 + 1)
-    → Wrote (rowsBy (monitorAt table) heard (t + 1) (moveOf k)) r next before after
+    → RowsPut (rowsBy (monitorAt table) heard (t + 1) (moveOf k)) r next before after
     → WalkedOn table recording last t n r x j next before after
 onward {table} {recording} {last} {t} {n} {k} {heard} {to} on {x} {j} {r} {next} {before} {after} e cursor wrote =
     let same : on .number ≡ x = Option·some-injective (on .number) x (sym (on .arrives) ∙ e) in
@@ -175,37 +175,37 @@ onward {table} {recording} {last} {t} {n} {k} {heard} {to} on {x} {j} {r} {next}
             cursor = cursor;
           };
       wrote = wrote;
-      split = on .split ∙ ap (λ (z : ℕ). rowsBy (monitorAt table) heard (t + 1) (moveOf k) ++ rowsFrom table recording last (t + 1) z) same;
+      split = on .split ∙ ap (λ (z : ℕ). rowsBy (monitorAt table) heard (t + 1) (moveOf k) ++ rowsAfter table recording last (t + 1) z) same;
     }
 
 -- the rows written up to instant t, and those to come from number n, are the preferred witness
 pub record Walked (table recording : List ℕ) (last t n r : ℕ) (before after : List ℕ) : Type 0 where
   pub rows : List Row
-  pub wrote : Wrote rows 0 r before after
-  pub whole : rows ++ rowsFrom table recording last t n ≡ preferred (monitorAt table) (packetsAt recording)
+  pub wrote : RowsPut rows 0 r before after
+  pub whole : rows ++ rowsAfter table recording last t n ≡ preferred (monitorAt table) (packetsAt recording)
 
 module _ {table recording : List ℕ} {last t n r : ℕ} {before after : List ℕ} (walked : Walked table recording last t n r before after)
     (room : Room (preferred (monitorAt table) (packetsAt recording)) 0 before)
   where
-    pub room-left : Room (rowsFrom table recording last t n) r after
-    room-left = room-behind (rowsFrom table recording last t n) (walked .wrote) (omega (arith, ap length (walked .whole)))
+    pub room-left : Room (rowsAfter table recording last t n) r after
+    room-left = room-behind (rowsAfter table recording last t n) (walked .wrote) (omega (arith, ap length (walked .whole)))
 
     pub walked-few : r ≤ length (preferred (monitorAt table) (packetsAt recording))
     walked-few =
-        omega (arith, walked .wrote .count, ap length (walked .whole), length-append (walked .rows) (rowsFrom table recording last t n))
+        omega (arith, walked .wrote .count, ap length (walked .whole), length-append (walked .rows) (rowsAfter table recording last t n))
 
     pub walked-length : length after ≡ length before
-    walked-length = wrote-length (walked .wrote) (omega (arith, ap length (walked .whole), length-append (walked .rows) (rowsFrom table recording last t n)))
+    walked-length = wrote-length (walked .wrote) (omega (arith, ap length (walked .whole), length-append (walked .rows) (rowsAfter table recording last t n)))
 
     pub walked-on : {x j next : ℕ} {then : List ℕ} → WalkedOn table recording last t n r x j next after then → Walked table recording last (t + 1) x next before then
     walked-on {x} on =
-        let all : (walked .rows ++ on .rows) ++ rowsFrom table recording last (t + 1) x ≡ preferred (monitorAt table) (packetsAt recording) =
-        append-assoc (walked .rows) (on .rows) (rowsFrom table recording last (t + 1) x)
+        let all : (walked .rows ++ on .rows) ++ rowsAfter table recording last (t + 1) x ≡ preferred (monitorAt table) (packetsAt recording) =
+        append-assoc (walked .rows) (on .rows) (rowsAfter table recording last (t + 1) x)
         ∙ ap (λ (l : List Row). walked .rows ++ l) (sym (on .split))
         ∙ walked .whole in
         record {
           rows = walked .rows ++ on .rows;
-          wrote = wrote-more (omega (arith, ap length all, length-append (walked .rows ++ on .rows) (rowsFrom table recording last (t + 1) x))) (walked .wrote) (on .wrote);
+          wrote = wrote-more (omega (arith, ap length all, length-append (walked .rows ++ on .rows) (rowsAfter table recording last (t + 1) x))) (walked .wrote) (on .wrote);
           whole = all;
         }
 
@@ -226,14 +226,14 @@ module _ (table offsets recording : List ℕ) (g : Measures) (set : Setting tabl
         cursor = first-cursor m recording (set .sound .trace);
       }
 
-  pub rows-all : rowsFrom table recording (g .last) 0 (firstNumber (monitorAt table)) ≡ preferred (monitorAt table) (packetsAt recording)
+  pub rows-all : rowsAfter table recording (g .last) 0 (firstNumber (monitorAt table)) ≡ preferred (monitorAt table) (packetsAt recording)
   unfolding preferred
   rows-all =
       let whole : g .last - 0 ≡ endOf (packetsAt recording) = omega (arith, set .end) in
       ap (λ (u : ℕ). rowsOf (monitorAt table) (packetsAt recording) 1 (leastFrom (sizeOf table) moveLimit (stepOf table recording) u 0 (firstNumber (monitorAt table)))) whole
       ∙ ap (rowsOf (monitorAt table) (packetsAt recording) 1) (sym (leastMoves-from (sizeOf table) moveLimit (stepOf table recording) (firstNumber (monitorAt table)) (endOf (packetsAt recording))))
 
-  pub rows-end : (n : ℕ) → rowsFrom table recording (g .last) (g .last) n ≡ []
+  pub rows-end : (n : ℕ) → rowsAfter table recording (g .last) (g .last) n ≡ []
   unfolding rowsOf
   rows-end n =
       let none-left : g .last - g .last ≡ 0 = omega arith in
@@ -258,10 +258,10 @@ module _ (table offsets recording : List ℕ) (g : Measures) (set : Setting tabl
   walked-first room l = record { rows = []; wrote = wrote-none 0 room (omega arith); whole = rows-all }
 
   pub walked-all : {t n r : ℕ} {before after : List ℕ} → Walked table recording (g .last) t n r before after → t ≡ g .last
-      → Wrote (preferred (monitorAt table) (packetsAt recording)) 0 r before after
+      → RowsPut (preferred (monitorAt table) (packetsAt recording)) 0 r before after
   walked-all {t} {n} walked e =
       wrote-same
       (sym (append-nil (walked .rows))
-      ∙ ap (λ (l : List Row). walked .rows ++ l) (sym (ap (λ (u : ℕ). rowsFrom table recording (g .last) u n) e ∙ rows-end n))
+      ∙ ap (λ (l : List Row). walked .rows ++ l) (sym (ap (λ (u : ℕ). rowsAfter table recording (g .last) u n) e ∙ rows-end n))
       ∙ walked .whole)
       (walked .wrote)

@@ -32,7 +32,7 @@ pub record Ground (table offsets recording scratch : List ℕ) (g : Measures) : 
   pub pruned : PrunedRows table recording scratch (g .row) (g .size) (g .last)
 
 -- rows stand in the room from row r on, and next is the number of the row behind them
-pub record Wrote (rows : List Row) (r next : ℕ) (before after : List ℕ) : Type 0 where
+pub record RowsPut (rows : List Row) (r next : ℕ) (before after : List ℕ) : Type 0 where
   pub bytes : after ≡ placed (rowsBytes rows) (5 + 5 * r) before
   pub count : next ≡ r + length rows
 
@@ -52,8 +52,8 @@ pub record Stands (table recording : List ℕ) (last t n j : ℕ) : Type 0 where
   pub cursor : Cursor recording j (t + 1)
 
 -- the rows of the least moves from number n after instant t
-abbrev pub rowsFrom : (table recording : List ℕ) → (last t n : ℕ) → List Row
-rowsFrom table recording last t n =
+abbrev pub rowsAfter : (table recording : List ℕ) → (last t n : ℕ) → List Row
+rowsAfter table recording last t n =
     let m = monitorAt table in
     let packets = packetsAt recording in
     rowsOf m packets (t + 1) (leastFrom (Size.size m) moveLimit (stepNumber m packets) (last - t) t n)
@@ -62,5 +62,5 @@ rowsFrom table recording last t n =
 pub record WalkedOn (table recording : List ℕ) (last t n r x j next : ℕ) (before after : List ℕ) : Type 0 where
   pub rows : List Row
   pub stands : Stands table recording last (t + 1) x j
-  pub wrote : Wrote rows r next before after
-  pub split : rowsFrom table recording last t n ≡ rows ++ rowsFrom table recording last (t + 1) x
+  pub wrote : RowsPut rows r next before after
+  pub split : rowsAfter table recording last t n ≡ rows ++ rowsAfter table recording last (t + 1) x

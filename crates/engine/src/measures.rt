@@ -34,7 +34,7 @@ fn last_time(recording: &[u8]) -> usize
     word(recording, 5 + 3 * (count - 1)) as usize
 }
 
-// What a clock with so many values is written as just before instant 1, when it is 1.
+// How a clock is written just before instant 1: as 1, or as 0 where that is its only value.
 fn first_clock(values: u16) -> u16
     ensures { λ r. ⌜ r ≡ min 1 (values - 1) ⌝ }
 {

@@ -9,11 +9,13 @@ ghost use lib.ListN.{length};
 ghost use Rattle.situation.specs.Rows.{heardAt, heardOf};
 ghost use Rattle.layers.specs.Advance.{stepAt};
 ghost use Rattle.engine.specs.Setting.{Setting, LayersUpTo};
-ghost use Rattle.engine.specs.PruneRows.{backBy, CutIn, RowCut, PrunedRows};
+ghost use Rattle.engine.specs.PruneRows.{cursorBefore, CutIn, RowCut, PrunedRows};
+
+const MOVE_LIMIT: usize = 129;
 
 // The cursor of instant t, from that of the next instant.
 fn back(recording: &[u8], cursor: usize, t: u64) -> usize
-    ensures { λ r. ⌜ r ≡ backBy (now (recording .entry)) cursor t ⌝ }
+    ensures { λ r. ⌜ r ≡ cursorBefore (now (recording .entry)) cursor t ⌝ }
 {
     if cursor == 0 {
         return 0;
@@ -42,7 +44,7 @@ fn cut_stuck<'a>(
     if !bits::test(scratch, from + n) {
         return;
     }
-    if layers::least_into(table, offsets, h, heard, scratch, to, size, n as u64) < 129 {
+    if layers::least_into(table, offsets, h, heard, scratch, to, size, n as u64) < MOVE_LIMIT {
         return;
     }
     bits::cut(scratch, from + n);
@@ -80,7 +82,7 @@ fn prune_at<'a>(
     t: usize,
 ) -> usize
     requires { ⌜ Setting (now table) (now offsets) (now recording) g × (t < g .last) ⌝ }
-    ensures { λ r. ⌜ (r ≡ backBy (now (recording .entry)) cursor (t + 1)) × RowCut (stepAt (now (table .entry)) (now (offsets .entry)) (g .shape) (heardAt (now (recording .entry)) r (t + 1))) (8 * g .row * t) (8 * g .row * (t + 1)) (g .size) (g .size) (now (scratch .entry)) (now (scratch .exit)) ⌝ }
+    ensures { λ r. ⌜ (r ≡ cursorBefore (now (recording .entry)) cursor (t + 1)) × RowCut (stepAt (now (table .entry)) (now (offsets .entry)) (g .shape) (heardAt (now (recording .entry)) r (t + 1))) (8 * g .row * t) (8 * g .row * (t + 1)) (g .size) (g .size) (now (scratch .entry)) (now (scratch .exit)) ⌝ }
 {
     let instant = t as u64 + 1;
     let before = back(recording, cursor, instant);

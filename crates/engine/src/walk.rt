@@ -20,7 +20,7 @@ ghost use mathlib.Core.Option.{some};
 ghost use lib.ListN.{length};
 ghost use Rattle.model.specs.Table.{monitorAt};
 ghost use Rattle.model.specs.Recording.{packetsAt};
-ghost use Rattle.model.specs.Situation.{triggerOf, moveOf};
+ghost use Rattle.model.specs.Situation.{triggerOf, moveLimit, moveOf};
 ghost use Rattle.model.specs.Layers.{count};
 ghost use Rattle.model.specs.Room.{over};
 ghost use Rattle.model.specs.Validation.{addedRow, rowsBy, possibleAfter, preferred};
@@ -31,7 +31,19 @@ ghost use Rattle.frame.specs.Framed.{rowsFrame};
 ghost use Rattle.witness.specs.Rows.{rowOf};
 ghost use Rattle.situation.specs.Rows.{heardOf};
 ghost use Rattle.layers.specs.Advance.{stepAt, leastInto};
-ghost use Rattle.engine.specs.WalkRows.{Triggers, Ground, Wrote, Room, heardRow, Stands, rowsFrom, WalkedOn};
+ghost use Rattle.engine.specs.WalkRows.{Triggers, Ground, RowsPut, Room, heardRow, Stands, rowsAfter, WalkedOn};
+
+const KEPT: u8 = 0;
+
+const REMOVED: u8 = 1;
+
+const ADDED: u8 = 2;
+
+const NO_TRANSITION: u8 = 255;
+
+const REST: usize = 64;
+
+const FIRST_ADD: usize = 65;
 
 // A least move, and the number that it leads to.
 struct Least {
@@ -49,7 +61,7 @@ struct Place {
 // Writes row number r and gives the next row's number, as the functions below do.
 fn put_row(room: &mut [u8], r: usize, row: Entry) -> usize
     requires { ⌜ Room (rowOf row ∷ []) r (now room) ⌝ }
-    ensures { λ n. ⌜ Wrote (rowOf row ∷ []) r n (now (room .entry)) (now (room .exit)) ⌝ }
+    ensures { λ n. ⌜ RowsPut (rowOf row ∷ []) r n (now (room .entry)) (now (room .exit)) ⌝ }
 {
     let bytes = row_bytes(row);
     place(&bytes, room, 5 + 5 * r);
@@ -59,7 +71,7 @@ fn put_row(room: &mut [u8], r: usize, row: Entry) -> usize
 // A kept or a removed row, if a row is recorded.
 fn put_heard(room: &mut [u8], r: usize, mark: u8, t: u16, heard: Heard, transition: u8) -> usize
     requires { ⌜ Room (heardRow mark t (heardOf heard) transition) r (now room) ⌝ }
-    ensures { λ n. ⌜ Wrote (heardRow mark t (heardOf heard) transition) r n (now (room .entry)) (now (room .exit)) ⌝ }
+    ensures { λ n. ⌜ RowsPut (heardRow mark t (heardOf heard) transition) r n (now (room .entry)) (now (room .exit)) ⌝ }
 {
     match heard {
         Heard::Kind(kind) => put_row(
@@ -86,14 +98,14 @@ fn put_added<'a>(
     j: usize,
 ) -> usize
     requires { ⌜ Triggers (now table) (now offsets) × (j < 256) × ((a : ℕ) × (triggerOf (monitorAt (now table)) j ≡ some a)) × Room (addedRow t (triggerOf (monitorAt (now table)) j) j) r (now room) ⌝ }
-    ensures { λ n. ⌜ Wrote (addedRow t (triggerOf (monitorAt (now (table .entry))) j) j) r n (now (room .entry)) (now (room .exit)) ⌝ }
+    ensures { λ n. ⌜ RowsPut (addedRow t (triggerOf (monitorAt (now (table .entry))) j) j) r n (now (room .entry)) (now (room .exit)) ⌝ }
 {
     let kind = byte(table, short(offsets, j) as usize + 2);
     put_row(
         room,
         r,
         Entry {
-            mark: 2,
+            mark: ADDED,
             time: t,
             kind,
             transition: j as u8,
@@ -111,17 +123,17 @@ fn put_move<'a>(
     heard: Heard,
     k: usize,
 ) -> usize
-    requires { ⌜ Triggers (now table) (now offsets) × (k < 129) × Fits (monitorAt (now table)) (heardOf heard) (moveOf k) × Room (rowsBy (monitorAt (now table)) (heardOf heard) t (moveOf k)) r (now room) ⌝ }
-    ensures { λ n. ⌜ Wrote (rowsBy (monitorAt (now (table .entry))) (heardOf heard) t (moveOf k)) r n (now (room .entry)) (now (room .exit)) ⌝ }
+    requires { ⌜ Triggers (now table) (now offsets) × (k < moveLimit) × Fits (monitorAt (now table)) (heardOf heard) (moveOf k) × Room (rowsBy (monitorAt (now table)) (heardOf heard) t (moveOf k)) r (now room) ⌝ }
+    ensures { λ n. ⌜ RowsPut (rowsBy (monitorAt (now (table .entry))) (heardOf heard) t (moveOf k)) r n (now (room .entry)) (now (room .exit)) ⌝ }
 {
-    if k < 64 {
-        return put_heard(room, r, 0, t, heard, k as u8);
+    if k < REST {
+        return put_heard(room, r, KEPT, t, heard, k as u8);
     }
-    let next = put_heard(room, r, 1, t, heard, 255);
-    if k == 64 {
+    let next = put_heard(room, r, REMOVED, t, heard, NO_TRANSITION);
+    if k == REST {
         return next;
     }
-    put_added(table, offsets, room, next, t, k - 65)
+    put_added(table, offsets, room, next, t, k - FIRST_ADD)
 }
 
 // What stands before the rows.
@@ -166,7 +178,7 @@ fn walk_on<'a>(
     t: usize,
     at: Place,
 ) -> Place
-    requires { ⌜ Ground (now table) (now offsets) (now recording) (now scratch) g × (t < g .last) × Stands (now table) (now recording) (g .last) t (at .number) (at .cursor) × Room (rowsFrom (now table) (now recording) (g .last) t (at .number)) (at .rows) (now room) ⌝ }
+    requires { ⌜ Ground (now table) (now offsets) (now recording) (now scratch) g × (t < g .last) × Stands (now table) (now recording) (g .last) t (at .number) (at .cursor) × Room (rowsAfter (now table) (now recording) (g .last) t (at .number)) (at .rows) (now room) ⌝ }
     ensures { λ r. ⌜ WalkedOn (now (table .entry)) (now (recording .entry)) (g .last) t (at .number) (at .rows) (r .number) (r .cursor) (r .rows) (now (room .entry)) (now (room .exit)) ⌝ }
 {
     let instant = t as u64 + 1;

@@ -9,7 +9,7 @@ use Rattle.model.specs.Validation.{rowsBy}
 use Rattle.situation.specs.Rows.{heardOf, Cursor}
 use Rattle.situation.proofs.Cursors.{heard-recorded, passed-cursor}
 use Rattle.layers.specs.Advance.{stepAt, leastInto}
-use Rattle.engine.specs.WalkRows.{rowsFrom}
+use Rattle.engine.specs.WalkRows.{rowsAfter}
 use Rattle.engine.proofs.PruneLayers.{row-start}
 use Rattle.engine.proofs.WalkSteps.{Leading, leading, onward}
 use borrow.Author.Needs.{needs}
@@ -71,7 +71,7 @@ put-move-requires c κs =
         arith,
         start .pre .3,
         ap length (led .split),
-        length-append (rowsBy (monitorAt (a .table .now)) (heardOf (least .before .before .before .heard-at .result)) (a .t + 1) (moveOf (least .least-move .result .k))) (rowsFrom (a .table .now) (a .recording .now) (a .g .last) (a .t + 1) (led .number)),
+        length-append (rowsBy (monitorAt (a .table .now)) (heardOf (least .before .before .before .heard-at .result)) (a .t + 1) (moveOf (least .least-move .result .k))) (rowsAfter (a .table .now) (a .recording .now) (a .g .last) (a .t + 1) (led .number)),
       ),
     )
 
