@@ -24,10 +24,10 @@ use Rattle.model.proofs.Numbering.{first-number-below}
 use Rattle.model.proofs.VerdictLaws.{LeftUpTo, exhausted-at, rejected-at, accepted-at}
 use Rattle.bits.specs.Member.{mem, PutIn}
 use Rattle.situation.specs.Rows.{passedBy}
-use Rattle.situation.specs.declared.Shape.{Shape}
 use Rattle.situation.proofs.Cursors.{first-cursor}
+use Rattle.engine.specs.declared.measures.Measures.{Measures}
 use Rattle.engine.specs.Forwarding.{Filled, Turn, Turned, Forwarding, Through}
-use Rattle.engine.proofs.ForwardRows.{next-row, row-before, product, possible}
+use Rattle.engine.proofs.ForwardRows.{next-row, product, possible}
 
 -- a set of none, and a set of one
 
@@ -65,35 +65,34 @@ pub record Passing (table recording start scratch : List ℕ) (budget row last t
   pub ahead : work ≡ count (possible table recording t)
   pub fits : cost ≤ budget
 
-module _ {table offsets recording entry : List ℕ} {h : Shape} {row size last first : ℕ}
-    (given : Forwarding table offsets recording entry h row size last first) where
-  first-below : first < size
+module _ {table offsets recording entry : List ℕ} {g : Measures} (given : Forwarding table offsets recording entry g) where
+  first-below : g .first < g .size
   first-below = omega (arith, first-number-below (given .setting .sane))
 
-  first-set : possible table recording 0 ≡ set (replicate size false) first true
+  first-set : possible table recording 0 ≡ set (replicate (g .size) false) (g .first) true
   unfolding layer
-  first-set = ap₂ (λ (n k : ℕ). set (replicate n false) k true) (sym (given .setting .whole)) (sym (given .start))
+  first-set = ap₂ (λ (n k : ℕ). set (replicate n false) k true) (sym (given .setting .whole)) (sym (given .setting .start))
 
   first-count : count (possible table recording 0) ≡ 1
-  first-count = ap count first-set ∙ count-one size first first-below
+  first-count = ap count first-set ∙ count-one (g .size) (g .first) first-below
 
   no-total : totalTo table recording 0 ≡ 0
   unfolding total
   no-total = refl
 
   -- the first situation is put into the empty scratch
-  module _ {scratch : List ℕ} (into : PutIn first entry scratch) where
+  module _ {scratch : List ℕ} (into : PutIn (g .first) entry scratch) where
     first-holds : (z : ℕ) → mem scratch z ≡ getD (possible table recording 0) z false
-    first-holds z = on (ℕ-discrete z first) ∙ sym (ap (λ (s : List Bool). getD s z false) first-set)
+    first-holds z = on (ℕ-discrete z (g .first)) ∙ sym (ap (λ (s : List Bool). getD s z false) first-set)
       where
-        on : Dec (z ≡ first) → mem scratch z ≡ getD (set (replicate size false) first true) z false
+        on : Dec (z ≡ g .first) → mem scratch z ≡ getD (set (replicate (g .size) false) (g .first) true) z false
         on (yes e) =
             rw e
-            (into .there (omega (arith, first-below, next-row row last))
-            ∙ sym (getD-set-same (replicate size false) first true false (omega (arith, first-below, length-replicate size false))))
-        on (no e) = into .others z e ∙ given .empty z ∙ sym (getD-set-other (replicate size false) first z true false e ∙ none-at size z)
+            (into .there (omega (arith, first-below, next-row (g .row) (g .last)))
+            ∙ sym (getD-set-same (replicate (g .size) false) (g .first) true false (omega (arith, first-below, length-replicate (g .size) false))))
+        on (no e) = into .others z e ∙ given .empty z ∙ sym (getD-set-other (replicate (g .size) false) (g .first) z true false e ∙ none-at (g .size) z)
 
-    pub started : (budget : ℕ) → Passing table recording scratch scratch budget row last 0 0 0 1
+    pub started : (budget : ℕ) → Passing table recording scratch scratch budget (g .row) (g .last) 0 0 0 1
     started budget =
         record {
           long = refl;
@@ -103,7 +102,7 @@ module _ {table offsets recording entry : List ℕ} {h : Shape} {row size last f
                 layers =
                     λ u l z w.
                     let e : u ≡ 0 = omega arith in
-                    let q : 8 * row * 0 + z ≡ z = omega arith in
+                    let q : 8 * g .row * 0 + z ≡ z = omega arith in
                     rw e (ap (mem scratch) q ∙ first-holds z);
                 rest = λ k l. into .others k (λ e. omega (arith, first-below)) ∙ given .empty k;
                 cursor = first-cursor (monitorAt table) recording (given .setting .sound .trace);
@@ -114,11 +113,11 @@ module _ {table offsets recording entry : List ℕ} {h : Shape} {row size last f
           fits = omega arith;
         }
 
-  module _ {start scratch : List ℕ} {budget t i cost work : ℕ} (pass : Passing table recording start scratch budget row last t i cost work) where
+  module _ {start scratch : List ℕ} {budget t i cost work : ℕ} (pass : Passing table recording start scratch budget (g .row) (g .last) t i cost work) where
     -- the end is reached
-    pub through : last ≤ t → Through table recording scratch budget row last cost
+    pub through : g .last ≤ t → Through table recording scratch budget (g .row) (g .last) cost
     through l =
-        let e : last ≡ t = omega arith in
+        let e : g .last ≡ t = omega arith in
         let q : t ≡ endOf (packetsAt recording) = omega arith in
         let whole : totalTo table recording (endOf (packetsAt recording)) ≡ cost = sym (pass .spent ∙ ap (totalTo table recording) q) in
         record {
@@ -131,7 +130,7 @@ module _ {table offsets recording entry : List ℕ} {h : Shape} {row size last f
         }
 
     -- one instant more
-    module _ (more : t < last) where
+    module _ (more : t < g .last) where
       next-total : totalTo table recording (suc t) ≡ cost + work
       unfolding total
       next-total = omega arith
@@ -143,28 +142,15 @@ module _ {table offsets recording entry : List ℕ} {h : Shape} {row size last f
           let most = total-le (Size.size (monitorAt table)) moveLimit (stepNumber (monitorAt table) (packetsAt recording)) (firstNumber (monitorAt table)) (suc t) in
           record { fits = omega (arith, next-total) }
 
-      pub turn : length start ≡ length entry → Turn table offsets recording scratch h row size t i
-      turn e =
-          let s = given .setting in
-          let r = given .rows in
-          record {
-            setting = record { sane = s .sane; sound = s .sound; whole = s .whole; end = refl; stepping = s .stepping };
-            rows =
-                record {
-                  wide = r .wide;
-                  narrow = r .narrow;
-                  short = omega arith;
-                  long = omega (arith, next-row row (t + 1), row-before row (t + 1) (last + 1) (omega arith));
-                };
-            filled = pass .filled;
-          }
+      pub turn : length start ≡ length entry → Turn table offsets recording scratch g t i
+      turn e = record { setting = given .setting; long = omega (arith, given .long); more = more; filled = pass .filled }
 
       pub spent : budget < cost + work → verdictOn table recording budget ≡ Exhausted budget (t + 1)
       spent over =
           exhausted-at (monitorAt table) (packetsAt recording) budget t (omega arith) (pass .left) (omega arith) (omega (arith, next-total))
           ∙ ap (λ (n : ℕ). Exhausted budget n) (sym (add-one t))
 
-      module _ {after : List ℕ} {found : ℕ} (within : cost + work ≤ budget) (done : Turned table recording scratch after row t i found) where
+      module _ {after : List ℕ} {found : ℕ} (within : cost + work ≤ budget) (done : Turned table recording scratch after (g .row) t i found) where
         pub emptied : found ≡ 0 → verdictOn table recording budget ≡ Rejected (cost + work) (t + 1)
         emptied e =
             let none : count (possible table recording (suc t)) ≡ 0 =
@@ -174,7 +160,7 @@ module _ {table offsets recording entry : List ℕ} {h : Shape} {row size last f
             ∙ ap₂ Rejected next-total (sym (add-one t))
 
         pub again : {j : ℕ} → j ≡ passedBy recording i (t + 1) → (found ≡ 0 → ⊥)
-            → Passing table recording start after budget row last (t + 1) j (cost + work) found
+            → Passing table recording start after budget (g .row) (g .last) (t + 1) j (cost + work) found
         again p some =
             record {
               long = done .long ∙ pass .long;

@@ -23,9 +23,9 @@ use Rattle.model.proofs.LayerLaws.{Given, length-layer, layer-suc}
 use Rattle.bits.specs.Member.{mem, tally, population}
 use Rattle.bits.proofs.Laws.{tally-same, mem-part, population-fits}
 use Rattle.situation.specs.Rows.{heardAt, passedBy}
-use Rattle.situation.specs.declared.Shape.{Shape}
 use Rattle.situation.proofs.Cursors.{passed-cursor, heard-recorded}
 use Rattle.layers.specs.Advance.{Advanced, stepAt}
+use Rattle.engine.specs.declared.measures.Measures.{Measures}
 use Rattle.engine.specs.Setting.{RowHolds, LayersUpTo}
 use Rattle.engine.specs.Forwarding.{Filled, Turn, Turned}
 
@@ -103,95 +103,104 @@ module _ (table recording : List ℕ) (t : ℕ) where
   possible-next = layer-suc (Size.size (monitorAt table)) moveLimit (stepOf table recording) (firstNumber (monitorAt table)) t
 
 -- one instant
-module _ {table offsets recording before : List ℕ} {h : Shape} {row size t i : ℕ} (turn : Turn table offsets recording before h row size t i) where
-  pub next-fits : row * (t + 1) + row ≤ length before
-  next-fits = omega (arith, next-row row (t + 1))
+module _ {table offsets recording before : List ℕ} {g : Measures} {t i : ℕ} (turn : Turn table offsets recording before g t i) where
+  pub next-fits : g .row * (t + 1) + g .row ≤ length before
+  next-fits = omega (arith, row-before (g .row) (t + 1) (g .last + 1) (omega arith))
 
-  heard-step : (heard : Option ℕ) → heard ≡ heardAt recording i (t + 1) → (n k : ℕ) → n < size
-      → stepAt table offsets h heard n k ≡ stepOf table recording (suc t) n k
+  -- where the next row begins and ends
+  pub begin-fits : Fits w64 (g .row * (t + 1))
+  begin-fits = product (g .row) (t + 1) (omega arith) (omega arith)
+
+  pub end-fits : Fits w64 (g .row * (t + 1) + g .row)
+  end-fits =
+      let next : Fits w64 (g .row * (t + 1 + 1)) = product (g .row) (t + 1 + 1) (omega arith) (omega arith) in
+      record { fits = omega (arith, next-row (g .row) (t + 1)) }
+
+  heard-step : (heard : Option ℕ) → heard ≡ heardAt recording i (t + 1) → (n k : ℕ) → n < g .size
+      → stepAt table offsets (g .shape) heard n k ≡ stepOf table recording (suc t) n k
   heard-step heard e n k l =
-      ap (λ (o : Option ℕ). stepAt table offsets h o n k)
+      ap (λ (o : Option ℕ). stepAt table offsets (g .shape) o n k)
       (e
       ∙ heard-recorded (monitorAt table) recording (turn .setting .sound .trace) (turn .filled .cursor)
       ∙ ap (recordedAt (packetsAt recording)) (add-one t))
       ∙ turn .setting .stepping (suc t) n k l
 
   -- by the definition's step, the next row holds the next set, and no other row changes
-  module _ {after : List ℕ} (step : ℕ → ℕ → Option ℕ) (same : (n k : ℕ) → n < size → step n k ≡ stepOf table recording (suc t) n k)
-      (done : Advanced step (8 * row * t) (8 * row * (t + 1)) size before after) where
-    holds-next : (z : ℕ) → z < 8 * row → mem after (8 * row * (t + 1) + z) ≡ getD (possible table recording (suc t)) z false
-    holds-next z w = on (decLt z size)
+  module _ {after : List ℕ} (step : ℕ → ℕ → Option ℕ) (same : (n k : ℕ) → n < g .size → step n k ≡ stepOf table recording (suc t) n k)
+      (done : Advanced step (8 * g .row * t) (8 * g .row * (t + 1)) (g .size) before after) where
+    holds-next : (z : ℕ) → z < 8 * g .row → mem after (8 * g .row * (t + 1) + z) ≡ getD (possible table recording (suc t)) z false
+    holds-next z w = on (decLt z (g .size))
       where
         Reached : Type 0
         Reached =
-            (mem before (8 * row * (t + 1) + z) ≡ true)
-            ⊎ ((n : ℕ) × (k : ℕ) × (n < size) × (mem before (8 * row * t + n) ≡ true) × (k < moveLimit) × (step n k ≡ some z))
+            (mem before (8 * g .row * (t + 1) + z) ≡ true)
+            ⊎ ((n : ℕ) × (k : ℕ) × (n < g .size) × (mem before (8 * g .row * t + n) ≡ true) × (k < moveLimit) × (step n k ≡ some z))
 
-        held : (n : ℕ) → n < size → mem before (8 * row * t + n) ≡ getD (possible table recording t) n false
+        held : (n : ℕ) → n < g .size → mem before (8 * g .row * t + n) ≡ getD (possible table recording t) n false
         held n l = turn .filled .layers t (omega arith) n (omega arith)
 
-        empty : mem before (8 * row * (t + 1) + z) ≡ false
-        empty = turn .filled .rest (8 * row * (t + 1) + z) (omega arith)
+        empty : mem before (8 * g .row * (t + 1) + z) ≡ false
+        empty = turn .filled .rest (8 * g .row * (t + 1) + z) (omega arith)
 
-        there : z < size → Reached → GivenNext table recording t z
+        there : z < g .size → Reached → GivenNext table recording t z
         there l (inl e) = absurd (false≢true (sym empty ∙ e))
-        there l (inr (n, k, b, e, f, g)) = (n, k, omega arith, sym (held n b) ∙ e, f, sym (same n k b) ∙ g, omega arith)
+        there l (inr (n, k, b, e, f, q)) = (n, k, omega arith, sym (held n b) ∙ e, f, sym (same n k b) ∙ q, omega arith)
 
         back : GivenNext table recording t z → Reached
-        back (n, k, b, e, f, g, l) = let c : n < size = omega arith in inr (n, k, c, held n c ∙ e, f, same n k c ∙ g)
+        back (n, k, b, e, f, q, l) = let c : n < g .size = omega arith in inr (n, k, c, held n c ∙ e, f, same n k c ∙ q)
 
-        on : Dec (z < size) → mem after (8 * row * (t + 1) + z) ≡ getD (possible table recording (suc t)) z false
+        on : Dec (z < g .size) → mem after (8 * g .row * (t + 1) + z) ≡ getD (possible table recording (suc t)) z false
         on (yes l) =
-            let fits : 8 * row * (t + 1) + size ≤ 8 * length before = omega (arith, next-fits, mul-assoc 8 row (t + 1)) in
-            let apart : 8 * row * t + size ≤ 8 * row * (t + 1) = omega (arith, next-row (8 * row) t) in
+            let fits : 8 * g .row * (t + 1) + g .size ≤ 8 * length before = omega (arith, next-fits, mul-assoc 8 (g .row) (t + 1)) in
+            let apart : 8 * g .row * t + g .size ≤ 8 * g .row * (t + 1) = omega (arith, next-row (8 * g .row) t) in
             let (forth, back-in) = done .inside fits (inl apart) z l in
             let (from, to) = possible-next table recording t z in
-            same-test (mem after (8 * row * (t + 1) + z)) (getD (possible table recording (suc t)) z false)
+            same-test (mem after (8 * g .row * (t + 1) + z)) (getD (possible table recording (suc t)) z false)
             (λ e. to (there l (forth e))) (λ e. back-in (back (from e)))
         on (no l) =
-            done .outside (8 * row * (t + 1) + z) (inr (omega arith))
+            done .outside (8 * g .row * (t + 1) + z) (inr (omega arith))
             ∙ empty
             ∙ sym (List·getD-eq-default (possible table recording (suc t)) false (omega (arith, possible-length table recording (suc t))))
 
-    layers-next : LayersUpTo table recording after row (t + 1)
+    layers-next : LayersUpTo table recording after (g .row) (t + 1)
     layers-next u l z w = on (decLt u (t + 1))
       where
-        on : Dec (u < t + 1) → mem after (8 * row * u + z) ≡ getD (possible table recording u) z false
+        on : Dec (u < t + 1) → mem after (8 * g .row * u + z) ≡ getD (possible table recording u) z false
         on (yes b) =
-            done .outside (8 * row * u + z) (inl (omega (arith, row-before (8 * row) u (t + 1) b)))
+            done .outside (8 * g .row * u + z) (inl (omega (arith, row-before (8 * g .row) u (t + 1) b)))
             ∙ turn .filled .layers u (omega arith) z w
         on (no b) =
             let e : u ≡ t + 1 = omega arith in
             rw e (holds-next z w ∙ ap (λ (n : ℕ). getD (possible table recording n) z false) (sym (add-one t)))
 
-    filled-next : Filled table recording after row (t + 1) (passedBy recording i (t + 1))
+    filled-next : Filled table recording after (g .row) (t + 1) (passedBy recording i (t + 1))
     filled-next =
         record {
           layers = layers-next;
           rest =
               λ k l.
-              let e = next-row (8 * row) (t + 1) in
+              let e = next-row (8 * g .row) (t + 1) in
               done .outside k (inr (omega arith)) ∙ turn .filled .rest k (omega arith);
           cursor = passed-cursor (monitorAt table) recording (turn .setting .sound .trace) (turn .filled .cursor);
         }
 
   -- what the code of an instant does: the next row is filled by what is heard, and counted
   pub turned : {after : List ℕ} {heard : Option ℕ} {work : ℕ} → heard ≡ heardAt recording i (t + 1)
-      → Advanced (stepAt table offsets h heard) (8 * row * t) (8 * row * (t + 1)) size before after
-      → work ≡ population (take (row * (t + 1) + row - row * (t + 1)) (drop (row * (t + 1)) after)) % 2 ^ 64
-      → Turned table recording before after row t i work
+      → Advanced (stepAt table offsets (g .shape) heard) (8 * g .row * t) (8 * g .row * (t + 1)) (g .size) before after
+      → work ≡ population (take (g .row * (t + 1) + g .row - g .row * (t + 1)) (drop (g .row * (t + 1)) after)) % 2 ^ 64
+      → Turned table recording before after (g .row) t i work
   turned {after} {heard} e done counted =
-      let filled : Filled table recording after row (t + 1) (passedBy recording i (t + 1)) =
-      filled-next (stepAt table offsets h heard) (heard-step heard e) done
+      let filled : Filled table recording after (g .row) (t + 1) (passedBy recording i (t + 1)) =
+      filled-next (stepAt table offsets (g .shape) heard) (heard-step heard e) done
       in
-      let width : row * (t + 1) + row - row * (t + 1) ≡ row = omega arith in
+      let width : g .row * (t + 1) + g .row - g .row * (t + 1) ≡ g .row = omega arith in
       record {
         long = done .long;
         filled = filled;
         counted =
             counted
-            ∙ ap (λ (n : ℕ). population (take n (drop (row * (t + 1)) after)) % 2 ^ 64) width
-            ∙ row-count after row (t + 1) (omega (arith, next-fits)) (turn .rows .narrow) (possible table recording (t + 1))
+            ∙ ap (λ (n : ℕ). population (take n (drop (g .row * (t + 1)) after)) % 2 ^ 64) width
+            ∙ row-count after (g .row) (t + 1) (omega (arith, next-fits)) (turn .setting .narrow) (possible table recording (t + 1))
             (filled .layers (t + 1) (omega arith))
             (omega (arith, possible-length table recording (t + 1)));
       }

@@ -9,7 +9,7 @@ use Rattle.model.specs.Bytes.{byteAt, tab}
 use Rattle.model.specs.Monitor.{Monitor, Transition}
 use Rattle.model.specs.Size.{greatest, largestAirtime, size}
 use Rattle.model.specs.Table.{SoundTable, monitorAt, monitorOf, tableParts, transitionsAt, kindsAt, kindAt, kindColumn}
-use Rattle.model.specs.Recording.{SoundRecording, packetsAt, endOf}
+use Rattle.model.specs.Recording.{SoundRecording, packetsAt}
 use Rattle.model.specs.Situation.{stepBy, moveOf, number, situationOf, capped, recordedAt, stepNumber, firstBy, firstNumber}
 use Rattle.model.specs.declared.Situation.{Situation}
 use Rattle.model.proofs.Basics.{getElem-tab, getElem-within, length-tab}
@@ -26,6 +26,8 @@ use Rattle.situation.proofs.Numbered.{same-number, same-situation}
 use Rattle.situation.proofs.Ticks.{same-capped}
 use Rattle.situation.proofs.Shaped.{table-shape}
 use Rattle.layers.specs.Advance.{stepAt}
+use Rattle.engine.specs.declared.measures.Measures.{Measures}
+use Rattle.engine.specs.Measured.{Measured}
 use Rattle.engine.specs.Setting.{Setting}
 use Rattle.engine.specs.WalkRows.{Triggers}
 
@@ -80,24 +82,29 @@ module _ (table : List ℕ) (sound : SoundTable table) where
           let there = getElem-tab (λ i. transitionFrom table (getD (offsetsOf table) i 0)) (transitionsAt table) j within in
           ap (λ (x : Transition). x .trigger) (Option·some-injective (transitionFrom table (getD (offsetsOf table) j 0)) t (sym there ∙ e))
 
-pub setting : (table recording : List ℕ) → SoundRecording table recording → (h : Shape) → h ≡ shapeOf (tableParts table) → (s last : ℕ) → s ≡ size (monitorAt table)
-    → last ≡ endOf (packetsAt recording) → Setting table (offsetsOf table) recording h s last
-unfolding stepNumber
-setting table recording sound h shape s last whole end =
-    record {
-      sane = sane-table table (sound-table table recording sound);
-      sound = sane-recording table recording sound;
-      whole = whole;
-      end = end;
-      stepping = λ t n k inside.
-          same-step table (sound-table table recording sound) h
-          (subst (λ (g : Shape). Fits g (monitorAt table)) (sym shape) (table-shape table (sound-table table recording sound)))
-          (recordedAt (packetsAt recording) t) n k (subst (λ (x : ℕ). n < x) whole inside);
-    }
-
 -- the number of the first situation, by the shape
-pub first-number : (table : List ℕ) → SoundTable table → (h : Shape) → h ≡ shapeOf (tableParts table) → numberBy h (firstBy (cappedBy h)) ≡ firstNumber (monitorAt table)
+first-number : (table : List ℕ) → SoundTable table → (h : Shape) → h ≡ shapeOf (tableParts table) → numberBy h (firstBy (cappedBy h)) ≡ firstNumber (monitorAt table)
 first-number table sound h shape =
     let fits : Fits h (monitorAt table) = subst (λ (g : Shape). Fits g (monitorAt table)) (sym shape) (table-shape table sound) in
     same-number fits (firstBy (cappedBy h))
     ∙ ap (λ (c : List ℕ). number (monitorAt table) (record { state = 0; variables = 0; clocks = c; air = 0 })) (same-capped fits (1 ∷ 1 ∷ []))
+
+pub setting : (table recording : List ℕ) → SoundRecording table recording → (g : Measures) → Measured (tableParts table) recording g
+    → Setting table (offsetsOf table) recording g
+unfolding stepNumber
+setting table recording sound g measured =
+    let small = table-facts table (sound-table table recording sound) .small in
+    let whole : g .size ≡ size (monitorAt table) = omega (arith, measured .size) in
+    record {
+      sane = sane-table table (sound-table table recording sound);
+      sound = sane-recording table recording sound;
+      whole = whole;
+      wide = omega (arith, measured .row);
+      narrow = omega (arith, measured .row);
+      end = measured .last;
+      start = measured .first ∙ first-number table (sound-table table recording sound) (g .shape) (measured .shape);
+      stepping = λ t n k inside.
+          same-step table (sound-table table recording sound) (g .shape)
+          (subst (λ (h : Shape). Fits h (monitorAt table)) (sym (measured .shape)) (table-shape table (sound-table table recording sound)))
+          (recordedAt (packetsAt recording) t) n k (subst (λ (x : ℕ). n < x) whole inside);
+    }

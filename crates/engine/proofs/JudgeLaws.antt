@@ -1,45 +1,39 @@
 -- What the forward pass came to, turned into a verdict; and judging a sound recording from a cleared scratch.
 use Prim.Native.Nat.{ℕ, _+_, _*_, _≤_}
-use native.Mathlib.Omega.{arith}
 use mathlib.Core.Path.{_≡_, refl, sym, ap, subst, _∙_}
 use mathlib.Core.List.{List}
 use lib.ListN.{length, replicate, length-replicate}
 use Rattle.model.specs.Room.{over}
-use Rattle.model.specs.Size
 use Rattle.model.specs.Table.{monitorAt}
 use Rattle.model.specs.Recording.{packetsAt}
-use Rattle.model.specs.Situation.{firstBy, firstNumber}
 use Rattle.model.specs.Witness.{witnessBytes}
 use Rattle.model.specs.Validation.{preferred}
 use Rattle.model.specs.declared.Verdict.{Verdict}
 use Rattle.model.specs.declared.Verdict.the-variants.{Accepted, Rejected, Exhausted}
-use Rattle.model.proofs.TableForm.{table-facts}
-use Rattle.model.proofs.RecordingForm.{sound-table, sane-recording}
+use Rattle.model.proofs.RecordingForm.{sound-table}
 use Rattle.bits.specs.Member.{mem}
 use Rattle.bits.proofs.Laws.{mem-zeros}
 use Rattle.monitor.specs.From.{offsetsOf}
-use Rattle.situation.specs.declared.Shape.{Shape}
-use Rattle.situation.specs.Numbering.{numberBy}
-use Rattle.situation.specs.Steps.{cappedBy}
+use Rattle.engine.specs.declared.measures.Measures.{Measures}
 use Rattle.engine.specs.Setting.{Setting}
 use Rattle.engine.specs.Forwarding.{Forwarding, Through, Ended}
 use Rattle.engine.specs.WalkRows.{Triggers}
 use Rattle.engine.specs.Judging.{Judging, Ending, Concluded, Settled}
 use Rattle.engine.specs.declared.forward.Outcome.{Outcome}
 use Rattle.engine.specs.declared.forward.Outcome.the-variants.{Passed, Emptied, Spent}
-use Rattle.engine.proofs.Grounds.{setting, triggers, first-number}
+use Rattle.engine.proofs.Grounds.{setting, triggers}
 
-module _ (table offsets recording scratch room : List ℕ) (h : Shape) (budget row size last first : ℕ) (o : Outcome) (e : Ending table offsets recording scratch room h budget row size last first o) where
+module _ (table offsets recording scratch room : List ℕ) (g : Measures) (budget : ℕ) (o : Outcome) (e : Ending table offsets recording scratch room g budget o) where
   pub spent : (instant : ℕ) → o ≡ Spent instant → Concluded table recording budget scratch room scratch room (Exhausted budget instant)
   spent instant same =
-      record { long = refl; answered = sym (subst (Ended table recording scratch budget row last) same (e .ended)); written = refl }
+      record { long = refl; answered = sym (subst (Ended table recording scratch budget (g .row) (g .last)) same (e .ended)); written = refl }
 
   pub emptied : (cost instant : ℕ) → o ≡ Emptied cost instant → Concluded table recording budget scratch room scratch room (Rejected cost instant)
   emptied cost instant same =
-      record { long = refl; answered = sym (subst (Ended table recording scratch budget row last) same (e .ended)); written = refl }
+      record { long = refl; answered = sym (subst (Ended table recording scratch budget (g .row) (g .last)) same (e .ended)); written = refl }
 
-  pub through : (cost : ℕ) → o ≡ Passed cost → Through table recording scratch budget row last cost
-  through cost same = subst (Ended table recording scratch budget row last) same (e .ended)
+  pub through : (cost : ℕ) → o ≡ Passed cost → Through table recording scratch budget (g .row) (g .last) cost
+  through cost same = subst (Ended table recording scratch budget (g .row) (g .last)) same (e .ended)
 
   pub passed : (cost : ℕ) → o ≡ Passed cost → (scratchThen roomThen : List ℕ) (rows : ℕ) → length scratchThen ≡ length scratch
       → rows ≡ length (preferred (monitorAt table) (packetsAt recording))
@@ -52,52 +46,25 @@ module _ (table offsets recording scratch room : List ℕ) (h : Shape) (budget r
         written = written;
       }
 
-module _ (table recording scratch room : List ℕ) (h : Shape) (row size last : ℕ) (j : Judging table recording scratch room h row size last) where
-  size-fits : size ≤ 65536
-  size-fits = let f = table-facts table (sound-table table recording (j .sound)) .small in omega (arith, j .whole)
+module _ (table recording scratch room : List ℕ) (g : Measures) (j : Judging table recording scratch room g) where
+  grounds : (offsets : List ℕ) → offsets ≡ offsetsOf table → Setting table offsets recording g
+  grounds offsets e = subst (λ (l : List ℕ). Setting table l recording g) (sym e) (setting table recording (j .sound) g (j .measured))
 
-  wide : size ≤ 8 * row
-  wide = omega (arith, j .bytes)
-
-  narrow : row ≤ 8192
-  narrow = let f = size-fits in omega (arith, j .bytes)
-
-  short : last ≤ 65535
-  short = let f = sane-recording table recording (j .sound) .last in omega (arith, j .end)
-
-  grounds : (offsets : List ℕ) → offsets ≡ offsetsOf table → Setting table offsets recording h size last
-  grounds offsets e =
-      subst (λ (l : List ℕ). Setting table l recording h size last) (sym e)
-      (setting table recording (j .sound) h (j .shape) size last (j .whole) (j .end))
-
-  start : (first : ℕ) → first ≡ numberBy h (firstBy (cappedBy h)) → first ≡ firstNumber (monitorAt table)
-  start first e = e ∙ first-number table (sound-table table recording (j .sound)) h (j .shape)
-
-  pub forwarding : (offsets cleared : List ℕ) (first : ℕ) → offsets ≡ offsetsOf table → cleared ≡ replicate (length scratch) 0
-      → first ≡ numberBy h (firstBy (cappedBy h)) → Forwarding table offsets recording cleared h row size last first
-  forwarding offsets cleared first found zero number =
+  pub forwarding : (offsets cleared : List ℕ) → offsets ≡ offsetsOf table → cleared ≡ replicate (length scratch) 0
+      → Forwarding table offsets recording cleared g
+  forwarding offsets cleared found zero =
       record {
         setting = grounds offsets found;
-        rows =
-            record {
-              wide = wide;
-              narrow = narrow;
-              short = short;
-              long = subst (λ (n : ℕ). row * (last + 1) ≤ n) (sym (ap length zero ∙ length-replicate (length scratch) 0)) (j .rows);
-            };
+        long = subst (λ (n : ℕ). g .row * (g .last + 1) ≤ n) (sym (ap length zero ∙ length-replicate (length scratch) 0)) (j .long);
         empty = λ k. ap (λ (s : List ℕ). mem s k) zero ∙ mem-zeros (length scratch) k;
-        start = start first number;
       }
 
-  pub ending : (offsets after : List ℕ) (first budget : ℕ) (o : Outcome) → offsets ≡ offsetsOf table → first ≡ numberBy h (firstBy (cappedBy h))
-      → Ended table recording after budget row last o → Ending table offsets recording after room h budget row size last first o
-  ending offsets after first budget o found number ended =
+  pub ending : (offsets after : List ℕ) (budget : ℕ) (o : Outcome) → offsets ≡ offsetsOf table
+      → Ended table recording after budget (g .row) (g .last) o → Ending table offsets recording after room g budget o
+  ending offsets after budget o found ended =
       record {
         setting = grounds offsets found;
         triggers = subst (Triggers table) (sym found) (triggers table (sound-table table recording (j .sound)));
-        wide = wide;
-        narrow = narrow;
-        start = start first number;
         roomy = j .roomy;
         ended = ended;
       }

@@ -16,29 +16,29 @@ use Rattle.model.proofs.Basics.{and-right}
 use Rattle.model.proofs.RecordingForm.{packetAt, packets-tab}
 use Rattle.situation.specs.Rows.{isAt, heardAt, Cursor}
 use Rattle.situation.proofs.Cursors.{at-row, times-rise}
-use Rattle.engine.specs.PruneRows.{backBy}
+use Rattle.engine.specs.PruneRows.{cursorBefore}
 
 -- what the row before the cursor says
 
 module _ (b : List ℕ) (j t : ℕ) where
-  pub back-heard : (k : ℕ) → heardAt b (j - 1) t ≡ some k → backBy b j t ≡ j - 1
-  unfolding backBy heardAt
+  pub back-heard : (k : ℕ) → heardAt b (j - 1) t ≡ some k → cursorBefore b j t ≡ j - 1
+  unfolding cursorBefore heardAt
   back-heard k e = on (isAt b (j - 1) t) e
     where
       on : (found : Bool) → cond found (some (rowKindAt b (j - 1))) none ≡ some k → cond found (j - 1) j ≡ j - 1
       on true q = refl
       on false q = cc
 
-  pub back-nothing : heardAt b (j - 1) t ≡ none → backBy b j t ≡ j
-  unfolding backBy heardAt
+  pub back-nothing : heardAt b (j - 1) t ≡ none → cursorBefore b j t ≡ j
+  unfolding cursorBefore heardAt
   back-nothing e = on (isAt b (j - 1) t) e
     where
       on : (found : Bool) → cond found (some (rowKindAt b (j - 1))) none ≡ none → cond found (j - 1) j ≡ j
       on true q = cc
       on false q = refl
 
-pub back-first : (b : List ℕ) (t : ℕ) → backBy b 0 t ≡ 0
-unfolding backBy
+pub back-first : (b : List ℕ) (t : ℕ) → cursorBefore b 0 t ≡ 0
+unfolding cursorBefore
 back-first b t = on (isAt b 0 t)
   where
     on : (found : Bool) → _≡_ {A = ℕ} (cond found 0 0) 0
@@ -74,8 +74,8 @@ module _ (m : Monitor) (b : List ℕ) (trace : PacketTrace m (packetsAt b)) wher
           on (no l) = let same : k ≡ n = omega arith in omega (arith, end-time b n e, ap (timeAt b) same)
 
   -- exactly the rows with times below t are before the cursor that has gone back
-  pub back-cursor : {j t : ℕ} → Cursor b j (t + 1) → Cursor b (backBy b j t) t
-  unfolding backBy
+  pub back-cursor : {j t : ℕ} → Cursor b j (t + 1) → Cursor b (cursorBefore b j t) t
+  unfolding cursorBefore
   back-cursor {j} {t} at = on (isAt b (j - 1) t) refl
     where
       not-last : isAt b (j - 1) t ≡ false → j - 1 < countAt b → timeAt b (j - 1) ≡ t → ⊥

@@ -24,10 +24,10 @@ use Rattle.model.proofs.WalkLaws.{into, firstFrom-same, Pruned, least-alive}
 use Rattle.bits.specs.Member.{mem}
 use Rattle.situation.specs.Rows.{heardAt, Cursor}
 use Rattle.situation.proofs.Cursors.{heard-recorded}
-use Rattle.situation.specs.declared.Shape.{Shape}
 use Rattle.layers.specs.Advance.{stepAt, inRow, leastInto}
+use Rattle.engine.specs.declared.measures.Measures.{Measures}
 use Rattle.engine.specs.Setting.{Setting, LayersUpTo, RowHolds}
-use Rattle.engine.specs.PruneRows.{backBy, stays, RowCut, PrunedAt, PrunedRow}
+use Rattle.engine.specs.PruneRows.{cursorBefore, stays, RowCut, PrunedAt, PrunedRow}
 use Rattle.engine.proofs.PruneCursors.{last-cursor, back-cursor}
 
 -- rows do not meet
@@ -62,46 +62,46 @@ reaching table recording = alive (sizeOf table) moveLimit (stepOf table recordin
 abbrev pub PrunedBy : (table recording : List ℕ) → (left t : ℕ) → (ℕ → Bool) → Type 0
 PrunedBy table recording = Pruned (sizeOf table) moveLimit (stepOf table recording) (firstNumber (monitorAt table))
 
-module _ (table offsets recording : List ℕ) (h : Shape) (size last : ℕ) (set : Setting table offsets recording h size last) where
+module _ (table offsets recording : List ℕ) (g : Measures) (set : Setting table offsets recording g) where
   -- nothing is in a set past N
-  pub past-size : (t z : ℕ) → size ≤ z → getD (possible table recording t) z false ≡ false
+  pub past-size : (t z : ℕ) → g .size ≤ z → getD (possible table recording t) z false ≡ false
   past-size t z l =
       List·getD-eq-default (possible table recording t) false
       (omega (arith, set .whole, length-layer (sizeOf table) moveLimit (stepOf table recording) (firstNumber (monitorAt table)) t))
 
-  pub in-row-pruned : (scratch : List ℕ) (start left t : ℕ) → PrunedAt table recording scratch start size left t
-      → PrunedBy table recording left t (inRow scratch start size)
-  in-row-pruned scratch start left t pruned z = on (decLt z size)
+  pub in-row-pruned : (scratch : List ℕ) (start left t : ℕ) → PrunedAt table recording scratch start (g .size) left t
+      → PrunedBy table recording left t (inRow scratch start (g .size))
+  in-row-pruned scratch start left t pruned z = on (decLt z (g .size))
     where
-      on : Dec (z < size) → inRow scratch start size z ≡ (getD (possible table recording t) z false && getD (reaching table recording left t) z false)
-      on (yes l) = ap (λ (b : Bool). b && mem scratch (start + z)) (lt-ltb z size l) ∙ pruned z l
+      on : Dec (z < g .size) → inRow scratch start (g .size) z ≡ (getD (possible table recording t) z false && getD (reaching table recording left t) z false)
+      on (yes l) = ap (λ (b : Bool). b && mem scratch (start + z)) (lt-ltb z (g .size) l) ∙ pruned z l
       on (no l) =
-          ap (λ (b : Bool). b && mem scratch (start + z)) (le-ltb z size (omega arith))
+          ap (λ (b : Bool). b && mem scratch (start + z)) (le-ltb z (g .size) (omega arith))
           ∙ sym (ap (λ (b : Bool). b && getD (reaching table recording left t) z false) (past-size t z (omega arith)))
 
   -- the code's least move is that of the definition's step
-  pub least-step : (heard : Option ℕ) (scratch : List ℕ) (to v t n : ℕ) → heard ≡ recordedAt (packetsAt recording) v → v ≡ suc t → n < size
-      → leastInto (stepAt table offsets h heard) scratch to size n
-      ≡ firstFrom (λ k. into (inRow scratch to size) (stepOf table recording (suc t) n k)) moveLimit 0
+  pub least-step : (heard : Option ℕ) (scratch : List ℕ) (to v t n : ℕ) → heard ≡ recordedAt (packetsAt recording) v → v ≡ suc t → n < g .size
+      → leastInto (stepAt table offsets (g .shape) heard) scratch to (g .size) n
+      ≡ firstFrom (λ k. into (inRow scratch to (g .size)) (stepOf table recording (suc t) n k)) moveLimit 0
   least-step heard scratch to v t n q e l =
       firstFrom-same _ _ moveLimit 0
       (λ k _.
-      ap (into (inRow scratch to size))
-      (ap (λ (o : Option ℕ). stepAt table offsets h o n k) q ∙ set .stepping v n k l ∙ ap (λ (u : ℕ). stepOf table recording u n k) e))
+      ap (into (inRow scratch to (g .size)))
+      (ap (λ (o : Option ℕ). stepAt table offsets (g .shape) o n k) q ∙ set .stepping v n k l ∙ ap (λ (u : ℕ). stepOf table recording u n k) e))
 
   -- what stays of a row that holds all possible situations is what can reach the end
-  pub stays-reaching : (heard : Option ℕ) (scratch : List ℕ) (from to left v t z : ℕ) → heard ≡ recordedAt (packetsAt recording) v → v ≡ suc t → z < size
+  pub stays-reaching : (heard : Option ℕ) (scratch : List ℕ) (from to left v t z : ℕ) → heard ≡ recordedAt (packetsAt recording) v → v ≡ suc t → z < g .size
       → mem scratch (from + z) ≡ getD (possible table recording t) z false
-      → PrunedAt table recording scratch to size left v
-      → stays (stepAt table offsets h heard) scratch from to size z
+      → PrunedAt table recording scratch to (g .size) left v
+      → stays (stepAt table offsets (g .shape) heard) scratch from to (g .size) z
       ≡ (getD (possible table recording t) z false && getD (reaching table recording (suc left) t) z false)
   stays-reaching heard scratch from to left v t z q e l holds pruned = on (getD (possible table recording t) z false) refl
     where
       least : ℕ
-      least = leastInto (stepAt table offsets h heard) scratch to size z
+      least = leastInto (stepAt table offsets (g .shape) heard) scratch to (g .size) z
 
-      at-next : PrunedBy table recording left (suc t) (inRow scratch to size)
-      at-next = subst (λ (u : ℕ). PrunedBy table recording left u (inRow scratch to size)) e (in-row-pruned scratch to left v pruned)
+      at-next : PrunedBy table recording left (suc t) (inRow scratch to (g .size))
+      at-next = subst (λ (u : ℕ). PrunedBy table recording left u (inRow scratch to (g .size))) e (in-row-pruned scratch to left v pruned)
 
       on : (here : Bool) → getD (possible table recording t) z false ≡ here
           → (mem scratch (from + z) && ltb least moveLimit)
@@ -109,7 +109,7 @@ module _ (table offsets recording : List ℕ) (h : Shape) (size last : ℕ) (set
       on true p =
           ap₂ _&&_ holds
           (ap (λ (k : ℕ). ltb k moveLimit) (least-step heard scratch to v t z q e l)
-          ∙ least-alive (sizeOf table) moveLimit (stepOf table recording) (firstNumber (monitorAt table)) left t z (inRow scratch to size) at-next (omega (arith, set .whole)) p)
+          ∙ least-alive (sizeOf table) moveLimit (stepOf table recording) (firstNumber (monitorAt table)) left t z (inRow scratch to (g .size)) at-next (omega (arith, set .whole)) p)
       on false p =
           ap (λ (b : Bool). b && ltb least moveLimit) (holds ∙ p)
           ∙ sym (ap (λ (b : Bool). b && getD (reaching table recording (suc left) t) z false) p)
@@ -119,51 +119,51 @@ pub record PrunedTo (table recording scratch : List ℕ) (row size last t : ℕ)
   pub below : (u : ℕ) → u < t → RowHolds scratch row u (possible table recording u)
   pub from : (u : ℕ) → t ≤ u → u ≤ last → PrunedRow table recording scratch row size last u
 
-module _ (table offsets recording : List ℕ) (h : Shape) (size last : ℕ) (set : Setting table offsets recording h size last) (row : ℕ) (fits : size ≤ 8 * row) where
+module _ (table offsets recording : List ℕ) (g : Measures) (set : Setting table offsets recording g) where
   -- after the last instant the end is reached
-  pub pruned-first : (scratch : List ℕ) → LayersUpTo table recording scratch row last → PrunedTo table recording scratch row size last last
+  pub pruned-first : (scratch : List ℕ) → LayersUpTo table recording scratch (g .row) (g .last) → PrunedTo table recording scratch (g .row) (g .size) (g .last) (g .last)
   unfolding live
-  pruned-first scratch layers = record { below = λ u l. layers u (omega arith); from = λ u g l z i. here u (omega arith) z i }
+  pruned-first scratch layers = record { below = λ u l. layers u (omega arith); from = λ u n l z i. here u (omega arith) z i }
     where
-      here : (u : ℕ) → u ≡ last → PrunedRow table recording scratch row size last u
+      here : (u : ℕ) → u ≡ g .last → PrunedRow table recording scratch (g .row) (g .size) (g .last) u
       here u e z i =
-          let none-left : last - u ≡ 0 = omega arith in
+          let none-left : g .last - u ≡ 0 = omega arith in
           layers u (omega arith) z (omega arith)
           ∙ sym (ap (λ (b : Bool). getD (possible table recording u) z false && b)
           (ap (λ (n : ℕ). getD (reaching table recording n u) z false) none-left ∙ getD-replicate (sizeOf table) z true false (omega (arith, set .whole)))
           ∙ and-true _)
 
-  pub pruned-next : (heard : Option ℕ) (t : ℕ) (s r : List ℕ) → t < last → heard ≡ recordedAt (packetsAt recording) (t + 1)
-      → PrunedTo table recording s row size last (t + 1)
-      → RowCut (stepAt table offsets h heard) (8 * row * t) (8 * row * (t + 1)) size size s r
-      → PrunedTo table recording r row size last t
+  pub pruned-next : (heard : Option ℕ) (t : ℕ) (s r : List ℕ) → t < g .last → heard ≡ recordedAt (packetsAt recording) (t + 1)
+      → PrunedTo table recording s (g .row) (g .size) (g .last) (t + 1)
+      → RowCut (stepAt table offsets (g .shape) heard) (8 * g .row * t) (8 * g .row * (t + 1)) (g .size) (g .size) s r
+      → PrunedTo table recording r (g .row) (g .size) (g .last) t
   pruned-next heard t s r l q done cut = record { below = before; from = behind }
     where
-      before : (u : ℕ) → u < t → RowHolds r row u (possible table recording u)
-      before u g z i = cut .others (8 * row * u + z) (inl (omega (arith, rows-apart (8 * row) u t g))) ∙ done .below u (omega arith) z i
+      before : (u : ℕ) → u < t → RowHolds r (g .row) u (possible table recording u)
+      before u l z i = cut .others (8 * g .row * u + z) (inl (omega (arith, rows-apart (8 * g .row) u t l))) ∙ done .below u (omega arith) z i
 
-      here : (z : ℕ) → z < size → mem r (8 * row * t + z) ≡ (getD (possible table recording t) z false && getD (reaching table recording (last - t) t) z false)
+      here : (z : ℕ) → z < g .size → mem r (8 * g .row * t + z) ≡ (getD (possible table recording t) z false && getD (reaching table recording (g .last - t) t) z false)
       here z i =
-          let left : suc (last - (t + 1)) ≡ last - t = omega arith in
+          let left : suc (g .last - (t + 1)) ≡ g .last - t = omega arith in
           cut .here z i
-          ∙ stays-reaching table offsets recording h size last set heard s (8 * row * t) (8 * row * (t + 1)) (last - (t + 1)) (t + 1) t z q (add-one t) i
+          ∙ stays-reaching table offsets recording g set heard s (8 * g .row * t) (8 * g .row * (t + 1)) (g .last - (t + 1)) (t + 1) t z q (add-one t) i
           (done .below t (omega arith) z (omega arith)) (done .from (t + 1) (omega arith) (omega arith))
           ∙ ap (λ (n : ℕ). getD (possible table recording t) z false && getD (reaching table recording n t) z false) left
 
-      behind : (u : ℕ) → t ≤ u → u ≤ last → PrunedRow table recording r row size last u
-      behind u g o z i = on (decLt t u)
+      behind : (u : ℕ) → t ≤ u → u ≤ g .last → PrunedRow table recording r (g .row) (g .size) (g .last) u
+      behind u n o z i = on (decLt t u)
         where
-          on : Dec (t < u) → mem r (8 * row * u + z) ≡ (getD (possible table recording u) z false && getD (reaching table recording (last - u) u) z false)
-          on (yes d) = cut .others (8 * row * u + z) (inr (omega (arith, rows-apart (8 * row) t u d))) ∙ done .from u (omega arith) o z i
+          on : Dec (t < u) → mem r (8 * g .row * u + z) ≡ (getD (possible table recording u) z false && getD (reaching table recording (g .last - u) u) z false)
+          on (yes d) = cut .others (8 * g .row * u + z) (inr (omega (arith, rows-apart (8 * g .row) t u d))) ∙ done .from u (omega arith) o z i
           on (no d) =
               let e : t ≡ u = omega arith in
-              subst (λ (x : ℕ). mem r (8 * row * x + z) ≡ (getD (possible table recording x) z false && getD (reaching table recording (last - x) x) z false)) e (here z i)
+              subst (λ (x : ℕ). mem r (8 * g .row * x + z) ≡ (getD (possible table recording x) z false && getD (reaching table recording (g .last - x) x) z false)) e (here z i)
 
   -- one turn: the cursor and the rows go back by an instant
-  pub pruned-turn : (j now t : ℕ) (s r : List ℕ) → 0 < t → t ≤ last → Cursor recording j (t + 1) → PrunedTo table recording s row size last t
-      → now ≡ backBy recording j (t - 1 + 1)
-      → RowCut (stepAt table offsets h (heardAt recording now (t - 1 + 1))) (8 * row * (t - 1)) (8 * row * (t - 1 + 1)) size size s r
-      → Cursor recording now (t - 1 + 1) × PrunedTo table recording r row size last (t - 1)
+  pub pruned-turn : (j now t : ℕ) (s r : List ℕ) → 0 < t → t ≤ g .last → Cursor recording j (t + 1) → PrunedTo table recording s (g .row) (g .size) (g .last) t
+      → now ≡ cursorBefore recording j (t - 1 + 1)
+      → RowCut (stepAt table offsets (g .shape) (heardAt recording now (t - 1 + 1))) (8 * g .row * (t - 1)) (8 * g .row * (t - 1 + 1)) (g .size) (g .size) s r
+      → Cursor recording now (t - 1 + 1) × PrunedTo table recording r (g .row) (g .size) (g .last) (t - 1)
   pruned-turn j now t s r some l at done e cut =
       let m = monitorAt table in
       let trace = set .sound .trace in
@@ -172,9 +172,9 @@ module _ (table offsets recording : List ℕ) (h : Shape) (size last : ℕ) (set
       subst (λ (n : ℕ). Cursor recording n (t - 1 + 1)) (sym e) (back-cursor m recording trace (subst (λ (u : ℕ). Cursor recording j (u + 1)) same at)) in (
         cursor,
         pruned-next (heardAt recording now (t - 1 + 1)) (t - 1) s r (omega arith) (heard-recorded m recording trace cursor)
-            (subst (λ (u : ℕ). PrunedTo table recording s row size last u) same done) cut,
+            (subst (λ (u : ℕ). PrunedTo table recording s (g .row) (g .size) (g .last) u) same done) cut,
       )
 
-  pub cursor-first : Cursor recording (countAt recording) (last + 1)
+  pub cursor-first : Cursor recording (countAt recording) (g .last + 1)
   cursor-first =
       subst (λ (t : ℕ). Cursor recording (countAt recording) (t + 1)) (sym (set .end)) (last-cursor (monitorAt table) recording (set .sound .trace))

@@ -1,15 +1,15 @@
 -- Validation by its tests: what each refusal and the judgement come to.
-use Prim.Native.Nat.{ℕ, _+_, _-_, _*_, _/_, _<_, _≤_, min}
+use Prim.Native.Nat.{ℕ, _+_, _-_, _*_, _<_, _≤_}
 use native.Mathlib.Nat.{mul-comm}
 use native.Mathlib.Omega.{arith}
-use mathlib.Core.Path.{_≡_, refl, sym, ap, subst, _∙_}
+use mathlib.Core.Path.{_≡_, refl, sym, ap, ap₂, subst, _∙_}
 use mathlib.Core.List.{List, _++_}
 use lib.ListN.{length, take, drop, replicate}
 use lib.Seq.{length-take-le}
 use borrow.Author.Tests.{le-leb, lt-leb}
 use Rattle.model.specs.Bytes.{tab}
 use Rattle.model.specs.Size
-use Rattle.model.specs.Table.{readTable, monitorOf, monitorAt, tableParts}
+use Rattle.model.specs.Table.{readTable, monitorAt, tableParts}
 use Rattle.model.specs.Recording.{recordingAnswer, countAt, packetsAt, endOf}
 use Rattle.model.specs.Witness.{witnessBytes}
 use Rattle.model.specs.Validation.{refusal, validation, verdict, preferred, scratchWanted, roomWanted, scratchBy, roomBy, scratchAfter, roomAfter}
@@ -25,8 +25,8 @@ use Rattle.model.proofs.Basics.{length-tab}
 use Rattle.model.proofs.TableForm.{table-facts}
 use Rattle.model.proofs.RecordingForm.{sound-table, packetAt, packets-tab}
 use Rattle.model.proofs.Judgement.{sound-judged}
-use Rattle.situation.specs.Numbering.{shapeOf}
-use Rattle.situation.specs.declared.Shape.{Shape}
+use Rattle.engine.specs.declared.measures.Measures.{Measures}
+use Rattle.engine.specs.Measured.{Measured}
 use Rattle.engine.specs.Validates.{Validates}
 use Rattle.engine.specs.Judging.{Judging, Settled}
 
@@ -108,25 +108,20 @@ module _ (table recording : List ℕ) (budget : ℕ) (scratch room : List ℕ) w
           judged = λ _. right;
         }
 
--- what is read of a sound table and recording
-module _ (table recording : List ℕ) (e : recordingAnswer table recording ≡ Sound) (reading : TableReading) (r : reading ≡ readTable table) where
-  parts-are : reading .parts ≡ tableParts table
+-- what is measured of a sound table and recording
+module _ (table recording : List ℕ) (e : recordingAnswer table recording ≡ Sound) (reading : TableReading) (r : reading ≡ readTable table)
+    (g : Measures) (m : Measured (reading .parts) recording g) where
+  pub measured : Measured (tableParts table) recording g
   unfolding readTable
-  parts-are = ap (λ (x : TableReading). x .parts) r ∙ rw (sound-table table recording e)
+  measured =
+      subst (λ (parts : TableParts). Measured parts recording g)
+      (ap (λ (x : TableReading). x .parts) r ∙ rw (sound-table table recording e)) m
 
-  pub shape-is : (h : Shape) → h ≡ shapeOf (reading .parts) → h ≡ shapeOf (tableParts table)
-  shape-is h s = s ∙ ap shapeOf parts-are
-
-  pub size-is : (n : ℕ) → n ≡ min (Size.size (monitorOf (reading .parts))) 65537 → n ≡ Size.size (monitorAt table)
-  size-is n s =
+  pub scratch-is : g .row * (g .last + 1) ≡ scratchWanted table recording
+  scratch-is =
       let small = table-facts table (sound-table table recording e) .small in
-      let same : Size.size (monitorOf (reading .parts)) ≡ Size.size (monitorAt table) = ap (λ (t : TableParts). Size.size (monitorOf t)) parts-are in
-      omega arith
-
-  pub scratch-is : (n last : ℕ) → n ≡ min (Size.size (monitorOf (reading .parts))) 65537 → last ≡ endOf (packetsAt recording)
-      → (n + 7) / 8 * (last + 1) ≡ scratchWanted table recording
-  scratch-is n last s l =
-      mul-comm ((n + 7) / 8) (last + 1) ∙ ap (λ (m : ℕ). (last + 1) * ((m + 7) / 8)) (size-is n s) ∙ ap (λ (m : ℕ). (m + 1) * Size.rowBytes (Size.size (monitorAt table))) l
+      let row : g .row ≡ Size.rowBytes (Size.size (monitorAt table)) = omega (arith, measured .size, measured .row) in
+      mul-comm (g .row) (g .last + 1) ∙ ap₂ (λ (last bytes : ℕ). (last + 1) * bytes) (m .last) row
 
 pub count-is : (recording : List ℕ) → length (packetsAt recording) ≡ countAt recording
 count-is recording = ap length (packets-tab recording) ∙ length-tab (packetAt recording) (countAt recording)
@@ -141,18 +136,15 @@ no-end recording c = sym (ap endOf (packets-tab recording ∙ ap (tab (packetAt 
 pub le-by : (a b n : ℕ) → a ≡ b → a ≤ n → b ≤ n
 le-by a b n e h = omega arith
 
-pub judging : (table recording : List ℕ) (e : recordingAnswer table recording ≡ Sound) (reading : TableReading) (r : reading ≡ readTable table) (scratch room : List ℕ)
-    (h : Shape) (n last count : ℕ) → h ≡ shapeOf (reading .parts) → n ≡ min (Size.size (monitorOf (reading .parts))) 65537 → last ≡ endOf (packetsAt recording)
-    → count ≡ countAt recording → (n + 7) / 8 * (last + 1) ≤ length scratch → 5 + 5 * (last + count) ≤ length room
-    → Judging table recording (take ((n + 7) / 8 * (last + 1) - 0) scratch) room h ((n + 7) / 8) n last
-judging table recording e reading r scratch room h n last count shape size end counted fits roomy =
+pub judging : (table recording : List ℕ) (e : recordingAnswer table recording ≡ Sound) (reading : TableReading) (r : reading ≡ readTable table)
+    (g : Measures) (m : Measured (reading .parts) recording g) (scratch room : List ℕ) (count : ℕ)
+    → count ≡ countAt recording → g .row * (g .last + 1) ≤ length scratch → 5 + 5 * (g .last + count) ≤ length room
+    → Judging table recording (take (g .row * (g .last + 1) - 0) scratch) room g
+judging table recording e reading r g m scratch room count counted fits roomy =
     record {
       sound = e;
-      shape = shape-is table recording e reading r h shape;
-      whole = size-is table recording e reading r n size;
-      bytes = refl;
-      end = end;
-      rows = let l = length-take-le ((n + 7) / 8 * (last + 1) - 0) scratch (omega arith) in omega arith;
+      measured = measured table recording e reading r g m;
+      long = let l = length-take-le (g .row * (g .last + 1) - 0) scratch (omega arith) in omega arith;
       roomy = let l = count-is recording in omega arith;
     }
 

@@ -16,7 +16,7 @@ use Rattle.model.specs.Validation.{keptRow, removedRow, addedRow, rowsBy}
 use Rattle.model.specs.Witness.{Row, kept, removed, added, noTransition}
 use Rattle.model.specs.declared.Situation.{Situation}
 use Rattle.model.proofs.MoveRows.{marked, Fits}
-use Rattle.engine.specs.WalkRows.{Triggers, Wrote, Room, heardRow}
+use Rattle.engine.specs.WalkRows.{Triggers, RowsPut, Room, heardRow}
 use Rattle.engine.proofs.WalkRoom.{wrote-same, wrote-more, room-behind}
 
 -- moves by their numbers
@@ -72,7 +72,7 @@ fits-add m o k h f = on o (subst (Fits m o) (move-add k h) f)
 -- an added row is written behind the removed one, if there is one
 module _
     (m : Monitor) (o : Option ℕ) (t k : ℕ) (late : 64 < k) {r n : ℕ} {x y : List ℕ} (room : Room (rowsBy m o t (moveOf k)) r x)
-    (first : Wrote (heardRow removed t o noTransition) r n x y)
+    (first : RowsPut (heardRow removed t o noTransition) r n x y)
   where
     all : Room (heardRow removed t o noTransition ++ addedRow t (triggerOf m (k - 65)) (k - 65)) r x
     all = omega (arith, room, ap length (rows-add m o t k late))
@@ -80,7 +80,7 @@ module _
     pub room-added : Room (addedRow t (triggerOf m (k - 65)) (k - 65)) n y
     room-added = room-behind (addedRow t (triggerOf m (k - 65)) (k - 65)) first all
 
-    pub wrote-added : {next : ℕ} {z : List ℕ} → Wrote (addedRow t (triggerOf m (k - 65)) (k - 65)) n next y z → Wrote (rowsBy m o t (moveOf k)) r next x z
+    pub wrote-added : {next : ℕ} {z : List ℕ} → RowsPut (addedRow t (triggerOf m (k - 65)) (k - 65)) n next y z → RowsPut (rowsBy m o t (moveOf k)) r next x z
     wrote-added then = wrote-same (sym (rows-add m o t k late)) (wrote-more all first then)
 
 -- the kind of an added row

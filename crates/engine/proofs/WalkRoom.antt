@@ -1,4 +1,4 @@
--- Rows written into a room one behind the other, and the header before them.
+-- Rows written into a room one behind the other, and the frame before them.
 use Prim.Native.Nat.{ℕ, _+_, _*_, _≤_}
 use native.Mathlib.Omega.{arith}
 use mathlib.Core.Path.{_≡_, refl, sym, ap, ap₂, subst, _∙_}
@@ -9,7 +9,8 @@ use Rattle.model.specs.Room.{over}
 use Rattle.model.specs.Witness.{Row, rowBytes, rowsBytes, witnessBytes}
 use Rattle.wire.specs.Placed.{placed}
 use Rattle.wire.proofs.Room.{placed-fits}
-use Rattle.engine.specs.WalkRows.{Wrote, Room, header}
+use Rattle.frame.specs.Framed.{rowsFrame}
+use Rattle.engine.specs.WalkRows.{RowsPut, Room}
 
 -- the bytes of rows
 
@@ -69,11 +70,11 @@ placed-before a b room h =
 
 -- rows
 
-pub wrote-none : (r : ℕ) (room : List ℕ) → 5 + 5 * r ≤ length room → Wrote [] r r room room
+pub wrote-none : (r : ℕ) (room : List ℕ) → 5 + 5 * r ≤ length room → RowsPut [] r r room room
 unfolding rowsBytes
 wrote-none r room h = record { bytes = sym (placed-none (5 + 5 * r) room h); count = omega arith }
 
-pub wrote-more : {a b : List Row} {r n k : ℕ} {x y z : List ℕ} → Room (a ++ b) r x → Wrote a r n x y → Wrote b n k y z → Wrote (a ++ b) r k x z
+pub wrote-more : {a b : List Row} {r n k : ℕ} {x y z : List ℕ} → Room (a ++ b) r x → RowsPut a r n x y → RowsPut b n k y z → RowsPut (a ++ b) r k x z
 wrote-more {a} {b} {r} {n} {k} {x} {y} {z} h first then =
     let place : 5 + 5 * n ≡ 5 + 5 * r + length (rowsBytes a) = omega (arith, rows-bytes-length a, first .count) in
     record {
@@ -85,22 +86,22 @@ wrote-more {a} {b} {r} {n} {k} {x} {y} {z} h first then =
       count = omega (arith, first .count, then .count, length-append a b);
     }
 
-pub wrote-same : {a b : List Row} {r n : ℕ} {x y : List ℕ} → a ≡ b → Wrote a r n x y → Wrote b r n x y
-wrote-same {a} {b} {r} {n} {x} {y} e w = subst (λ (l : List Row). Wrote l r n x y) e w
+pub wrote-same : {a b : List Row} {r n : ℕ} {x y : List ℕ} → a ≡ b → RowsPut a r n x y → RowsPut b r n x y
+wrote-same {a} {b} {r} {n} {x} {y} e w = subst (λ (l : List Row). RowsPut l r n x y) e w
 
-pub wrote-length : {a : List Row} {r n : ℕ} {x y : List ℕ} → Wrote a r n x y → Room a r x → length y ≡ length x
+pub wrote-length : {a : List Row} {r n : ℕ} {x y : List ℕ} → RowsPut a r n x y → Room a r x → length y ≡ length x
 wrote-length {a} {r} {n} {x} {y} w h =
     ap length (w .bytes) ∙ placed-length (rowsBytes a) (5 + 5 * r) x (omega (arith, rows-bytes-length a))
 
 -- behind the rows that are written there is room for the others
-pub room-behind : {a : List Row} (b : List Row) {r n : ℕ} {x y : List ℕ} → Wrote a r n x y → Room (a ++ b) r x → Room b n y
+pub room-behind : {a : List Row} (b : List Row) {r n : ℕ} {x y : List ℕ} → RowsPut a r n x y → Room (a ++ b) r x → Room b n y
 room-behind {a} b {r} {n} {x} {y} w h =
     omega (arith, length-append a b, w .count, wrote-length w (omega (arith, length-append a b)))
 
--- all rows and the header
-pub wrote-headed : {a : List Row} {n : ℕ} {x y : List ℕ} → Wrote a 0 n x y → Room a 0 x → placed (header n) 0 y ≡ over (witnessBytes a) x
+-- all rows and the frame
+pub wrote-framed : {a : List Row} {n : ℕ} {x y : List ℕ} → RowsPut a 0 n x y → Room a 0 x → placed (rowsFrame (3 + 5 * n) n) 0 y ≡ over (witnessBytes a) x
 unfolding witnessBytes
-wrote-headed {a} {n} {x} {y} w h =
+wrote-framed {a} {n} {x} {y} w h =
     let all : n ≡ length a = omega (arith, w .count) in
-    ap₂ (λ (k : ℕ) (l : List ℕ). placed (header k) 0 l) all (w .bytes)
-    ∙ placed-before (header (length a)) (rowsBytes a) x (omega (arith, rows-bytes-length a))
+    ap₂ (λ (k : ℕ) (l : List ℕ). placed (rowsFrame (3 + 5 * k) k) 0 l) all (w .bytes)
+    ∙ placed-before (rowsFrame (3 + 5 * length a) (length a)) (rowsBytes a) x (omega (arith, rows-bytes-length a))

@@ -14,7 +14,7 @@ use Rattle.model.specs.Recording.{packetsAt, endOf}
 use Rattle.model.specs.Layers.{count, layer, arrived}
 use Rattle.model.specs.Situation.{moveOf, moveLimit, recordedAt, firstNumber}
 use Rattle.model.specs.Validation.{rowsBy, rowsOf, movesOf, preferred}
-use Rattle.model.specs.Witness.{Row}
+use Rattle.model.specs.Witness.{Row, witnessLimit}
 use Rattle.model.specs.declared.Situation.{Situation}
 use Rattle.model.proofs.SetLaws.{member-within, leadsInto-member, count-some}
 use Rattle.model.proofs.LayerLaws.{length-layer, layer-suc, layer-leads}
@@ -28,9 +28,10 @@ use Rattle.situation.specs.Stepping.{arriveFrom, situationBy}
 use Rattle.situation.specs.declared.Shape.{Shape}
 use Rattle.situation.proofs.Cursors.{first-cursor}
 use Rattle.layers.specs.Advance.{stepAt, inRow, leastInto}
+use Rattle.engine.specs.declared.measures.Measures.{Measures}
 use Rattle.engine.specs.Setting.{Setting}
 use Rattle.engine.specs.PruneRows.{PrunedRows}
-use Rattle.engine.specs.WalkRows.{Wrote, Room, Stands, rowsFrom, WalkedOn}
+use Rattle.engine.specs.WalkRows.{RowsPut, Room, Stands, rowsAfter, WalkedOn}
 use Rattle.engine.proofs.PruneLayers.{sizeOf, stepOf, possible, reaching, PrunedBy, in-row-pruned, least-step}
 use Rattle.engine.proofs.WalkRoom.{wrote-none, wrote-same, wrote-more, wrote-length, room-behind}
 use Rattle.engine.proofs.WalkMoves.{fits-number}
@@ -88,15 +89,15 @@ pub record Leading (table recording : List ℕ) (last t n k : ℕ) (heard : Opti
   pub fits : Fits (monitorAt table) heard (moveOf k)
   pub here : getD (possible table recording (t + 1)) number false ≡ true
   pub alive : getD (reaching table recording (last - (t + 1)) (t + 1)) number false ≡ true
-  pub split : rowsFrom table recording last t n ≡ rowsBy (monitorAt table) heard (t + 1) (moveOf k) ++ rowsFrom table recording last (t + 1) number
+  pub split : rowsAfter table recording last t n ≡ rowsBy (monitorAt table) heard (t + 1) (moveOf k) ++ rowsAfter table recording last (t + 1) number
 
 module _ (table recording : List ℕ) (last : ℕ) where
   -- the rows of the first of the least moves, and the rows of the others
   rows-split : (t n k x : ℕ) → t < last
       → leastFrom (sizeOf table) moveLimit (stepOf table recording) (suc (last - (t + 1))) t n
       ≡ k ∷ leastFrom (sizeOf table) moveLimit (stepOf table recording) (last - (t + 1)) (suc t) x
-      → rowsFrom table recording last t n
-      ≡ rowsBy (monitorAt table) (recordedAt (packetsAt recording) (t + 1)) (t + 1) (moveOf k) ++ rowsFrom table recording last (t + 1) x
+      → rowsAfter table recording last t n
+      ≡ rowsBy (monitorAt table) (recordedAt (packetsAt recording) (t + 1)) (t + 1) (moveOf k) ++ rowsAfter table recording last (t + 1) x
   unfolding rowsOf
   rows-split t n k x l e =
       let m = monitorAt table in
@@ -108,48 +109,48 @@ module _ (table recording : List ℕ) (last : ℕ) where
       (sym (add-one (t + 1))) (sym (add-one t))
 
 module _
-    (table offsets recording : List ℕ) (h : Shape) (size last : ℕ) (set : Setting table offsets recording h size last)
-    (scratch : List ℕ) (row : ℕ) (rows : PrunedRows table recording scratch row size last)
+    (table offsets recording : List ℕ) (g : Measures) (set : Setting table offsets recording g)
+    (scratch : List ℕ) (rows : PrunedRows table recording scratch (g .row) (g .size) (g .last))
   where
     -- the code's least move into the next row is that of the definition
-    least-move : (t n : ℕ) (heard : Option ℕ) → t < last → heard ≡ recordedAt (packetsAt recording) (t + 1) → getD (possible table recording t) n false ≡ true → n < size
-        → leastInto (stepAt table offsets h heard) scratch (8 * row * (t + 1)) size n
-        ≡ least.leastInto (sizeOf table) moveLimit (stepOf table recording) (reaching table recording (last - (t + 1)) (suc t)) t n
+    least-move : (t n : ℕ) (heard : Option ℕ) → t < g .last → heard ≡ recordedAt (packetsAt recording) (t + 1) → getD (possible table recording t) n false ≡ true → n < g .size
+        → leastInto (stepAt table offsets (g .shape) heard) scratch (8 * g .row * (t + 1)) (g .size) n
+        ≡ least.leastInto (sizeOf table) moveLimit (stepOf table recording) (reaching table recording (g .last - (t + 1)) (suc t)) t n
     least-move t n heard early q here l =
-        least-step table offsets recording h size last set heard scratch (8 * row * (t + 1)) (t + 1) t n q (add-one t) l
-        ∙ least-same (sizeOf table) moveLimit (stepOf table recording) (firstNumber (monitorAt table)) (last - (t + 1)) t n (inRow scratch (8 * row * (t + 1)) size)
-        (subst (λ (u : ℕ). PrunedBy table recording (last - (t + 1)) u (inRow scratch (8 * row * (t + 1)) size)) (add-one t)
-        (in-row-pruned table offsets recording h size last set scratch (8 * row * (t + 1)) (last - (t + 1)) (t + 1) (rows (t + 1) (omega arith))))
+        least-step table offsets recording g set heard scratch (8 * g .row * (t + 1)) (t + 1) t n q (add-one t) l
+        ∙ least-same (sizeOf table) moveLimit (stepOf table recording) (firstNumber (monitorAt table)) (g .last - (t + 1)) t n (inRow scratch (8 * g .row * (t + 1)) (g .size))
+        (subst (λ (u : ℕ). PrunedBy table recording (g .last - (t + 1)) u (inRow scratch (8 * g .row * (t + 1)) (g .size))) (add-one t)
+        (in-row-pruned table offsets recording g set scratch (8 * g .row * (t + 1)) (g .last - (t + 1)) (t + 1) (rows (t + 1) (omega arith))))
         (omega (arith, set .whole)) here
 
-    pub leading : (t n j : ℕ) (heard : Option ℕ) (k : ℕ) → t < last → heard ≡ recordedAt (packetsAt recording) (t + 1)
-        → k ≡ leastInto (stepAt table offsets h heard) scratch (8 * row * (t + 1)) size n → Stands table recording last t n j
-        → Leading table recording last t n k heard (stepAt table offsets h heard n k)
+    pub leading : (t n j : ℕ) (heard : Option ℕ) (k : ℕ) → t < g .last → heard ≡ recordedAt (packetsAt recording) (t + 1)
+        → k ≡ leastInto (stepAt table offsets (g .shape) heard) scratch (8 * g .row * (t + 1)) (g .size) n → Stands table recording (g .last) t n j
+        → Leading table recording (g .last) t n k heard (stepAt table offsets (g .shape) heard n k)
     leading t n j heard k early q e stands =
         record {
           number = on .number;
-          arrives = ap (λ (o : Option ℕ). stepAt table offsets h o n k) q ∙ set .stepping (t + 1) n k below ∙ arrives;
+          arrives = ap (λ (o : Option ℕ). stepAt table offsets (g .shape) o n k) q ∙ set .stepping (t + 1) n k below ∙ arrives;
           few = omega (arith, same, on .few);
           fits = subst (λ (o : Option ℕ). Fits m o (moveOf k)) (sym q) (fits-number m (packetsAt recording) (t + 1) n k (on .number) arrives);
           here = subst (λ (u : ℕ). getD (possible table recording u) (on .number) false ≡ true) (sym (add-one t)) (on .here);
           alive = subst (λ (u : ℕ). getD (reaching table recording left u) (on .number) false ≡ true) (sym (add-one t)) (on .alive);
           split =
-              rows-split table recording last t n k (on .number) early (on .moves ∙ ap (λ (i : ℕ). i ∷ leastFrom (sizeOf table) moveLimit (stepOf table recording) left (suc t) (on .number)) (sym same))
-              ∙ ap (λ (o : Option ℕ). rowsBy m o (t + 1) (moveOf k) ++ rowsFrom table recording last (t + 1) (on .number)) (sym q);
+              rows-split table recording (g .last) t n k (on .number) early (on .moves ∙ ap (λ (i : ℕ). i ∷ leastFrom (sizeOf table) moveLimit (stepOf table recording) left (suc t) (on .number)) (sym same))
+              ∙ ap (λ (o : Option ℕ). rowsBy m o (t + 1) (moveOf k) ++ rowsAfter table recording (g .last) (t + 1) (on .number)) (sym q);
         }
       where
         m : Monitor
         m = monitorAt table
 
         left : ℕ
-        left = last - (t + 1)
+        left = g .last - (t + 1)
 
-        below : n < size
+        below : n < g .size
         below = omega (arith, set .whole, inside (sizeOf table) moveLimit (stepOf table recording) (firstNumber m) t n (stands .here))
 
         on : Next (sizeOf table) moveLimit (stepOf table recording) (firstNumber m) left t n (least.leastInto (sizeOf table) moveLimit (stepOf table recording) (reaching table recording left (suc t)) t n)
         on =
-            let more : last - t ≡ suc left = omega arith in
+            let more : g .last - t ≡ suc left = omega arith in
             next (sizeOf table) moveLimit (stepOf table recording) (firstNumber m) left t n (stands .here)
             (subst (λ (u : ℕ). getD (reaching table recording u t) n false ≡ true) more (stands .alive))
 
@@ -161,7 +162,7 @@ module _
 
 pub onward : {table recording : List ℕ} {last t n k : ℕ} {heard to : Option ℕ} → Leading table recording last t n k heard to
     → {x j r next : ℕ} {before after : List ℕ} → to ≡ some x → Cursor recording j (t + 1 + 1)
-    → Wrote (rowsBy (monitorAt table) heard (t + 1) (moveOf k)) r next before after
+    → RowsPut (rowsBy (monitorAt table) heard (t + 1) (moveOf k)) r next before after
     → WalkedOn table recording last t n r x j next before after
 onward {table} {recording} {last} {t} {n} {k} {heard} {to} on {x} {j} {r} {next} {before} {after} e cursor wrote =
     let same : on .number ≡ x = Option·some-injective (on .number) x (sym (on .arrives) ∙ e) in
@@ -174,68 +175,72 @@ onward {table} {recording} {last} {t} {n} {k} {heard} {to} on {x} {j} {r} {next}
             cursor = cursor;
           };
       wrote = wrote;
-      split = on .split ∙ ap (λ (z : ℕ). rowsBy (monitorAt table) heard (t + 1) (moveOf k) ++ rowsFrom table recording last (t + 1) z) same;
+      split = on .split ∙ ap (λ (z : ℕ). rowsBy (monitorAt table) heard (t + 1) (moveOf k) ++ rowsAfter table recording last (t + 1) z) same;
     }
 
 -- the rows written up to instant t, and those to come from number n, are the preferred witness
 pub record Walked (table recording : List ℕ) (last t n r : ℕ) (before after : List ℕ) : Type 0 where
   pub rows : List Row
-  pub wrote : Wrote rows 0 r before after
-  pub whole : rows ++ rowsFrom table recording last t n ≡ preferred (monitorAt table) (packetsAt recording)
+  pub wrote : RowsPut rows 0 r before after
+  pub whole : rows ++ rowsAfter table recording last t n ≡ preferred (monitorAt table) (packetsAt recording)
 
 module _ {table recording : List ℕ} {last t n r : ℕ} {before after : List ℕ} (walked : Walked table recording last t n r before after)
     (room : Room (preferred (monitorAt table) (packetsAt recording)) 0 before)
   where
-    pub room-left : Room (rowsFrom table recording last t n) r after
-    room-left = room-behind (rowsFrom table recording last t n) (walked .wrote) (omega (arith, ap length (walked .whole)))
+    pub room-left : Room (rowsAfter table recording last t n) r after
+    room-left = room-behind (rowsAfter table recording last t n) (walked .wrote) (omega (arith, ap length (walked .whole)))
+
+    pub walked-few : r ≤ length (preferred (monitorAt table) (packetsAt recording))
+    walked-few =
+        omega (arith, walked .wrote .count, ap length (walked .whole), length-append (walked .rows) (rowsAfter table recording last t n))
 
     pub walked-length : length after ≡ length before
-    walked-length = wrote-length (walked .wrote) (omega (arith, ap length (walked .whole), length-append (walked .rows) (rowsFrom table recording last t n)))
+    walked-length = wrote-length (walked .wrote) (omega (arith, ap length (walked .whole), length-append (walked .rows) (rowsAfter table recording last t n)))
 
     pub walked-on : {x j next : ℕ} {then : List ℕ} → WalkedOn table recording last t n r x j next after then → Walked table recording last (t + 1) x next before then
     walked-on {x} on =
-        let all : (walked .rows ++ on .rows) ++ rowsFrom table recording last (t + 1) x ≡ preferred (monitorAt table) (packetsAt recording) =
-        append-assoc (walked .rows) (on .rows) (rowsFrom table recording last (t + 1) x)
+        let all : (walked .rows ++ on .rows) ++ rowsAfter table recording last (t + 1) x ≡ preferred (monitorAt table) (packetsAt recording) =
+        append-assoc (walked .rows) (on .rows) (rowsAfter table recording last (t + 1) x)
         ∙ ap (λ (l : List Row). walked .rows ++ l) (sym (on .split))
         ∙ walked .whole in
         record {
           rows = walked .rows ++ on .rows;
-          wrote = wrote-more (omega (arith, ap length all, length-append (walked .rows ++ on .rows) (rowsFrom table recording last (t + 1) x))) (walked .wrote) (on .wrote);
+          wrote = wrote-more (omega (arith, ap length all, length-append (walked .rows ++ on .rows) (rowsAfter table recording last (t + 1) x))) (walked .wrote) (on .wrote);
           whole = all;
         }
 
 -- where the walk begins and ends
-module _ (table offsets recording : List ℕ) (h : Shape) (size last : ℕ) (set : Setting table offsets recording h size last) where
-  pub stands-first : 0 < count (possible table recording last) → Stands table recording last 0 (firstNumber (monitorAt table)) 0
+module _ (table offsets recording : List ℕ) (g : Measures) (set : Setting table offsets recording g) where
+  pub stands-first : 0 < count (possible table recording (g .last)) → Stands table recording (g .last) 0 (firstNumber (monitorAt table)) 0
   unfolding layer
   stands-first some-left =
       let m = monitorAt table in
       let step = stepOf table recording in
       let below : firstNumber m < sizeOf table = first-number-below (set .sane) in
-      let (z, l, member) = count-some (possible table recording last) some-left in
-      let (ks, long, leads) = layer-leads (sizeOf table) moveLimit step (firstNumber m) last z member in
-      let whole : last ≡ last - 0 = omega arith in
+      let (z, l, member) = count-some (possible table recording (g .last)) some-left in
+      let (ks, long, leads) = layer-leads (sizeOf table) moveLimit step (firstNumber m) (g .last) z member in
+      let whole : g .last ≡ g .last - 0 = omega arith in
       record {
         here = getD-set-same (replicate (sizeOf table) false) (firstNumber m) true false (omega (arith, length-replicate (sizeOf table) false));
-        alive = alive-carries (sizeOf table) moveLimit step (last - 0) 0 (firstNumber m) below .1 (ks, z, long ∙ whole, leads);
+        alive = alive-carries (sizeOf table) moveLimit step (g .last - 0) 0 (firstNumber m) below .1 (ks, z, long ∙ whole, leads);
         cursor = first-cursor m recording (set .sound .trace);
       }
 
-  pub rows-all : rowsFrom table recording last 0 (firstNumber (monitorAt table)) ≡ preferred (monitorAt table) (packetsAt recording)
+  pub rows-all : rowsAfter table recording (g .last) 0 (firstNumber (monitorAt table)) ≡ preferred (monitorAt table) (packetsAt recording)
   unfolding preferred
   rows-all =
-      let whole : last - 0 ≡ endOf (packetsAt recording) = omega (arith, set .end) in
+      let whole : g .last - 0 ≡ endOf (packetsAt recording) = omega (arith, set .end) in
       ap (λ (u : ℕ). rowsOf (monitorAt table) (packetsAt recording) 1 (leastFrom (sizeOf table) moveLimit (stepOf table recording) u 0 (firstNumber (monitorAt table)))) whole
       ∙ ap (rowsOf (monitorAt table) (packetsAt recording) 1) (sym (leastMoves-from (sizeOf table) moveLimit (stepOf table recording) (firstNumber (monitorAt table)) (endOf (packetsAt recording))))
 
-  pub rows-end : (n : ℕ) → rowsFrom table recording last last n ≡ []
+  pub rows-end : (n : ℕ) → rowsAfter table recording (g .last) (g .last) n ≡ []
   unfolding rowsOf
   rows-end n =
-      let none-left : last - last ≡ 0 = omega arith in
-      ap (λ (u : ℕ). rowsOf (monitorAt table) (packetsAt recording) (last + 1) (leastFrom (sizeOf table) moveLimit (stepOf table recording) u last n)) none-left
-      ∙ ap (rowsOf (monitorAt table) (packetsAt recording) (last + 1)) (leastFrom-zero (sizeOf table) moveLimit (stepOf table recording) last n)
+      let none-left : g .last - g .last ≡ 0 = omega arith in
+      ap (λ (u : ℕ). rowsOf (monitorAt table) (packetsAt recording) (g .last + 1) (leastFrom (sizeOf table) moveLimit (stepOf table recording) u (g .last) n)) none-left
+      ∙ ap (rowsOf (monitorAt table) (packetsAt recording) (g .last + 1)) (leastFrom-zero (sizeOf table) moveLimit (stepOf table recording) (g .last) n)
 
-  pub rows-fit : length (preferred (monitorAt table) (packetsAt recording)) ≤ last + length (packetsAt recording)
+  pub rows-fit : length (preferred (monitorAt table) (packetsAt recording)) ≤ g .last + length (packetsAt recording)
   unfolding preferred
   rows-fit =
       omega (
@@ -245,14 +250,18 @@ module _ (table offsets recording : List ℕ) (h : Shape) (size last : ℕ) (set
         length-least (sizeOf table) moveLimit (stepOf table recording) (firstNumber (monitorAt table)) (endOf (packetsAt recording)),
       )
 
-  pub walked-first : (room : List ℕ) → 5 ≤ length room → Walked table recording last 0 (firstNumber (monitorAt table)) 0 room room
+  -- a witness has at most 4,096 + 512 rows
+  pub rows-few : length (preferred (monitorAt table) (packetsAt recording)) ≤ witnessLimit
+  rows-few = omega (arith, rows-fit)
+
+  pub walked-first : (room : List ℕ) → 5 ≤ length room → Walked table recording (g .last) 0 (firstNumber (monitorAt table)) 0 room room
   walked-first room l = record { rows = []; wrote = wrote-none 0 room (omega arith); whole = rows-all }
 
-  pub walked-all : {t n r : ℕ} {before after : List ℕ} → Walked table recording last t n r before after → t ≡ last
-      → Wrote (preferred (monitorAt table) (packetsAt recording)) 0 r before after
+  pub walked-all : {t n r : ℕ} {before after : List ℕ} → Walked table recording (g .last) t n r before after → t ≡ g .last
+      → RowsPut (preferred (monitorAt table) (packetsAt recording)) 0 r before after
   walked-all {t} {n} walked e =
       wrote-same
       (sym (append-nil (walked .rows))
-      ∙ ap (λ (l : List Row). walked .rows ++ l) (sym (ap (λ (u : ℕ). rowsFrom table recording last u n) e ∙ rows-end n))
+      ∙ ap (λ (l : List Row). walked .rows ++ l) (sym (ap (λ (u : ℕ). rowsAfter table recording (g .last) u n) e ∙ rows-end n))
       ∙ walked .whole)
       (walked .wrote)

@@ -3,39 +3,31 @@ use Prim.Native.Nat.{ℕ, _+_, _*_, _≤_}
 use mathlib.Core.Path.{_≡_}
 use mathlib.Core.List.{List}
 use lib.ListN.{length, replicate}
-use Rattle.model.specs.Size
 use Rattle.model.specs.Table.{monitorAt, tableParts}
-use Rattle.model.specs.Recording.{SoundRecording, packetsAt, endOf}
+use Rattle.model.specs.Recording.{SoundRecording, packetsAt}
 use Rattle.model.specs.Witness.{witnessBytes}
 use Rattle.model.specs.Validation.{preferred, verdict, roomBy}
 use Rattle.model.specs.declared.Verdict.{Verdict}
-use Rattle.model.specs.Situation.{firstNumber}
-use Rattle.situation.specs.Numbering.{shapeOf}
+use Rattle.engine.specs.Measured.{Measured}
 use Rattle.engine.specs.Setting.{Setting}
 use Rattle.engine.specs.WalkRows.{Triggers}
 use Rattle.engine.specs.Forwarding.{Ended}
+use Rattle.engine.specs.declared.measures.Measures.{Measures}
 use Rattle.engine.specs.declared.forward.Outcome.{Outcome}
-use Rattle.situation.specs.declared.Shape.{Shape}
 
--- a sound table and recording, their shape, N, T and the bytes of a row; the wanted part of the scratch; room enough
-pub record Judging (table recording scratch room : List ℕ) (h : Shape) (row size last : ℕ) : Type 0 where
+-- a sound table and recording, and what is measured of them; the wanted part of the scratch; room enough
+pub record Judging (table recording scratch room : List ℕ) (g : Measures) : Type 0 where
   pub sound : SoundRecording table recording
-  pub shape : h ≡ shapeOf (tableParts table)
-  pub whole : size ≡ Size.size (monitorAt table)
-  pub bytes : row ≡ Size.rowBytes size
-  pub end : last ≡ endOf (packetsAt recording)
-  pub rows : row * (last + 1) ≤ length scratch
-  pub roomy : 5 + 5 * (last + length (packetsAt recording)) ≤ length room
+  pub measured : Measured (tableParts table) recording g
+  pub long : g .row * (g .last + 1) ≤ length scratch
+  pub roomy : 5 + 5 * (g .last + length (packetsAt recording)) ≤ length room
 
 -- what ending a forward pass starts from
-pub record Ending (table offsets recording scratch room : List ℕ) (h : Shape) (budget row size last first : ℕ) (o : Outcome) : Type 0 where
-  pub setting : Setting table offsets recording h size last
+pub record Ending (table offsets recording scratch room : List ℕ) (g : Measures) (budget : ℕ) (o : Outcome) : Type 0 where
+  pub setting : Setting table offsets recording g
   pub triggers : Triggers table offsets
-  pub wide : size ≤ 8 * row
-  pub narrow : row ≤ 8192
-  pub start : first ≡ firstNumber (monitorAt table)
-  pub roomy : 5 + 5 * (last + length (packetsAt recording)) ≤ length room
-  pub ended : Ended table recording scratch budget row last o
+  pub roomy : 5 + 5 * (g .last + length (packetsAt recording)) ≤ length room
+  pub ended : Ended table recording scratch budget (g .row) (g .last) o
 
 -- what it ends with: the verdict, and the witness in the room where there is one
 pub record Concluded (table recording : List ℕ) (budget : ℕ) (scratch room scratchThen roomThen : List ℕ) (v : Verdict) : Type 0 where

@@ -1,3 +1,4 @@
+pub mod Measured
 pub mod Setting
 pub mod PruneRows
 pub mod WalkRows

@@ -18,8 +18,8 @@ use Rattle.situation.specs.Rows.{isAt}
 use Rattle.layers.specs.Advance.{leastInto}
 
 -- the cursor before row j - 1 where that is at instant t
-unfoldable pub backBy : List ℕ → (j t : ℕ) → ℕ
-backBy b j t = cond (isAt b (j - 1) t) (j - 1) j
+unfoldable pub cursorBefore : List ℕ → (j t : ℕ) → ℕ
+cursorBefore b j t = cond (isAt b (j - 1) t) (j - 1) j
 
 -- what stays of situation n of one row: it is there, and some move leads from it into another row
 abbrev pub stays : (step : ℕ → ℕ → Option ℕ) → List ℕ → (from to size n : ℕ) → Bool

@@ -7,21 +7,24 @@ use lib.ListN.{getD}
 use Rattle.model.specs.Size
 use Rattle.model.specs.Table.{monitorAt}
 use Rattle.model.specs.Recording.{packetsAt, endOf}
-use Rattle.model.specs.Situation.{recordedAt, stepNumber}
+use Rattle.model.specs.Situation.{recordedAt, stepNumber, firstNumber}
 use Rattle.model.specs.Validation.{possibleAfter}
 use Rattle.model.proofs.Chains.{Sane, SaneRecording}
 use Rattle.bits.specs.Member.{mem}
-use Rattle.situation.specs.declared.Shape.{Shape}
 use Rattle.layers.specs.Advance.{stepAt}
+use Rattle.engine.specs.declared.measures.Measures.{Measures}
 
--- the code's step is the definition's, at every instant; size is N and last is T
-pub record Setting (table offsets recording : List ℕ) (h : Shape) (size last : ℕ) : Type 0 where
+-- the measures are right, and the code's step is the definition's, at every instant
+pub record Setting (table offsets recording : List ℕ) (g : Measures) : Type 0 where
   pub sane : Sane (monitorAt table)
   pub sound : SaneRecording (monitorAt table) (packetsAt recording)
-  pub whole : size ≡ Size.size (monitorAt table)
-  pub end : last ≡ endOf (packetsAt recording)
-  pub stepping : (t n k : ℕ) → n < size
-      → stepAt table offsets h (recordedAt (packetsAt recording) t) n k ≡ stepNumber (monitorAt table) (packetsAt recording) t n k
+  pub whole : g .size ≡ Size.size (monitorAt table)
+  pub wide : g .size ≤ 8 * g .row
+  pub narrow : g .row ≤ 8192
+  pub end : g .last ≡ endOf (packetsAt recording)
+  pub start : g .first ≡ firstNumber (monitorAt table)
+  pub stepping : (t n k : ℕ) → n < g .size
+      → stepAt table offsets (g .shape) (recordedAt (packetsAt recording) t) n k ≡ stepNumber (monitorAt table) (packetsAt recording) t n k
 
 -- the row of instant t, of so many bytes, holds a set
 abbrev pub RowHolds : List ℕ → (row t : ℕ) → List Bool → Type 0

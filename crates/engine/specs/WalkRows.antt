@@ -6,7 +6,7 @@ use mathlib.Core.Bool.{true, false}
 use mathlib.Core.Option.{Option, none, some}
 use lib.ListN.{length, getD, getElem?}
 use Rattle.model.specs.Size
-use Rattle.model.specs.Bytes.{byteAt, wordBytes}
+use Rattle.model.specs.Bytes.{byteAt}
 use Rattle.model.specs.Monitor.{Transition}
 use Rattle.model.specs.Table.{monitorAt}
 use Rattle.model.specs.Recording.{packetsAt}
@@ -17,7 +17,7 @@ use Rattle.model.proofs.LeastLaws.{alive, leastFrom}
 use Rattle.model.proofs.MoveRows.{marked}
 use Rattle.wire.specs.Placed.{placed}
 use Rattle.situation.specs.Rows.{Cursor}
-use Rattle.situation.specs.declared.Shape.{Shape}
+use Rattle.engine.specs.declared.measures.Measures.{Measures}
 use Rattle.engine.specs.Setting.{Setting}
 use Rattle.engine.specs.PruneRows.{PrunedRows}
 
@@ -25,15 +25,14 @@ use Rattle.engine.specs.PruneRows.{PrunedRows}
 pub record Triggers (table offsets : List ℕ) : Type 0 where
   pub trigger : (j : ℕ) (t : Transition) → getElem? (monitorAt table .transitions) j ≡ some t → byteAt table (getD offsets j 0 + 2) ≡ t .trigger
 
--- what a walk goes by: rows of the scratch, of at most 8,192 bytes, that are pruned
-pub record Ground (table offsets recording : List ℕ) (h : Shape) (scratch : List ℕ) (row size last : ℕ) : Type 0 where
-  pub set : Setting table offsets recording h size last
+-- what a walk goes by: pruned rows of the scratch
+pub record Ground (table offsets recording scratch : List ℕ) (g : Measures) : Type 0 where
+  pub setting : Setting table offsets recording g
   pub triggers : Triggers table offsets
-  pub pruned : PrunedRows table recording scratch row size last
-  pub small : row ≤ 8192
+  pub pruned : PrunedRows table recording scratch (g .row) (g .size) (g .last)
 
 -- rows stand in the room from row r on, and next is the number of the row behind them
-pub record Wrote (rows : List Row) (r next : ℕ) (before after : List ℕ) : Type 0 where
+pub record RowsPut (rows : List Row) (r next : ℕ) (before after : List ℕ) : Type 0 where
   pub bytes : after ≡ placed (rowsBytes rows) (5 + 5 * r) before
   pub count : next ≡ r + length rows
 
@@ -46,10 +45,6 @@ abbrev pub heardRow : (mark t : ℕ) → Option ℕ → (transition : ℕ) → L
 heardRow mark t none j = []
 heardRow mark t (some k) j = marked mark t k j ∷ []
 
--- what stands before the rows: the length of what follows it, the version, the number of rows
-abbrev pub header : ℕ → List ℕ
-header n = wordBytes (3 + 5 * n) ++ (1 ∷ []) ++ wordBytes n
-
 -- the walk stands after instant t at number n, from which the end, last, can be reached, and j rows are recorded up to t
 pub record Stands (table recording : List ℕ) (last t n j : ℕ) : Type 0 where
   pub here : getD (possibleAfter (monitorAt table) (packetsAt recording) t) n false ≡ true
@@ -57,8 +52,8 @@ pub record Stands (table recording : List ℕ) (last t n j : ℕ) : Type 0 where
   pub cursor : Cursor recording j (t + 1)
 
 -- the rows of the least moves from number n after instant t
-abbrev pub rowsFrom : (table recording : List ℕ) → (last t n : ℕ) → List Row
-rowsFrom table recording last t n =
+abbrev pub rowsAfter : (table recording : List ℕ) → (last t n : ℕ) → List Row
+rowsAfter table recording last t n =
     let m = monitorAt table in
     let packets = packetsAt recording in
     rowsOf m packets (t + 1) (leastFrom (Size.size m) moveLimit (stepNumber m packets) (last - t) t n)
@@ -67,5 +62,5 @@ rowsFrom table recording last t n =
 pub record WalkedOn (table recording : List ℕ) (last t n r x j next : ℕ) (before after : List ℕ) : Type 0 where
   pub rows : List Row
   pub stands : Stands table recording last (t + 1) x j
-  pub wrote : Wrote rows r next before after
-  pub split : rowsFrom table recording last t n ≡ rows ++ rowsFrom table recording last (t + 1) x
+  pub wrote : RowsPut rows r next before after
+  pub split : rowsAfter table recording last t n ≡ rows ++ rowsAfter table recording last (t + 1) x

@@ -1,8 +1,8 @@
 // The forward pass: the situations possible after each instant, each set in its row of the scratch, and what they cost.
+use crate::measures::Measures;
 use bits::count;
 use bits::put;
 use layers::advance;
-use situation::Shape;
 use situation::rows::heard_at;
 use situation::rows::passed;
 ghost use mathlib.Core.Path.{_≡_};
@@ -21,16 +21,15 @@ fn instant<'a>(
     table: &'a [u8],
     offsets: &'a [u16],
     recording: &'a [u8],
-    h: Shape,
+    g: Measures,
     scratch: &mut [u8],
-    row: usize,
-    size: usize,
     t: usize,
     i: usize,
 ) -> u64
-    requires { ⌜ Turn (now table) (now offsets) (now recording) (now scratch) h row size t i ⌝ }
-    ensures { λ r. ⌜ Turned (now (table .entry)) (now (recording .entry)) (now (scratch .entry)) (now (scratch .exit)) row t i r ⌝ }
+    requires { ⌜ Turn (now table) (now offsets) (now recording) (now scratch) g t i ⌝ }
+    ensures { λ r. ⌜ Turned (now (table .entry)) (now (recording .entry)) (now (scratch .entry)) (now (scratch .exit)) (g .row) t i r ⌝ }
 {
+    let h = g.shape;
     let heard = heard_at(recording, i, t as u64 + 1);
     advance(
         table,
@@ -38,12 +37,12 @@ fn instant<'a>(
         h,
         heard,
         scratch,
-        8 * row * t,
-        8 * row * (t + 1),
-        size,
+        8 * g.row * t,
+        8 * g.row * (t + 1),
+        g.size,
     );
-    let from = row * (t + 1);
-    let to = from + row;
+    let from = g.row * (t + 1);
+    let to = from + g.row;
     count(&scratch[from..to])
 }
 
@@ -52,29 +51,25 @@ pub(crate) fn forward<'a>(
     table: &'a [u8],
     offsets: &'a [u16],
     recording: &'a [u8],
-    h: Shape,
+    g: Measures,
     budget: u64,
     scratch: &mut [u8],
-    row: usize,
-    size: usize,
-    last: usize,
-    first: usize,
 ) -> Outcome
-    requires { ⌜ Forwarding (now table) (now offsets) (now recording) (now scratch) h row size last first ⌝ }
-    ensures { λ r. ⌜ (length (now (scratch .exit)) ≡ length (now (scratch .entry))) × Ended (now (table .entry)) (now (recording .entry)) (now (scratch .exit)) budget row last r ⌝ }
+    requires { ⌜ Forwarding (now table) (now offsets) (now recording) (now scratch) g ⌝ }
+    ensures { λ r. ⌜ (length (now (scratch .exit)) ≡ length (now (scratch .entry))) × Ended (now (table .entry)) (now (recording .entry)) (now (scratch .exit)) budget (g .row) (g .last) r ⌝ }
 {
-    put(scratch, first);
+    put(scratch, g.first as usize);
     let mut cost: u64 = 0;
     let mut work: u64 = 1;
     let mut i = 0;
     let mut t = 0;
-    while t < last {
+    while t < g.last {
         let next = t as u64 + 1;
         cost += work;
         if budget < cost {
             return Outcome::Spent { instant: next };
         }
-        work = instant(table, offsets, recording, h, scratch, row, size, t, i);
+        work = instant(table, offsets, recording, g, scratch, t, i);
         if work == 0 {
             return Outcome::Emptied {
                 cost,

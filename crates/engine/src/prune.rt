@@ -1,4 +1,5 @@
 // The way back through the rows: a situation from which the end cannot be reached is cut from its row.
+use crate::measures::Measures;
 use situation::Heard;
 use situation::Shape;
 use situation::rows::heard_at;
@@ -8,11 +9,13 @@ ghost use lib.ListN.{length};
 ghost use Rattle.situation.specs.Rows.{heardAt, heardOf};
 ghost use Rattle.layers.specs.Advance.{stepAt};
 ghost use Rattle.engine.specs.Setting.{Setting, LayersUpTo};
-ghost use Rattle.engine.specs.PruneRows.{backBy, CutIn, RowCut, PrunedRows};
+ghost use Rattle.engine.specs.PruneRows.{cursorBefore, CutIn, RowCut, PrunedRows};
+
+const MOVE_LIMIT: usize = 129;
 
 // The cursor of instant t, from that of the next instant.
 fn back(recording: &[u8], cursor: usize, t: u64) -> usize
-    ensures { λ r. ⌜ r ≡ backBy (now (recording .entry)) cursor t ⌝ }
+    ensures { λ r. ⌜ r ≡ cursorBefore (now (recording .entry)) cursor t ⌝ }
 {
     if cursor == 0 {
         return 0;
@@ -41,7 +44,7 @@ fn cut_stuck<'a>(
     if !bits::test(scratch, from + n) {
         return;
     }
-    if layers::least_into(table, offsets, h, heard, scratch, to, size, n as u64) < 129 {
+    if layers::least_into(table, offsets, h, heard, scratch, to, size, n as u64) < MOVE_LIMIT {
         return;
     }
     bits::cut(scratch, from + n);
@@ -73,50 +76,46 @@ fn prune_at<'a>(
     table: &'a [u8],
     offsets: &'a [u16],
     recording: &'a [u8],
-    h: Shape,
+    g: Measures,
     scratch: &mut [u8],
-    row: usize,
-    size: usize,
     cursor: usize,
     t: usize,
 ) -> usize
-    requires { ⌜ (size ≤ 8 * row) × (row ≤ 8192) × (t < 65535) ⌝ }
-    ensures { λ r. ⌜ (r ≡ backBy (now (recording .entry)) cursor (t + 1)) × RowCut (stepAt (now (table .entry)) (now (offsets .entry)) h (heardAt (now (recording .entry)) r (t + 1))) (8 * row * t) (8 * row * (t + 1)) size size (now (scratch .entry)) (now (scratch .exit)) ⌝ }
+    requires { ⌜ Setting (now table) (now offsets) (now recording) g × (t < g .last) ⌝ }
+    ensures { λ r. ⌜ (r ≡ cursorBefore (now (recording .entry)) cursor (t + 1)) × RowCut (stepAt (now (table .entry)) (now (offsets .entry)) (g .shape) (heardAt (now (recording .entry)) r (t + 1))) (8 * g .row * t) (8 * g .row * (t + 1)) (g .size) (g .size) (now (scratch .entry)) (now (scratch .exit)) ⌝ }
 {
     let instant = t as u64 + 1;
     let before = back(recording, cursor, instant);
     let heard = heard_at(recording, before, instant);
+    let h = g.shape;
     cut_row(
         table,
         offsets,
         h,
         heard,
         scratch,
-        8 * row * t,
-        8 * row * (t + 1),
-        size,
+        8 * g.row * t,
+        8 * g.row * (t + 1),
+        g.size,
     );
     before
 }
 
-// Leaves in each row, of row bytes, the situations from which instant last can be reached.
+// Leaves in each row the situations from which the last instant can be reached.
 pub(crate) fn prune<'a>(
     table: &'a [u8],
     offsets: &'a [u16],
     recording: &'a [u8],
-    h: Shape,
+    g: Measures,
     scratch: &mut [u8],
-    row: usize,
-    size: usize,
-    last: usize,
 )
-    requires { ⌜ Setting (now table) (now offsets) (now recording) h size last × (size ≤ 8 * row) × (row ≤ 8192) × LayersUpTo (now table) (now recording) (now scratch) row last ⌝ }
-    ensures { λ r. ⌜ (length (now (scratch .exit)) ≡ length (now (scratch .entry))) × PrunedRows (now (table .entry)) (now (recording .entry)) (now (scratch .exit)) row size last ⌝ }
+    requires { ⌜ Setting (now table) (now offsets) (now recording) g × LayersUpTo (now table) (now recording) (now scratch) (g .row) (g .last) ⌝ }
+    ensures { λ r. ⌜ (length (now (scratch .exit)) ≡ length (now (scratch .entry))) × PrunedRows (now (table .entry)) (now (recording .entry)) (now (scratch .exit)) (g .row) (g .size) (g .last) ⌝ }
 {
     let mut cursor = wire::word(recording, 3) as usize;
-    let mut t = last;
+    let mut t = g.last;
     while 0 < t {
         t -= 1;
-        cursor = prune_at(table, offsets, recording, h, scratch, row, size, cursor, t);
+        cursor = prune_at(table, offsets, recording, g, scratch, cursor, t);
     }
 }

@@ -1,4 +1,6 @@
 // The walk along the least moves, whose rows are the preferred witness.
+use crate::measures::Measures;
+use frame::frame_bytes;
 use situation::Arrival;
 use situation::Heard;
 use situation::Shape;
@@ -6,23 +8,42 @@ use situation::numbering::situation_of;
 use situation::rows::heard_at;
 use situation::rows::passed;
 use situation::step::arrive;
+use wire::byte;
+use wire::place;
+use wire::short;
+use witness::Entry;
+use witness::row_bytes;
 ghost use Prim.Native.Nat.{ℕ, _+_, _*_, _≤_, _<_};
 ghost use mathlib.Core.Path.{_≡_};
 ghost use mathlib.Core.List.{[], _∷_};
 ghost use mathlib.Core.Option.{some};
 ghost use lib.ListN.{length};
 ghost use Rattle.model.specs.Table.{monitorAt};
-ghost use Rattle.model.specs.Recording.{packetsAt, endOf};
-ghost use Rattle.model.specs.Situation.{triggerOf, moveOf, firstNumber};
+ghost use Rattle.model.specs.Recording.{packetsAt};
+ghost use Rattle.model.specs.Situation.{triggerOf, moveLimit, moveOf};
 ghost use Rattle.model.specs.Layers.{count};
 ghost use Rattle.model.specs.Room.{over};
 ghost use Rattle.model.specs.Validation.{addedRow, rowsBy, possibleAfter, preferred};
-ghost use Rattle.model.specs.Witness.{witnessBytes};
-ghost use Rattle.model.proofs.MoveRows.{marked, Fits};
+ghost use Rattle.model.specs.Witness.{witnessLimit, witnessBytes};
+ghost use Rattle.model.proofs.MoveRows.{Fits};
 ghost use Rattle.wire.specs.Placed.{placed};
+ghost use Rattle.frame.specs.Framed.{rowsFrame};
+ghost use Rattle.witness.specs.Rows.{rowOf};
 ghost use Rattle.situation.specs.Rows.{heardOf};
 ghost use Rattle.layers.specs.Advance.{stepAt, leastInto};
-ghost use Rattle.engine.specs.WalkRows.{Triggers, Ground, Wrote, Room, heardRow, header, Stands, rowsFrom, WalkedOn};
+ghost use Rattle.engine.specs.WalkRows.{Triggers, Ground, RowsPut, Room, heardRow, Stands, rowsAfter, WalkedOn};
+
+const KEPT: u8 = 0;
+
+const REMOVED: u8 = 1;
+
+const ADDED: u8 = 2;
+
+const NO_TRANSITION: u8 = 255;
+
+const REST: usize = 64;
+
+const FIRST_ADD: usize = 65;
 
 // A least move, and the number that it leads to.
 struct Least {
@@ -38,28 +59,31 @@ struct Place {
 }
 
 // Writes row number r and gives the next row's number, as the functions below do.
-fn put_row(room: &mut [u8], r: usize, mark: u8, t: u64, kind: u8, transition: u8) -> usize
-    requires { ⌜ Room (marked mark t kind transition ∷ []) r (now room) ⌝ }
-    ensures { λ n. ⌜ Wrote (marked mark t kind transition ∷ []) r n (now (room .entry)) (now (room .exit)) ⌝ }
+fn put_row(room: &mut [u8], r: usize, row: Entry) -> usize
+    requires { ⌜ Room (rowOf row ∷ []) r (now room) ⌝ }
+    ensures { λ n. ⌜ RowsPut (rowOf row ∷ []) r n (now (room .entry)) (now (room .exit)) ⌝ }
 {
-    let bytes = [
-        mark,
-        (t / 256 % 256) as u8,
-        (t % 256) as u8,
-        kind,
-        transition,
-    ];
-    wire::place(&bytes, room, 5 + 5 * r);
+    let bytes = row_bytes(row);
+    place(&bytes, room, 5 + 5 * r);
     r + 1
 }
 
 // A kept or a removed row, if a row is recorded.
-fn put_heard(room: &mut [u8], r: usize, mark: u8, t: u64, heard: Heard, transition: u8) -> usize
+fn put_heard(room: &mut [u8], r: usize, mark: u8, t: u16, heard: Heard, transition: u8) -> usize
     requires { ⌜ Room (heardRow mark t (heardOf heard) transition) r (now room) ⌝ }
-    ensures { λ n. ⌜ Wrote (heardRow mark t (heardOf heard) transition) r n (now (room .entry)) (now (room .exit)) ⌝ }
+    ensures { λ n. ⌜ RowsPut (heardRow mark t (heardOf heard) transition) r n (now (room .entry)) (now (room .exit)) ⌝ }
 {
     match heard {
-        Heard::Kind(kind) => put_row(room, r, mark, t, kind, transition),
+        Heard::Kind(kind) => put_row(
+            room,
+            r,
+            Entry {
+                mark,
+                time: t,
+                kind,
+                transition,
+            },
+        ),
         Heard::Nothing => r,
     }
 }
@@ -70,14 +94,23 @@ fn put_added<'a>(
     offsets: &'a [u16],
     room: &mut [u8],
     r: usize,
-    t: u64,
+    t: u16,
     j: usize,
 ) -> usize
     requires { ⌜ Triggers (now table) (now offsets) × (j < 256) × ((a : ℕ) × (triggerOf (monitorAt (now table)) j ≡ some a)) × Room (addedRow t (triggerOf (monitorAt (now table)) j) j) r (now room) ⌝ }
-    ensures { λ n. ⌜ Wrote (addedRow t (triggerOf (monitorAt (now (table .entry))) j) j) r n (now (room .entry)) (now (room .exit)) ⌝ }
+    ensures { λ n. ⌜ RowsPut (addedRow t (triggerOf (monitorAt (now (table .entry))) j) j) r n (now (room .entry)) (now (room .exit)) ⌝ }
 {
-    let kind = wire::byte(table, wire::short(offsets, j) as usize + 2);
-    put_row(room, r, 2, t, kind, j as u8)
+    let kind = byte(table, short(offsets, j) as usize + 2);
+    put_row(
+        room,
+        r,
+        Entry {
+            mark: ADDED,
+            time: t,
+            kind,
+            transition: j as u8,
+        },
+    )
 }
 
 // The rows of move k at instant t.
@@ -86,37 +119,30 @@ fn put_move<'a>(
     offsets: &'a [u16],
     room: &mut [u8],
     r: usize,
-    t: u64,
+    t: u16,
     heard: Heard,
     k: usize,
 ) -> usize
-    requires { ⌜ Triggers (now table) (now offsets) × (k < 129) × Fits (monitorAt (now table)) (heardOf heard) (moveOf k) × Room (rowsBy (monitorAt (now table)) (heardOf heard) t (moveOf k)) r (now room) ⌝ }
-    ensures { λ n. ⌜ Wrote (rowsBy (monitorAt (now (table .entry))) (heardOf heard) t (moveOf k)) r n (now (room .entry)) (now (room .exit)) ⌝ }
+    requires { ⌜ Triggers (now table) (now offsets) × (k < moveLimit) × Fits (monitorAt (now table)) (heardOf heard) (moveOf k) × Room (rowsBy (monitorAt (now table)) (heardOf heard) t (moveOf k)) r (now room) ⌝ }
+    ensures { λ n. ⌜ RowsPut (rowsBy (monitorAt (now (table .entry))) (heardOf heard) t (moveOf k)) r n (now (room .entry)) (now (room .exit)) ⌝ }
 {
-    if k < 64 {
-        return put_heard(room, r, 0, t, heard, k as u8);
+    if k < REST {
+        return put_heard(room, r, KEPT, t, heard, k as u8);
     }
-    let next = put_heard(room, r, 1, t, heard, 255);
-    if k == 64 {
+    let next = put_heard(room, r, REMOVED, t, heard, NO_TRANSITION);
+    if k == REST {
         return next;
     }
-    put_added(table, offsets, room, next, t, k - 65)
+    put_added(table, offsets, room, next, t, k - FIRST_ADD)
 }
 
 // What stands before the rows.
 fn put_header(room: &mut [u8], rows: usize)
-    requires { ⌜ 5 + 5 * rows ≤ length (now room) ⌝ }
-    ensures { λ n. ⌜ now (room .exit) ≡ placed (header rows) 0 (now (room .entry)) ⌝ }
+    requires { ⌜ rows ≤ witnessLimit ⌝ }
+    ensures { λ n. ⌜ now (room .exit) ≡ placed (rowsFrame (3 + 5 * rows) rows) 0 (now (room .entry)) ⌝ }
 {
-    let length = 3 + 5 * rows;
-    let bytes = [
-        (length / 256 % 256) as u8,
-        (length % 256) as u8,
-        1,
-        (rows / 256 % 256) as u8,
-        (rows % 256) as u8,
-    ];
-    wire::place(&bytes, room, 0);
+    let frame = frame_bytes((3 + 5 * rows) as u16, rows as u16);
+    place(&frame, room, 0);
 }
 
 // The least move from situation n into the row at bit to.
@@ -146,31 +172,38 @@ fn walk_on<'a>(
     table: &'a [u8],
     offsets: &'a [u16],
     recording: &'a [u8],
-    h: Shape,
+    g: Measures,
     scratch: &'a [u8],
-    row: usize,
-    size: usize,
     room: &mut [u8],
     t: usize,
     at: Place,
 ) -> Place
-    requires { ⌜ Ground (now table) (now offsets) (now recording) h (now scratch) row size (endOf (packetsAt (now recording))) × (t < endOf (packetsAt (now recording))) × Stands (now table) (now recording) (endOf (packetsAt (now recording))) t (at .number) (at .cursor) × Room (rowsFrom (now table) (now recording) (endOf (packetsAt (now recording))) t (at .number)) (at .rows) (now room) ⌝ }
-    ensures { λ r. ⌜ WalkedOn (now (table .entry)) (now (recording .entry)) (endOf (packetsAt (now (recording .entry)))) t (at .number) (at .rows) (r .number) (r .cursor) (r .rows) (now (room .entry)) (now (room .exit)) ⌝ }
+    requires { ⌜ Ground (now table) (now offsets) (now recording) (now scratch) g × (t < g .last) × Stands (now table) (now recording) (g .last) t (at .number) (at .cursor) × Room (rowsAfter (now table) (now recording) (g .last) t (at .number)) (at .rows) (now room) ⌝ }
+    ensures { λ r. ⌜ WalkedOn (now (table .entry)) (now (recording .entry)) (g .last) t (at .number) (at .rows) (r .number) (r .cursor) (r .rows) (now (room .entry)) (now (room .exit)) ⌝ }
 {
     let instant = t as u64 + 1;
     let heard = heard_at(recording, at.cursor, instant);
+    let h = g.shape;
     let least = least_move(
         table,
         offsets,
         h,
         heard,
         scratch,
-        8 * row * (t + 1),
-        size,
+        8 * g.row * (t + 1),
+        g.size,
         at.number,
     );
     let cursor = passed(recording, at.cursor, instant);
-    let rows = put_move(table, offsets, room, at.rows, instant, heard, least.k);
+    let rows = put_move(
+        table,
+        offsets,
+        room,
+        at.rows,
+        instant as u16,
+        heard,
+        least.k,
+    );
     Place {
         number: least.to,
         cursor,
@@ -178,41 +211,26 @@ fn walk_on<'a>(
     }
 }
 
-// Writes the preferred witness into the room, along the pruned rows, from the first situation's number. The result is the number of its rows.
+// Writes the preferred witness into the room, along the pruned rows. The result is the number of its rows.
 pub(crate) fn walk<'a>(
     table: &'a [u8],
     offsets: &'a [u16],
     recording: &'a [u8],
-    h: Shape,
+    g: Measures,
     scratch: &'a [u8],
-    row: usize,
-    size: usize,
-    last: usize,
-    first: u64,
     room: &mut [u8],
 ) -> usize
-    requires { ⌜ Ground (now table) (now offsets) (now recording) h (now scratch) row size last × (0 < count (possibleAfter (monitorAt (now table)) (packetsAt (now recording)) last)) × (first ≡ firstNumber (monitorAt (now table))) × (5 + 5 * (last + length (packetsAt (now recording))) ≤ length (now room)) ⌝ }
+    requires { ⌜ Ground (now table) (now offsets) (now recording) (now scratch) g × (0 < count (possibleAfter (monitorAt (now table)) (packetsAt (now recording)) (g .last))) × (5 + 5 * (g .last + length (packetsAt (now recording))) ≤ length (now room)) ⌝ }
     ensures { λ r. ⌜ (r ≡ length (preferred (monitorAt (now (table .entry))) (packetsAt (now (recording .entry))))) × (now (room .exit) ≡ over (witnessBytes (preferred (monitorAt (now (table .entry))) (packetsAt (now (recording .entry))))) (now (room .entry))) ⌝ }
 {
     let mut at = Place {
-        number: first,
+        number: g.first,
         cursor: 0,
         rows: 0,
     };
     let mut t = 0;
-    while t < last {
-        at = walk_on(
-            table,
-            offsets,
-            recording,
-            h,
-            scratch,
-            row,
-            size,
-            room,
-            t,
-            at,
-        );
+    while t < g.last {
+        at = walk_on(table, offsets, recording, g, scratch, room, t, at);
         t += 1;
     }
     let rows = at.rows;

@@ -1,127 +1,111 @@
-use borrow.Author.Needs.{needs}
+-- `validate` meets its contract: each refusal in its turn, and then the judgement. Assumes nothing.
+use Prim.Native.Nat.{_+_, _*_}
 use native.Mathlib.Omega.{arith}
-use mathlib.Core.Path.{sym, _∙_}
+use mathlib.Core.Path.{_≡_, sym, _∙_}
+use borrow.Author.Needs.{needs}
+use Rattle.model.specs.Recording.{recordingAnswer}
+use Rattle.model.specs.Validation.{scratchWanted, roomWanted}
+use Rattle.model.specs.declared.Reading.the-variants.{Sound}
 use Rattle.engine.proofs.ForwardRows.{product}
 use Rattle.engine.proofs.ValidateLaws.{unread, scratch-short, scratch-is, room-short, room-is, le-by, judging, judged-part}
 use Rattle.engine.proofs.validate.Statement.{statement}
 use Rattle.engine.proofs.validate.Tie as tie
 
--- src/lib.rt:43:9
+-- the table and the recording are sound
+sound : (c : tie.After-enum-told) → let a = c .before .before .before .before .before .before .before .args in recordingAnswer (a .table .now) (a .recording .now) ≡ Sound
+sound c = sym (c .before .before .recording-answer .ensures) ∙ c .enum-told .given .1
+
+-- the scratch and the room that are wanted
+
+wanted : (c : tie.After-measure)
+    → let a = c .before .before .before .before .before .before .before .before .before .before .args in
+    let g = c .measure .result in g .row * (g .last + 1) ≡ scratchWanted (a .table .now) (a .recording .now)
+wanted c = scratch-is _ _ (sound (c .before .before .before)) _ (c .before .before .read-table .ensures) _ (c .measure .ensures)
+
+roomy : (c : tie.After-word)
+    → let measured = c .before .before .before .before in
+    5 + 5 * (measured .measure .result .last + c .word .result) ≡ roomWanted (measured .before .before .before .before .before .before .before .before .before .before .args .recording .now)
+roomy c = room-is _ _ _ (c .before .before .before .before .measure .ensures .last) (c .word .ensures .0)
+
 recording-answer-requires : tie.Need-recording-answer-requires
 recording-answer-requires c κs = search needs
 
--- src/lib.rt:44:29
 enum-known-answer : tie.Need-enum-known-answer
 enum-known-answer c = search needs
 
--- src/lib.rt:45:9
 returns : tie.Need-returns
 returns c = unread _ _ _ _ _ _ (sym (c .before .before .before .recording-answer .ensures) ∙ c .before .answer .given .1)
 
 enum-told : tie.Need-enum-told
 enum-told c = search needs
 
--- src/lib.rt:47:9
 read-table-requires : tie.Need-read-table-requires
 read-table-requires c κs = search needs
 
--- src/lib.rt:49:9
-shape-of-requires : tie.Need-shape-of-requires
-shape-of-requires c κs = search needs
+measure-requires : tie.Need-measure-requires
+measure-requires c κs = search needs
 
--- src/lib.rt:50:16
-table-size-requires : tie.Need-table-size-requires
-table-size-requires c κs = search needs
-
--- src/lib.rt:51:16
-add-row : tie.Need-add-row
-add-row c = search needs
-
--- src/lib.rt:52:9
-last-time-requires : tie.Need-last-time-requires
-last-time-requires c κs = search needs
-
--- src/lib.rt:53:33
 add-scratch-wanted : tie.Need-add-scratch-wanted
 add-scratch-wanted c = search needs
 
--- src/lib.rt:53:26
 mul-scratch-wanted : tie.Need-mul-scratch-wanted
 mul-scratch-wanted c = product _ _ (omega arith) (omega arith)
 
--- src/lib.rt:55:9
 returns-2 : tie.Need-returns-2
 returns-2 c =
-    let sound = sym (c .before .before .before .before .before .before .before .before .recording-answer .ensures) ∙ c .before .before .before .before .before .before .enum-told .given .1 in
-    scratch-short _ _ _ _ _ _ sound
-    (scratch-is _ _ sound _ (c .before .before .before .before .before .read-table .ensures) _ _ (c .before .before .table-size .ensures) (c .before .last-time .ensures .0))
-    (c .if1 .taken)
+    let measured = c .before .before .before in
+    scratch-short _ _ _ _ _ _ (sound (measured .before .before .before)) (wanted measured) (c .if1 .taken)
 
--- src/lib.rt:59:39
 word-requires : tie.Need-word-requires
 word-requires c κs = search needs
 
--- src/lib.rt:59:39
 cast-room-wanted : tie.Need-cast-room-wanted
 cast-room-wanted c = search needs
 
--- src/lib.rt:59:32
 add-room-wanted : tie.Need-add-room-wanted
 add-room-wanted c = search needs
 
--- src/lib.rt:59:27
 mul-room-wanted : tie.Need-mul-room-wanted
 mul-room-wanted c = search needs
 
--- src/lib.rt:59:23
 add-room-wanted-2 : tie.Need-add-room-wanted-2
 add-room-wanted-2 c = search needs
 
--- src/lib.rt:61:9
 returns-3 : tie.Need-returns-3
 returns-3 c =
-    let sound = sym (c .before .before .before .before .before .before .before .before .before .before .recording-answer .ensures) ∙ c .before .before .before .before .before .before .before .before .enum-told .given .1 in
-    room-short _ _ _ _ _ _ sound
-    (le-by _ _ _ (scratch-is _ _ sound _ (c .before .before .before .before .before .before .before .read-table .ensures) _ _ (c .before .before .before .before .table-size .ensures) (c .before .before .before .last-time .ensures .0)) (c .before .before .if1 .left))
-    (room-is _ _ _ (c .before .before .before .last-time .ensures .0) (c .before .word .ensures .0))
-    (c .if2 .taken)
+    let read = c .before .before in
+    let measured = read .before .before .before .before in
+    room-short _ _ _ _ _ _ (sound (measured .before .before .before)) (le-by _ _ _ (wanted measured) (read .before .if1 .left)) (roomy read) (c .if2 .taken)
 
--- src/lib.rt:65:16
 sub-part : tie.Need-sub-part
 sub-part c = search needs
 
--- src/lib.rt:65:16
 part-part-start : tie.Need-part-part-start
 part-part-start c = search needs
 
--- src/lib.rt:65:16
 part-part-end : tie.Need-part-part-end
 part-part-end c = search needs
 
--- src/lib.rt:66:5
 judge-requires : tie.Need-judge-requires
 judge-requires c κs =
-    judging _ _ (sym (c .before .before .before .before .before .before .before .before .before .before .before .before .recording-answer .ensures) ∙ c .before .before .before .before .before .before .before .before .before .before .enum-told .given .1) _ (c .before .before .before .before .before .before .before .before .before .read-table .ensures) _ _ _ _ _ _
-    (c .before .before .before .before .before .before .before .shape-of .ensures) (c .before .before .before .before .before .before .table-size .ensures) (c .before .before .before .before .before .last-time .ensures .0) (c .before .before .before .word .ensures .0)
-    (c .before .before .before .before .if1 .left) (c .before .before .if2 .left)
+    let read = c .before .before .before .before in
+    let measured = read .before .before .before .before in
+    judging _ _ (sound (measured .before .before .before)) _ (measured .before .before .read-table .ensures) _ (measured .measure .ensures) _ _ _ (read .word .ensures .0)
+    (read .before .if1 .left) (c .before .before .if2 .left)
 
--- src/lib.rt:34:1
 same-length : tie.Need-same-length
 same-length c = search needs
 
--- src/lib.rt:34:1
 same-length-2 : tie.Need-same-length-2
 same-length-2 c = search needs
 
--- src/lib.rt:34:1
 returns-4 : tie.Need-returns-4
 returns-4 c =
-    let sound = sym (c .before .before .before .before .before .before .before .before .before .before .before .before .before .before .before .before .before .recording-answer .ensures) ∙ c .before .before .before .before .before .before .before .before .before .before .before .before .before .before .before .enum-told .given .1 in
-    judged-part _ _ _ _ _ sound _
-    (scratch-is _ _ sound _ (c .before .before .before .before .before .before .before .before .before .before .before .before .before .before .read-table .ensures) _ _ (c .before .before .before .before .before .before .before .before .before .before .before .table-size .ensures) (c .before .before .before .before .before .before .before .before .before .before .last-time .ensures .0))
-    (c .before .before .before .before .before .before .before .before .before .if1 .left)
-    (le-by _ _ _ (room-is _ _ _ (c .before .before .before .before .before .before .before .before .before .before .last-time .ensures .0) (c .before .before .before .before .before .before .before .before .word .ensures .0)) (c .before .before .before .before .before .before .before .if2 .left))
-    _ _ _ (c .before .before .before .before .judge .ensures)
+    let judged = c .before .before .before .before in
+    let fits = judged .before .before .before in
+    let read = fits .before .before in
+    let measured = read .before .before .before .before in
+    judged-part _ _ _ _ _ (sound (measured .before .before .before)) _ (wanted measured) (read .before .if1 .left) (le-by _ _ _ (roomy read) (fits .if2 .left)) _ _ _ (judged .judge .ensures)
 
 pub validate-spec : {M : Type 1} → statement M
 validate-spec =
@@ -132,10 +116,7 @@ validate-spec =
     returns
     enum-told
     read-table-requires
-    shape-of-requires
-    table-size-requires
-    add-row
-    last-time-requires
+    measure-requires
     add-scratch-wanted
     mul-scratch-wanted
     returns-2

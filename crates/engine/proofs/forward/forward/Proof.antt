@@ -8,12 +8,12 @@ use Rattle.engine.proofs.forward.forward.Statement.{statement}
 use Rattle.engine.proofs.forward.forward.Tie as tie
 
 abbrev Inv-loop : tie.InvT-loop
-Inv-loop table offsets recording h budget scratch₀ row size last first cost₀ work₀ i₀ t₀ scratch cost work i t =
-    Passing table recording scratch₀ scratch budget row last t i cost work
+Inv-loop table offsets recording g budget scratch₀ cost₀ work₀ i₀ t₀ scratch cost work i t =
+    Passing table recording scratch₀ scratch budget (g .row) (g .last) t i cost work
 
 abbrev μ-loop : tie.MeasureT-loop
-μ-loop table offsets recording h budget scratch₀ row size last first cost₀ work₀ i₀ t₀ scratch cost work i t =
-    last - t
+μ-loop table offsets recording g budget scratch₀ cost₀ work₀ i₀ t₀ scratch cost work i t =
+    g .last - t
 
 put-requires : tie.Need-put-requires Inv-loop μ-loop
 put-requires c κs = search needs
@@ -25,21 +25,21 @@ add-next : tie.Need-add-next Inv-loop μ-loop
 add-next c = search needs
 
 add-cost : tie.Need-add-cost Inv-loop μ-loop
-add-cost c = cost-fits (c .before .before .before .before .before .before .before .before .before .before .pre) (c .before .loop .inv) (omega arith)
+add-cost c = cost-fits (c .before .before .before .before .before .before .before .before .before .before .before .pre) (c .before .before .loop .inv) (omega arith)
 
 same-length : tie.Need-same-length Inv-loop μ-loop
 same-length c = search needs
 
 returns : tie.Need-returns Inv-loop μ-loop
 returns c =
-    let at-loop = c .before .before in (
+    let at-loop = c .before .before .before in (
       at-loop .loop .inv .long ∙ at-loop .before .before .before .put .ensures .size,
-      spent (at-loop .before .before .before .before .before .before .before .before .before .pre) (at-loop .loop .inv) (omega arith) (c .if1 .taken),
+      spent (at-loop .before .before .before .before .before .before .before .before .before .pre) (at-loop .loop .inv) (omega arith) (c .if2 .taken),
     )
 
 instant-requires : tie.Need-instant-requires Inv-loop μ-loop
 instant-requires c κs =
-    let at-loop = c .before .before .before in
+    let at-loop = c .before .before .before .before in
     turn (at-loop .before .before .before .before .before .before .before .before .before .pre) (at-loop .loop .inv) (omega arith) (at-loop .before .before .before .put .ensures .size)
 
 same-length-2 : tie.Need-same-length-2 Inv-loop μ-loop
@@ -48,10 +48,10 @@ same-length-2 c = search needs
 returns-2 : tie.Need-returns-2 Inv-loop μ-loop
 returns-2 c =
     let filled = c .before .before .before in
-    let at-loop = filled .before .before .before .before in
+    let at-loop = filled .before .before .before .before .before in
     let given = at-loop .before .before .before .before .before .before .before .before .before .pre in (
       filled .instant .ensures .long ∙ at-loop .loop .inv .long ∙ at-loop .before .before .before .put .ensures .size,
-      emptied given (at-loop .loop .inv) (omega arith) (omega arith) (filled .instant .ensures) (c .if2 .taken),
+      emptied given (at-loop .loop .inv) (omega arith) (omega arith) (filled .instant .ensures) (c .if3 .taken),
     )
 
 passed-requires : tie.Need-passed-requires Inv-loop μ-loop
@@ -66,16 +66,16 @@ loop-less c = search needs
 loop-again : tie.Need-loop-again Inv-loop μ-loop
 loop-again c =
     let filled = c .before .before .before .before in
-    let at-loop = filled .before .before .before .before in
+    let at-loop = filled .before .before .before .before .before in
     let given = at-loop .before .before .before .before .before .before .before .before .before .pre in
-    again given (at-loop .loop .inv) (omega arith) (omega arith) (filled .instant .ensures) (c .passed .ensures) (c .before .if2 .left)
+    again given (at-loop .loop .inv) (omega arith) (omega arith) (filled .instant .ensures) (c .passed .ensures) (c .before .if3 .left)
 
 same-length-3 : tie.Need-same-length-3 Inv-loop μ-loop
 same-length-3 c = search needs
 
 returns-3 : tie.Need-returns-3 Inv-loop μ-loop
 returns-3 c =
-    let at-loop = c .before in (
+    let at-loop = c .before .before in (
       at-loop .loop .inv .long ∙ at-loop .before .before .before .put .ensures .size,
       through (at-loop .before .before .before .before .before .before .before .before .before .pre) (at-loop .loop .inv) (omega arith),
     )

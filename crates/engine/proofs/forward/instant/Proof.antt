@@ -1,7 +1,7 @@
 -- `forward::instant` meets its contract: the products fit, and the rest is one law.
 use native.Mathlib.Omega.{arith}
 use borrow.Author.Needs.{needs}
-use Rattle.engine.proofs.ForwardRows.{product, next-fits, turned}
+use Rattle.engine.proofs.ForwardRows.{product, next-fits, begin-fits, end-fits, turned}
 use Rattle.engine.proofs.forward.instant.Statement.{statement}
 use Rattle.engine.proofs.forward.instant.Tie as tie
 
@@ -33,10 +33,10 @@ add-from : tie.Need-add-from
 add-from c = search needs
 
 mul-from : tie.Need-mul-from
-mul-from c = product _ _ (omega arith) (omega arith)
+mul-from c = begin-fits (c .before .before .before .before .before .before .before .before .before .before .before .before .before .pre)
 
 add-to : tie.Need-add-to
-add-to c = omega (arith, next-fits (c .before .before .before .before .before .before .before .before .before .pre))
+add-to c = end-fits (c .before .before .before .before .before .before .before .before .before .before .before .before .before .before .pre)
 
 sub-count : tie.Need-sub-count
 sub-count c = search needs
@@ -45,7 +45,9 @@ part-count-start : tie.Need-part-count-start
 part-count-start c = search needs
 
 part-count-end : tie.Need-part-count-end
-part-count-end c = omega (arith, next-fits (c .before .before .before .before .before .before .before .before .before .before .pre), c .before .before .before .advance .ensures .long)
+part-count-end c =
+    let advanced = c .before .before .before .before .before in
+    omega (arith, next-fits (advanced .before .before .before .before .before .before .before .before .before .before .pre), advanced .advance .ensures .long)
 
 count-requires : tie.Need-count-requires
 count-requires c κs = search needs
@@ -55,9 +57,9 @@ same-length c = search needs
 
 returns : tie.Need-returns
 returns c =
-    let advanced = c .before .before .before .before .before in
-    let heard = advanced .before .before in
-    turned (heard .before .before .before .before .before .pre) (heard .heard-at .ensures) (advanced .advance .ensures) (c .count .ensures)
+    let advanced = c .before .before .before .before .before .before .before in
+    let heard = advanced .before .before .before .before in
+    turned (heard .before .before .before .before .before .before .pre) (heard .heard-at .ensures) (advanced .advance .ensures) (c .count .ensures)
 
 pub instant-spec : {M : Type 1} → statement M
 instant-spec =

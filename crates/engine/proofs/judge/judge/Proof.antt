@@ -1,3 +1,4 @@
+-- `judge::judge` meets its contract: from a cleared scratch, and cleared again. Assumes nothing.
 use borrow.Author.Needs.{needs}
 use mathlib.Core.Path.{ap, _∙_}
 use lib.ListN.{length, length-replicate}
@@ -5,52 +6,47 @@ use Rattle.engine.proofs.JudgeLaws.{forwarding, ending, settled}
 use Rattle.engine.proofs.judge.judge.Statement.{statement}
 use Rattle.engine.proofs.judge.judge.Tie as tie
 
--- src/judge.rt:88:5
 clear-requires : tie.Need-clear-requires
 clear-requires c κs = search needs
 
--- src/judge.rt:89:17
 offsets-requires : tie.Need-offsets-requires
 offsets-requires c κs = search needs
 
--- src/judge.rt:90:9
-first-number-requires : tie.Need-first-number-requires
-first-number-requires c κs = search needs
-
--- src/judge.rt:91:34
 slice-aggregate-forward : tie.Need-slice-aggregate-forward
 slice-aggregate-forward c = search needs
 
--- src/judge.rt:91:9
 forward-requires : tie.Need-forward-requires
-forward-requires c κs = forwarding _ _ _ _ _ _ _ _ (c .before .before .before .before .before .before .before .before .before .before .before .before .pre) _ _ _ (c .before .before .before .offsets .ensures) (c .before .before .before .before .before .before .clear .ensures) (c .before .before .first-number .ensures)
+forward-requires c κs =
+    let found = c .before .before in
+    let cleared = found .before .before .before in
+    forwarding _ _ _ _ _ (cleared .before .before .before .before .before .before .pre) _ _ (found .offsets .ensures) (cleared .clear .ensures)
 
--- src/judge.rt:92:35
 slice-aggregate-conclude : tie.Need-slice-aggregate-conclude
 slice-aggregate-conclude c = search needs
 
--- src/judge.rt:92:9
 conclude-requires : tie.Need-conclude-requires
-conclude-requires c κs = ending _ _ _ _ _ _ _ _ (c .before .before .before .before .before .before .before .before .before .before .before .before .before .before .before .before .before .before .pre) _ _ _ _ _ (c .before .before .before .before .before .before .before .before .before .offsets .ensures) (c .before .before .before .before .before .before .before .before .first-number .ensures) (c .before .before .before .before .before .forward .ensures .1)
+conclude-requires c κs =
+    let forwarded = c .before .before .before .before .before in
+    let found = forwarded .before .before .before in
+    ending _ _ _ _ _ (found .before .before .before .before .before .before .before .before .before .pre) _ _ _ _ (found .offsets .ensures) (forwarded .forward .ensures .1)
 
--- src/judge.rt:93:5
 clear-requires-2 : tie.Need-clear-requires-2
 clear-requires-2 c κs = search needs
 
--- src/judge.rt:74:1
 same-length : tie.Need-same-length
 same-length c = search needs
 
--- src/judge.rt:74:1
 same-length-2 : tie.Need-same-length-2
 same-length-2 c = search needs
 
--- src/judge.rt:74:1
 returns : tie.Need-returns
 returns c =
-    settled _ _ _ _ _ _ _ _ (c .before .before .before .before .before .before .before .before .before .before .before .before .before .before .before .before .before .before .before .before .before .before .before .before .before .before .before .pre) _ _ _ _ _ _
-    (c .before .before .before .before .before .before .before .before .before .before .before .before .before .before .forward .ensures .0 ∙ ap length (c .before .before .before .before .before .before .before .before .before .before .before .before .before .before .before .before .before .before .before .before .before .clear .ensures) ∙ length-replicate _ 0)
-    (c .before .before .before .before .before .before .before .before .conclude .ensures)
+    let concluded = c .before .before .before .before .before .before .before .before in
+    let forwarded = concluded .before .before .before .before .before .before in
+    let cleared = forwarded .before .before .before .before .before .before in
+    settled _ _ _ _ _ (cleared .before .before .before .before .before .before .pre) _ _ _ _ _ _
+    (forwarded .forward .ensures .0 ∙ ap length (cleared .clear .ensures) ∙ length-replicate _ 0)
+    (concluded .conclude .ensures)
     (c .before .before .clear2 .ensures)
 
 pub judge-spec : {M : Type 1} → statement M
@@ -59,7 +55,6 @@ judge-spec =
     (tie.spec
     clear-requires
     offsets-requires
-    first-number-requires
     slice-aggregate-forward
     forward-requires
     slice-aggregate-conclude

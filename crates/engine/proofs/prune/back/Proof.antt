@@ -2,14 +2,14 @@
 use Prim.Native.Nat.{ℕ}
 use mathlib.Core.Path.{sym, ap, _∙_}
 use Rattle.situation.specs.Rows.{heardOf}
-use Rattle.engine.specs.PruneRows.{backBy}
+use Rattle.engine.specs.PruneRows.{cursorBefore}
 use Rattle.engine.proofs.PruneCursors.{back-first, back-heard, back-nothing}
 use borrow.Author.Needs.{needs}
 use Rattle.engine.proofs.prune.back.Statement.{statement}
 use Rattle.engine.proofs.prune.back.Tie as tie
 
 returns : tie.Need-returns
-returns c = sym (ap (λ (j : ℕ). backBy (c .before .before .args .recording .now) j (c .before .before .args .t)) (c .if1 .taken) ∙ back-first _ _)
+returns c = sym (ap (λ (j : ℕ). cursorBefore (c .before .before .args .recording .now) j (c .before .before .args .t)) (c .if1 .taken) ∙ back-first _ _)
 
 sub-heard-at : tie.Need-sub-heard-at
 sub-heard-at c = search needs

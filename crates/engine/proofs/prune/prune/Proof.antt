@@ -1,5 +1,5 @@
 -- `engine::prune::prune` meets its contract: the rows from instant t on are pruned, and the cursor has the rows up to t before it. Assumes nothing.
-use Prim.Native.Nat.{ℕ, _+_, _-_, _≤_}
+use Prim.Native.Nat.{ℕ, _+_, _≤_}
 use native.Mathlib.Omega.{arith}
 use mathlib.Core.Path.{_≡_, refl, sym, subst, _∙_}
 use lib.ListN.{length}
@@ -10,11 +10,11 @@ use Rattle.engine.proofs.prune.prune.Statement.{statement}
 use Rattle.engine.proofs.prune.prune.Tie as tie
 
 abbrev Inv-loop : tie.InvT-loop
-Inv-loop table offsets recording h scratch₀ row size last cursor₀ t₀ scratch cursor t =
-    (t ≤ last) × Cursor recording cursor (t + 1) × (length scratch ≡ length scratch₀) × PrunedTo table recording scratch row size last t
+Inv-loop table offsets recording g scratch₀ cursor₀ t₀ scratch cursor t =
+    (t ≤ g .last) × Cursor recording cursor (t + 1) × (length scratch ≡ length scratch₀) × PrunedTo table recording scratch (g .row) (g .size) (g .last) t
 
 abbrev μ-loop : tie.MeasureT-loop
-μ-loop table offsets recording h scratch₀ row size last cursor₀ t₀ scratch cursor t = t
+μ-loop table offsets recording g scratch₀ cursor₀ t₀ scratch cursor t = t
 
 word-requires : tie.Need-word-requires Inv-loop μ-loop
 word-requires c κs = search needs
@@ -27,10 +27,10 @@ loop-holds c =
     let start = c .before .before .before .before .before in
     let a = start .args in (
       omega arith,
-      subst (λ (n : ℕ). Cursor (a .recording .now) n (a .last + 1)) (sym (c .word .ensures .0))
-          (cursor-first (a .table .now) (a .offsets .now) (a .recording .now) (a .h) (a .size) (a .last) (start .pre .0) (a .row) (start .pre .1)),
+      subst (λ (n : ℕ). Cursor (a .recording .now) n (a .g .last + 1)) (sym (c .word .ensures .0))
+          (cursor-first (a .table .now) (a .offsets .now) (a .recording .now) (a .g) (start .pre .0)),
       refl,
-      pruned-first (a .table .now) (a .offsets .now) (a .recording .now) (a .h) (a .size) (a .last) (start .pre .0) (a .row) (start .pre .1) (a .scratch .now) (start .pre .3),
+      pruned-first (a .table .now) (a .offsets .now) (a .recording .now) (a .g) (start .pre .0) (a .scratch .now) (start .pre .1),
     )
 
 sub-t : tie.Need-sub-t Inv-loop μ-loop
@@ -39,7 +39,7 @@ sub-t c = search needs
 prune-at-requires : tie.Need-prune-at-requires Inv-loop μ-loop
 prune-at-requires c κs =
     let start = c .before .before .before .before .before .before .before .before in
-    omega (arith, start .pre, start .pre .0 .end, start .pre .0 .sound .last)
+    (start .pre .0, omega arith)
 
 loop-less : tie.Need-loop-less Inv-loop μ-loop
 loop-less c = search needs
@@ -52,7 +52,7 @@ loop-again c =
     let a = start .args in
     let (t-le, cursor, long, done) = at-loop .loop .inv in
     let (next, pruned) =
-    pruned-turn (a .table .now) (a .offsets .now) (a .recording .now) (a .h) (a .size) (a .last) (start .pre .0) (a .row) (start .pre .1)
+    pruned-turn (a .table .now) (a .offsets .now) (a .recording .now) (a .g) (start .pre .0)
     (at-loop .loop .cursor) (called .prune-at .result) (at-loop .loop .t) (at-loop .loop .scratch) (called .prune-at .last .1 .1 .1 .1 .0)
     (omega arith) t-le cursor done (called .prune-at .ensures .0) (called .prune-at .ensures .1) in
     (omega arith, next, called .prune-at .ensures .1 .long ∙ long, pruned)

@@ -24,8 +24,8 @@ mul-cut-row c = search needs
 
 mul-cut-row-2 : tie.Need-mul-cut-row-2
 mul-cut-row-2 c =
-    let start = c .before .before .before .before .before .before .before in
-    let below : 8 * start .args .row * start .args .t < 4294967296 = row-start _ _ (omega arith) (omega arith) in
+    let start = c .before .before .before .before .before .before .before .before .before in
+    let below : 8 * start .args .g .row * start .args .t < 4294967296 = row-start _ _ (omega arith) (omega arith) in
     omega arith
 
 mul-cut-row-3 : tie.Need-mul-cut-row-3
@@ -36,14 +36,14 @@ add-cut-row c = search needs
 
 mul-cut-row-4 : tie.Need-mul-cut-row-4
 mul-cut-row-4 c =
-    let start = c .before .before .before .before .before .before .before in
-    let below : 8 * start .args .row * (start .args .t + 1) < 4294967296 = row-start _ _ (omega arith) (omega arith) in
+    let start = c .before .before .before .before .before .before .before .before .before .before in
+    let below : 8 * start .args .g .row * (start .args .t + 1) < 4294967296 = row-start _ _ (omega arith) (omega arith) in
     omega arith
 
 cut-row-requires : tie.Need-cut-row-requires
 cut-row-requires c κs =
-    let start = c .before .before .before .before .before .before .before in
-    (omega (arith, rows-apart (8 * start .args .row) (start .args .t) (start .args .t + 1) (omega arith)), row-start _ _ (omega arith) (omega arith))
+    let start = c .before .before .before .before .before .before .before .before .before .before in
+    (omega (arith, rows-apart (8 * start .args .g .row) (start .args .t) (start .args .t + 1) (omega arith)), row-start _ _ (omega arith) (omega arith))
 
 same-length : tie.Need-same-length
 same-length c = search needs
@@ -51,10 +51,10 @@ same-length c = search needs
 returns : tie.Need-returns
 returns c =
     let called = c .before .before in
-    let heard = called .before .before in
+    let heard = called .before .before .before .before .before in
     let a = heard .before .before .before .before .before .before .args in (
       heard .before .back .ensures,
-      subst (λ (o : Option ℕ). RowCut (stepAt (a .table .now) (a .offsets .now) (a .h) o) (8 * a .row * a .t) (8 * a .row * (a .t + 1)) (a .size) (a .size) (a .scratch .now) (called .cut-row .last .1 .1 .1 .1 .0)) (heard .heard-at .ensures) (called .cut-row .ensures),
+      subst (λ (o : Option ℕ). RowCut (stepAt (a .table .now) (a .offsets .now) (a .g .shape) o) (8 * a .g .row * a .t) (8 * a .g .row * (a .t + 1)) (a .g .size) (a .g .size) (a .scratch .now) (called .cut-row .last .1 .1 .1 .1 .0)) (heard .heard-at .ensures) (called .cut-row .ensures),
     )
 
 pub prune-at-spec : {M : Type 1} → statement M

@@ -25,8 +25,8 @@ add-byte c = search needs
 byte-requires : tie.Need-byte-requires
 byte-requires c κs = search needs
 
-cast-put-row : tie.Need-cast-put-row
-cast-put-row c = search needs
+cast-t13 : tie.Need-cast-t13
+cast-t13 c = search needs
 
 put-row-requires : tie.Need-put-row-requires
 put-row-requires c κs =
@@ -57,7 +57,7 @@ put-added-spec =
     cast-byte
     add-byte
     byte-requires
-    cast-put-row
+    cast-t13
     put-row-requires
     same-length
     returns)

@@ -1,15 +1,16 @@
 -- `engine::walk::put_row` meets its contract. Assumes nothing.
+use Prim.Native.Nat.{ℕ, _+_, _*_}
 use native.Mathlib.Omega.{arith}
+use mathlib.Core.Path.{ap, _∙_}
+use mathlib.Core.List.{List}
 use Rattle.model.specs.Witness.{rowsBytes}
+use Rattle.wire.specs.Placed.{placed}
 use borrow.Author.Needs.{needs}
 use Rattle.engine.proofs.walk.put_row.Statement.{statement}
 use Rattle.engine.proofs.walk.put_row.Tie as tie
 
-cast-t10 : tie.Need-cast-t10
-cast-t10 c = search needs
-
-cast-t12 : tie.Need-cast-t12
-cast-t12 c = search needs
+row-bytes-requires : tie.Need-row-bytes-requires
+row-bytes-requires c κs = search needs
 
 slice-aggregate-place : tie.Need-slice-aggregate-place
 slice-aggregate-place c = search needs
@@ -31,14 +32,20 @@ same-length c = search needs
 
 returns : tie.Need-returns
 unfolding rowsBytes
-returns c = record { bytes = c .before .before .place .ensures; count = omega arith }
+returns c =
+    let called = c .before .before in
+    let made = called .before .before .before in
+    let a = made .before .before .args in
+    record {
+      bytes = called .place .ensures ∙ ap (λ (l : List ℕ). placed l (5 + 5 * a .r) (a .room .now)) (made .row-bytes .ensures);
+      count = omega arith;
+    }
 
 pub put-row-spec : {M : Type 1} → statement M
 put-row-spec =
     tie.close
     (tie.spec
-    cast-t10
-    cast-t12
+    row-bytes-requires
     slice-aggregate-place
     mul-place
     add-place

@@ -1,60 +1,48 @@
 -- `engine::walk::walk` meets its contract: the rows written and the rows to come are the preferred witness. Assumes nothing.
-use Prim.Native.Nat.{ℕ, _-_, _≤_, _<_}
+use Prim.Native.Nat.{ℕ, _-_, _≤_}
 use native.Mathlib.Omega.{arith}
 use mathlib.Core.Path.{_≡_, sym, subst, _∙_}
 use Rattle.model.specs.Table.{monitorAt}
-use Rattle.model.specs.Recording.{packetsAt, endOf}
-use Rattle.model.specs.Layers.{count}
-use Rattle.model.specs.Validation.{possibleAfter, preferred}
-use Rattle.engine.specs.WalkRows.{Ground, Room, Stands}
-use Rattle.engine.proofs.WalkRoom.{wrote-headed}
-use Rattle.engine.proofs.WalkSteps.{Walked, room-left, walked-length, walked-on, stands-first, walked-first, walked-all, rows-fit}
+use Rattle.model.specs.Recording.{packetsAt}
+use Rattle.model.specs.Validation.{preferred}
+use Rattle.engine.specs.WalkRows.{Room, Stands}
+use Rattle.engine.proofs.WalkRoom.{wrote-framed}
+use Rattle.engine.proofs.WalkSteps.{Walked, room-left, walked-few, walked-length, walked-on, stands-first, walked-first, walked-all, rows-fit, rows-few}
 use borrow.Author.Needs.{needs}
 use Rattle.engine.proofs.walk.walk.Statement.{statement}
 use Rattle.engine.proofs.walk.walk.Tie as tie
 
 abbrev Inv-loop : tie.InvT-loop
-Inv-loop table offsets recording h scratch row size last first room₀ at₀ t₀ room at t =
-    let end = endOf (packetsAt recording) in
-    (t ≤ last) × Stands table recording end t (at .number) (at .cursor) × Walked table recording end t (at .number) (at .rows) room₀ room
+Inv-loop table offsets recording g scratch room₀ at₀ t₀ room at t =
+    (t ≤ g .last) × Stands table recording (g .last) t (at .number) (at .cursor) × Walked table recording (g .last) t (at .number) (at .rows) room₀ room
 
 abbrev μ-loop : tie.MeasureT-loop
-μ-loop table offsets recording h scratch row size last first room₀ at₀ t₀ room at t = last - t
-
--- the instant last is the last recorded time
-ground : (c : tie.Start Inv-loop μ-loop)
-    → let a = c .args in
-    Ground (a .table .now) (a .offsets .now) (a .recording .now) (a .h) (a .scratch .now) (a .row) (a .size) (endOf (packetsAt (a .recording .now)))
-ground c =
-    let a = c .args in
-    subst (λ (u : ℕ). Ground (a .table .now) (a .offsets .now) (a .recording .now) (a .h) (a .scratch .now) (a .row) (a .size) u) (c .pre .0 .set .end) (c .pre .0)
+μ-loop table offsets recording g scratch room₀ at₀ t₀ room at t = g .last - t
 
 loop-holds : tie.Need-loop-holds Inv-loop μ-loop
 loop-holds c =
     let start = c .before .before .before .before .before in
     let a = start .args in
-    let set = ground start .set in
-    let end = endOf (packetsAt (a .recording .now)) in (
+    let set = start .pre .0 .setting in (
       omega arith,
-      subst (λ (n : ℕ). Stands (a .table .now) (a .recording .now) end 0 n 0) (sym (start .pre .2))
-          (stands-first (a .table .now) (a .offsets .now) (a .recording .now) (a .h) (a .size) end set
-          (subst (λ (u : ℕ). 0 < count (possibleAfter (monitorAt (a .table .now)) (packetsAt (a .recording .now)) u)) (start .pre .0 .set .end) (start .pre .1))),
-      subst (λ (n : ℕ). Walked (a .table .now) (a .recording .now) end 0 n 0 (a .room .now) (a .room .now)) (sym (start .pre .2))
-          (walked-first (a .table .now) (a .offsets .now) (a .recording .now) (a .h) (a .size) end set (a .room .now) (omega (arith, start .pre .3))),
+      subst (λ (n : ℕ). Stands (a .table .now) (a .recording .now) (a .g .last) 0 n 0) (sym (set .start))
+          (stands-first (a .table .now) (a .offsets .now) (a .recording .now) (a .g) set (start .pre .1)),
+      subst (λ (n : ℕ). Walked (a .table .now) (a .recording .now) (a .g .last) 0 n 0 (a .room .now) (a .room .now)) (sym (set .start))
+          (walked-first (a .table .now) (a .offsets .now) (a .recording .now) (a .g) set (a .room .now) (omega (arith, start .pre .2))),
     )
 
 -- there is room for all rows
 room : (c : tie.Start Inv-loop μ-loop) → let a = c .args in Room (preferred (monitorAt (a .table .now)) (packetsAt (a .recording .now))) 0 (a .room .now)
 room c =
     let a = c .args in
-    omega (arith, c .pre .3, rows-fit (a .table .now) (a .offsets .now) (a .recording .now) (a .h) (a .size) (a .last) (c .pre .0 .set))
+    omega (arith, c .pre .2, rows-fit (a .table .now) (a .offsets .now) (a .recording .now) (a .g) (c .pre .0 .setting))
 
 walk-on-requires : tie.Need-walk-on-requires Inv-loop μ-loop
 walk-on-requires c κs =
-    let at-loop = c .before .before in
+    let at-loop = c .before .before .before in
     let start = at-loop .before .before .before .before .before .before in (
-      ground start,
-      omega (arith, start .pre .0 .set .end),
+      start .pre .0,
+      omega arith,
       at-loop .loop .inv .1,
       room-left (at-loop .loop .inv .2) (room start),
     )
@@ -68,7 +56,7 @@ loop-less c = search needs
 loop-again : tie.Need-loop-again Inv-loop μ-loop
 loop-again c =
     let called = c .before .before in
-    let at-loop = called .before .before .before in
+    let at-loop = called .before .before .before .before in
     let start = at-loop .before .before .before .before .before .before in (
       omega arith,
       called .walk-on .ensures .stands,
@@ -77,25 +65,29 @@ loop-again c =
 
 put-header-requires : tie.Need-put-header-requires Inv-loop μ-loop
 put-header-requires c κs =
-    let at-loop = c .before .before in
+    let at-loop = c .before .before .before in
     let start = at-loop .before .before .before .before .before .before in
-    omega (arith, room-left (at-loop .loop .inv .2) (room start))
+    let a = start .args in
+    omega (
+      arith,
+      walked-few (at-loop .loop .inv .2) (room start),
+      rows-few (a .table .now) (a .offsets .now) (a .recording .now) (a .g) (start .pre .0 .setting),
+    )
 
 same-length : tie.Need-same-length Inv-loop μ-loop
 same-length c =
-    let at-loop = c .before .before .before .before .before in
+    let at-loop = c .before .before .before .before .before .before in
     let start = at-loop .before .before .before .before .before .before in
     c .before .room2 .given ∙ walked-length (at-loop .loop .inv .2) (room start)
 
 returns : tie.Need-returns Inv-loop μ-loop
 returns c =
-    let at-loop = c .before .before .before .before .before in
+    let at-loop = c .before .before .before .before .before .before in
     let start = at-loop .before .before .before .before .before .before in
     let a = start .args in
-    let end = endOf (packetsAt (a .recording .now)) in
-    let done : at-loop .loop .t ≡ end = omega (arith, at-loop .loop .inv .0, c .before .before .before .before .loop-test .left, start .pre .0 .set .end) in
-    let all = walked-all (a .table .now) (a .offsets .now) (a .recording .now) (a .h) (a .size) end (ground start .set) (at-loop .loop .inv .2) done in
-    (omega (arith, all .count), c .before .before .put-header .ensures ∙ wrote-headed all (room start))
+    let done : at-loop .loop .t ≡ a .g .last = omega (arith, at-loop .loop .inv .0, c .before .before .before .before .if1 .left) in
+    let all = walked-all (a .table .now) (a .offsets .now) (a .recording .now) (a .g) (start .pre .0 .setting) (at-loop .loop .inv .2) done in
+    (omega (arith, all .count), c .before .before .put-header .ensures ∙ wrote-framed all (room start))
 
 pub walk-spec : {M : Type 1} → statement M
 walk-spec =

@@ -4,13 +4,12 @@ use native.Mathlib.Omega.{arith}
 use mathlib.Core.Path.{_≡_, refl, sym, ap, subst, _∙_}
 use lib.ListN.{length, length-append}
 use Rattle.model.specs.Table.{monitorAt}
-use Rattle.model.specs.Recording.{packetsAt, endOf}
 use Rattle.model.specs.Situation.{moveOf}
 use Rattle.model.specs.Validation.{rowsBy}
 use Rattle.situation.specs.Rows.{heardOf, Cursor}
 use Rattle.situation.proofs.Cursors.{heard-recorded, passed-cursor}
 use Rattle.layers.specs.Advance.{stepAt, leastInto}
-use Rattle.engine.specs.WalkRows.{rowsFrom}
+use Rattle.engine.specs.WalkRows.{rowsAfter}
 use Rattle.engine.proofs.PruneLayers.{row-start}
 use Rattle.engine.proofs.WalkSteps.{Leading, leading, onward}
 use borrow.Author.Needs.{needs}
@@ -31,37 +30,40 @@ add-least-move c = search needs
 
 mul-least-move-2 : tie.Need-mul-least-move-2
 mul-least-move-2 c =
-    let start = c .before .before .before .before .before .before in
-    let below : 8 * start .args .row * (start .args .t + 1) < 4294967296 =
-    row-start _ _ (start .pre .0 .small) (omega (arith, start .pre .1, start .pre .0 .set .end, start .pre .0 .set .sound .last)) in
+    let start = c .before .before .before .before .before .before .before .before in
+    let below : 8 * start .args .g .row * (start .args .t + 1) < 4294967296 =
+    row-start _ _ (start .pre .0 .setting .narrow) (omega (arith, start .pre .1, start .pre .0 .setting .end, start .pre .0 .setting .sound .last)) in
     omega arith
 
 -- the least move leads on
 on : (c : tie.After-heard-at) (k : ℕ)
     → let a = c .before .before .before .before .before .before .args in
-    let step = stepAt (a .table .now) (a .offsets .now) (a .h) (heardOf (c .heard-at .result)) in
-    k ≡ leastInto step (a .scratch .now) (8 * a .row * (a .t + 1)) (a .size) (a .at .number)
-    → Leading (a .table .now) (a .recording .now) (endOf (packetsAt (a .recording .now))) (a .t) (a .at .number) k (heardOf (c .heard-at .result)) (step (a .at .number) k)
+    let step = stepAt (a .table .now) (a .offsets .now) (a .g .shape) (heardOf (c .heard-at .result)) in
+    k ≡ leastInto step (a .scratch .now) (8 * a .g .row * (a .t + 1)) (a .g .size) (a .at .number)
+    → Leading (a .table .now) (a .recording .now) (a .g .last) (a .t) (a .at .number) k (heardOf (c .heard-at .result)) (step (a .at .number) k)
 on c k e =
     let start = c .before .before .before .before .before .before in
     let a = start .args in
-    let set = start .pre .0 .set in
-    leading (a .table .now) (a .offsets .now) (a .recording .now) (a .h) (a .size) (endOf (packetsAt (a .recording .now))) set (a .scratch .now) (a .row) (start .pre .0 .pruned) (a .t) (a .at .number) (a .at .cursor)
+    let set = start .pre .0 .setting in
+    leading (a .table .now) (a .offsets .now) (a .recording .now) (a .g) set (a .scratch .now) (start .pre .0 .pruned) (a .t) (a .at .number) (a .at .cursor)
     (heardOf (c .heard-at .result)) k (start .pre .1)
     (c .heard-at .ensures ∙ heard-recorded (monitorAt (a .table .now)) (a .recording .now) (set .sound .trace) (start .pre .2 .cursor)) e (start .pre .2)
 
 least-move-requires : tie.Need-least-move-requires
-least-move-requires c κs = let led = on c _ refl in (led .number, led .arrives)
+least-move-requires c κs = let led = on (c .before .before) _ refl in (led .number, led .arrives)
 
 passed-requires : tie.Need-passed-requires
 passed-requires c κs = search needs
 
+cast-put-move : tie.Need-cast-put-move
+cast-put-move c = search needs
+
 put-move-requires : tie.Need-put-move-requires
 put-move-requires c κs =
     let least = c .before .before in
-    let start = least .before .before .before .before .before .before .before in
+    let start = least .before .before .before .before .before .before .before .before .before in
     let a = start .args in
-    let led = on (least .before) (least .least-move .result .k) (least .least-move .ensures .0) in (
+    let led = on (least .before .before .before) (least .least-move .result .k) (least .least-move .ensures .0) in (
       start .pre .0 .triggers,
       led .few,
       led .fits,
@@ -69,7 +71,7 @@ put-move-requires c κs =
         arith,
         start .pre .3,
         ap length (led .split),
-        length-append (rowsBy (monitorAt (a .table .now)) (heardOf (least .before .heard-at .result)) (a .t + 1) (moveOf (least .least-move .result .k))) (rowsFrom (a .table .now) (a .recording .now) (endOf (packetsAt (a .recording .now))) (a .t + 1) (led .number)),
+        length-append (rowsBy (monitorAt (a .table .now)) (heardOf (least .before .before .before .heard-at .result)) (a .t + 1) (moveOf (least .least-move .result .k))) (rowsAfter (a .table .now) (a .recording .now) (a .g .last) (a .t + 1) (led .number)),
       ),
     )
 
@@ -81,11 +83,11 @@ returns c =
     let called = c .before .before in
     let went = called .before .before in
     let least = went .before in
-    let start = least .before .before .before .before .before .before .before in
+    let start = least .before .before .before .before .before .before .before .before .before in
     let a = start .args in
-    onward (on (least .before) (least .least-move .result .k) (least .least-move .ensures .0)) (least .least-move .ensures .1)
+    onward (on (least .before .before .before) (least .least-move .result .k) (least .least-move .ensures .0)) (least .least-move .ensures .1)
     (subst (λ (j : ℕ). Cursor (a .recording .now) j (a .t + 1 + 1)) (sym (went .passed .ensures))
-    (passed-cursor (monitorAt (a .table .now)) (a .recording .now) (start .pre .0 .set .sound .trace) (start .pre .2 .cursor)))
+    (passed-cursor (monitorAt (a .table .now)) (a .recording .now) (start .pre .0 .setting .sound .trace) (start .pre .2 .cursor)))
     (called .put-move .ensures)
 
 pub walk-on-spec : {M : Type 1} → statement M
@@ -99,6 +101,7 @@ walk-on-spec =
     mul-least-move-2
     least-move-requires
     passed-requires
+    cast-put-move
     put-move-requires
     same-length
     returns)

@@ -4,8 +4,8 @@ use mathlib.Core.Path.{ap₂, _∙_}
 use mathlib.Core.List.{[], _∷_}
 use Rattle.situation.specs.Numbering.{numberBy}
 use Rattle.situation.specs.Steps.{cappedBy}
-use Rattle.engine.proofs.judge.first_number.Statement.{statement}
-use Rattle.engine.proofs.judge.first_number.Tie as tie
+use Rattle.engine.proofs.measures.first_number.Statement.{statement}
+use Rattle.engine.proofs.measures.first_number.Tie as tie
 
 -- src/judge.rt:30:19
 first-clock-requires : tie.Need-first-clock-requires

@@ -3,8 +3,8 @@ use native.Mathlib.Omega.{arith}
 use mathlib.Core.Path.{sym, _∙_}
 use Rattle.engine.proofs.PruneCursors.{end-time}
 use Rattle.engine.proofs.ValidateLaws.{no-end}
-use Rattle.engine.proofs.last_time.Statement.{statement}
-use Rattle.engine.proofs.last_time.Tie as tie
+use Rattle.engine.proofs.measures.last_time.Statement.{statement}
+use Rattle.engine.proofs.measures.last_time.Tie as tie
 
 -- src/lib.rt:26:17
 word-requires : tie.Need-word-requires

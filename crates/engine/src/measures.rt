@@ -1,0 +1,71 @@
+// What a validation measures of a table and a recording before it starts.
+use guard::size::table_size;
+use model::Situation;
+use model::TableParts;
+use situation::Shape;
+use situation::numbering::number;
+use situation::numbering::shape_of;
+use wire::word;
+ghost use mathlib.Core.Path.{_≡_};
+ghost use Prim.Native.Nat.{_-_, _<_, min};
+ghost use Rattle.model.specs.Recording.{packetsAt, endOf};
+ghost use Rattle.model.specs.Situation.{firstBy};
+ghost use Rattle.situation.specs.Numbering.{numberBy};
+ghost use Rattle.situation.specs.Steps.{cappedBy};
+ghost use Rattle.engine.specs.Measured.{Measured};
+
+// How situations are numbered, N, the bytes of a set (S), T, and the number of the first situation.
+pub(crate) struct Measures {
+    pub shape: Shape,
+    pub size: usize,
+    pub row: usize,
+    pub last: usize,
+    pub first: u64,
+}
+
+// The last recorded time, 0 if there is none.
+fn last_time(recording: &[u8]) -> usize
+    ensures { λ r. ⌜ (r ≡ endOf (packetsAt (now (recording .entry)))) × (r < 65536) ⌝ }
+{
+    let count = word(recording, 3) as usize;
+    if count == 0 {
+        return 0;
+    }
+    word(recording, 5 + 3 * (count - 1)) as usize
+}
+
+// How a clock is written just before instant 1: as 1, or as 0 where that is its only value.
+fn first_clock(values: u16) -> u16
+    ensures { λ r. ⌜ r ≡ min 1 (values - 1) ⌝ }
+{
+    if values < 2 { 0 } else { 1 }
+}
+
+fn first_number(h: Shape) -> u64
+    ensures { λ r. ⌜ r ≡ numberBy h (firstBy (cappedBy h)) ⌝ }
+{
+    let clocks = [first_clock(h.first), first_clock(h.second)];
+    number(
+        h,
+        Situation {
+            state: 0,
+            variables: 0,
+            clocks,
+            air: 0,
+        },
+    )
+}
+
+pub(crate) fn measure(parts: TableParts, recording: &[u8]) -> Measures
+    ensures { λ r. ⌜ Measured parts (now (recording .entry)) r ⌝ }
+{
+    let shape = shape_of(parts);
+    let size = table_size(parts) as usize;
+    Measures {
+        shape,
+        size,
+        row: (size + 7) / 8,
+        last: last_time(recording),
+        first: first_number(shape),
+    }
+}
