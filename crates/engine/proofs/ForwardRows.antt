@@ -24,6 +24,7 @@ use Rattle.bits.specs.Member.{mem, tally, population}
 use Rattle.bits.proofs.Laws.{tally-same, mem-part, population-fits}
 use Rattle.situation.specs.Rows.{heardAt, passedBy}
 use Rattle.situation.proofs.Cursors.{passed-cursor, heard-recorded}
+use Rattle.layers.proofs.Apart.{apart-above}
 use Rattle.layers.specs.Advance.{Advanced, stepAt}
 use Rattle.engine.specs.declared.measures.Measures.{Measures}
 use Rattle.engine.specs.Setting.{RowHolds, LayersUpTo}
@@ -152,8 +153,8 @@ module _ {table offsets recording before : List ℕ} {g : Measures} {t i : ℕ} 
         on : Dec (z < g .size) → mem after (8 * g .row * (t + 1) + z) ≡ getD (possible table recording (suc t)) z false
         on (yes l) =
             let fits : 8 * g .row * (t + 1) + g .size ≤ 8 * length before = omega (arith, next-fits, mul-assoc 8 (g .row) (t + 1)) in
-            let apart : 8 * g .row * t + g .size ≤ 8 * g .row * (t + 1) = omega (arith, next-row (8 * g .row) t) in
-            let (forth, back-in) = done .inside fits (inl apart) z l in
+            let behind : 8 * g .row * t + g .size ≤ 8 * g .row * (t + 1) = omega (arith, next-row (8 * g .row) t) in
+            let (forth, back-in) = done .inside (apart-above _ _ _ _ fits behind) z l in
             let (from, to) = possible-next table recording t z in
             same-test (mem after (8 * g .row * (t + 1) + z)) (getD (possible table recording (suc t)) z false)
             (λ e. to (there l (forth e))) (λ e. back-in (back (from e)))

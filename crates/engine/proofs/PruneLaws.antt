@@ -9,8 +9,9 @@ use mathlib.Core.Bool.{Bool, true, false, _&&_}
 use mathlib.Core.Option.{Option, none, some}
 use lib.Dec.{ltb}
 use borrow.Author.Tests.{lt-ltb, le-ltb}
+use Rattle.model.specs.Layers.{into}
 use Rattle.model.specs.Situation.{moveLimit}
-use Rattle.model.proofs.WalkLaws.{into, firstFrom-same}
+use Rattle.model.proofs.WalkLaws.{firstFrom-same}
 use Rattle.bits.specs.Member.{mem, TakenOut}
 use Rattle.layers.specs.Advance.{inRow, leastInto}
 use Rattle.engine.specs.PruneRows.{stays, CutIn, RowCut}

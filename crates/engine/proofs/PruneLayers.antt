@@ -15,12 +15,11 @@ use borrow.Author.Tests.{lt-ltb, le-ltb}
 use Rattle.model.specs.Size
 use Rattle.model.specs.Table.{monitorAt}
 use Rattle.model.specs.Recording.{countAt, packetsAt}
-use Rattle.model.specs.Layers.{live, firstFrom}
+use Rattle.model.specs.Layers.{live, firstFrom, alive, into}
 use Rattle.model.specs.Situation.{moveLimit, recordedAt, stepNumber, firstNumber}
 use Rattle.model.specs.Validation.{possibleAfter}
 use Rattle.model.proofs.LayerLaws.{length-layer}
-use Rattle.model.proofs.LeastLaws.{alive}
-use Rattle.model.proofs.WalkLaws.{into, firstFrom-same, Pruned, least-alive}
+use Rattle.model.proofs.WalkLaws.{firstFrom-same, Pruned, least-alive}
 use Rattle.bits.specs.Member.{mem}
 use Rattle.situation.specs.Rows.{heardAt, Cursor}
 use Rattle.situation.proofs.Cursors.{heard-recorded}

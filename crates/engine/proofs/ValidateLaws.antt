@@ -9,11 +9,13 @@ use lib.Seq.{length-take-le}
 use borrow.Author.Tests.{le-leb, lt-leb}
 use Rattle.model.specs.Bytes.{tab}
 use Rattle.model.specs.Size
-use Rattle.model.specs.Table.{readTable, monitorAt, tableParts}
-use Rattle.model.specs.Recording.{recordingAnswer, countAt, packetsAt, endOf}
+use Rattle.model.specs.Table.{tableAnswer, readTable, monitorAt, tableParts}
+use Rattle.model.specs.Recording.{recordingScan, recordingAnswer, countAt, packetsAt, endOf}
 use Rattle.model.specs.Witness.{witnessBytes}
+use Rattle.model.specs.Numbers.{verdictValues}
 use Rattle.model.specs.Validation.{refusal, validation, verdict, preferred, scratchWanted, roomWanted, scratchBy, roomBy, scratchAfter, roomAfter}
 use Rattle.model.specs.Claims.{ValuesOf, Judged}
+use Rattle.model.specs.declared.Reading.{Reading}
 use Rattle.model.specs.declared.Reading.the-variants.{Sound, Unsound}
 use Rattle.model.specs.declared.Refusal.{Refusal}
 use Rattle.model.specs.declared.Refusal.the-variants.{Scratch, WitnessRoom}
@@ -30,6 +32,25 @@ use Rattle.engine.specs.Measured.{Measured}
 use Rattle.engine.specs.Validates.{Validates}
 use Rattle.engine.specs.Judging.{Judging, Settled}
 
+-- the answer on table and recording, by what was read of the table and what its recording's own numbers are
+module _ (table recording : List ℕ) (x : TableReading) (read : x ≡ readTable table) where
+  answered : tableAnswer table ≡ x .answer
+  unfolding readTable
+  answered = ap (λ (y : TableReading). y .answer) (sym read)
+
+  pub table-unread : (why : Refusal) → x .answer ≡ Unsound why → recordingAnswer table recording ≡ Unsound why
+  unfolding recordingAnswer
+  table-unread why e = rw (answered, e)
+
+  module _ (sound : x .answer ≡ Sound) (scan : Reading) (is : scan ≡ recordingScan table recording) where
+    pub recording-unread : (why : Refusal) → scan ≡ Unsound why → recordingAnswer table recording ≡ Unsound why
+    unfolding recordingAnswer
+    recording-unread why e = rw (answered, sound, ← is, e)
+
+    pub both-read : scan ≡ Sound → recordingAnswer table recording ≡ Sound
+    unfolding recordingAnswer
+    both-read e = rw (answered, sound, ← is, e)
+
 module _ (table recording : List ℕ) (budget : ℕ) (scratch room : List ℕ) where
   validation-refused : (why : Refusal) → refusal table recording (length scratch) (length room) ≡ Unsound why
       → validation table recording budget (length scratch) (length room) ≡ Refused why
@@ -43,6 +64,7 @@ module _ (table recording : List ℕ) (budget : ℕ) (scratch room : List ℕ) w
   refused why e =
       record {
         answered = sym (validation-refused why e);
+        numbers = ap verdictValues (sym (validation-refused why e));
         cleared = ap (λ (v : Verdict). scratchBy v (scratchWanted table recording) scratch) (sym (validation-refused why e));
         written = ap (λ (v : Verdict). roomBy v (witnessBytes (preferred (monitorAt table) (packetsAt recording))) room) (sym (validation-refused why e));
         judged = λ s. absurd (never (sym s ∙ e));
@@ -100,6 +122,7 @@ module _ (table recording : List ℕ) (budget : ℕ) (scratch room : List ℕ) w
         let same : v ≡ validation table recording budget (length scratch) (length room) = s .answered ∙ sym valid in
         record {
           answered = same;
+          numbers = ap verdictValues same;
           cleared =
               ap (λ (l : List ℕ). l ++ drop (scratchWanted table recording) scratch) (s .cleared ∙ ap (λ (n : ℕ). replicate n 0) long)
               ∙ zeroed v (right .valued) (scratchWanted table recording)
@@ -120,7 +143,7 @@ module _ (table recording : List ℕ) (e : recordingAnswer table recording ≡ S
   pub scratch-is : g .row * (g .last + 1) ≡ scratchWanted table recording
   scratch-is =
       let small = table-facts table (sound-table table recording e) .small in
-      let row : g .row ≡ Size.rowBytes (Size.size (monitorAt table)) = omega (arith, measured .size, measured .row) in
+      let row : g .row ≡ Size.setBytes (Size.size (monitorAt table)) = omega (arith, measured .size, measured .row) in
       mul-comm (g .row) (g .last + 1) ∙ ap₂ (λ (last bytes : ℕ). (last + 1) * bytes) (m .last) row
 
 pub count-is : (recording : List ℕ) → length (packetsAt recording) ≡ countAt recording

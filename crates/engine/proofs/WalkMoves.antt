@@ -11,27 +11,26 @@ use Rattle.model.specs.Bytes.{byteAt}
 use Rattle.model.specs.Monitor.{Monitor, Transition}
 use Rattle.model.specs.Trace.{Packet}
 use Rattle.model.specs.Table.{monitorAt}
-use Rattle.model.specs.Situation.{Move, keep, rest, add, moveOf, moved, stepBy, stepNumber, recordedAt, triggerOf, tick, number, capped, situationOf}
-use Rattle.model.specs.Validation.{keptRow, removedRow, addedRow, rowsBy}
-use Rattle.model.specs.Witness.{Row, kept, removed, added, noTransition}
+use Rattle.model.specs.Situation.{Move, keep, rest, add, moveOf, moved, stepBy, stepNumber, recordedAt, triggerOf, tick, number, capped, situationOf, restMove, firstAdd}
+use Rattle.model.specs.Validation.{keptRow, removedRow, addedRow, rowsBy, HasRows}
+use Rattle.model.specs.Witness.{Row, kept, removed, added, noTransition, marked}
 use Rattle.model.specs.declared.Situation.{Situation}
-use Rattle.model.proofs.MoveRows.{marked, Fits}
 use Rattle.engine.specs.WalkRows.{Triggers, RowsPut, Room, heardRow}
 use Rattle.engine.proofs.WalkRoom.{wrote-same, wrote-more, room-behind}
 
 -- moves by their numbers
 
-move-keep : (k : ℕ) → k < 64 → moveOf k ≡ keep k
+move-keep : (k : ℕ) → k < restMove → moveOf k ≡ keep k
 unfolding moveOf
-move-keep k h = simp (lt-ltb k 64 h)
+move-keep k h = simp (lt-ltb k restMove h)
 
-move-rest : (k : ℕ) → k ≡ 64 → moveOf k ≡ rest
+move-rest : (k : ℕ) → k ≡ restMove → moveOf k ≡ rest
 unfolding moveOf
-move-rest k e = simp (le-ltb k 64 (omega arith), eq-eqb k 64 e)
+move-rest k e = simp (le-ltb k restMove (omega arith), eq-eqb k restMove e)
 
-move-add : (k : ℕ) → 64 < k → moveOf k ≡ add (k - 65)
+move-add : (k : ℕ) → restMove < k → moveOf k ≡ add (k - firstAdd)
 unfolding moveOf
-move-add k h = simp (le-ltb k 64 (omega arith), ne-eqb k 64 (omega arith))
+move-add k h = simp (le-ltb k restMove (omega arith), ne-eqb k restMove (omega arith))
 
 kept-row : (t : ℕ) (o : Option ℕ) (j : ℕ) → keptRow t o j ≡ heardRow kept t o j
 kept-row t none j = refl
@@ -42,45 +41,45 @@ removed-row t none = refl
 removed-row t (some k) = refl
 
 module _ (m : Monitor) (o : Option ℕ) (t k : ℕ) where
-  pub rows-keep : k < 64 → rowsBy m o t (moveOf k) ≡ heardRow kept t o k
+  pub rows-keep : k < restMove → rowsBy m o t (moveOf k) ≡ heardRow kept t o k
   unfolding rowsBy
   rows-keep h = ap (rowsBy m o t) (move-keep k h) ∙ kept-row t o k
 
-  pub rows-rest : k ≡ 64 → rowsBy m o t (moveOf k) ≡ heardRow removed t o noTransition
+  pub rows-rest : k ≡ restMove → rowsBy m o t (moveOf k) ≡ heardRow removed t o noTransition
   unfolding rowsBy
   rows-rest e = ap (rowsBy m o t) (move-rest k e) ∙ removed-row t o
 
-  pub rows-add : 64 < k → rowsBy m o t (moveOf k) ≡ heardRow removed t o noTransition ++ addedRow t (triggerOf m (k - 65)) (k - 65)
+  pub rows-add : restMove < k → rowsBy m o t (moveOf k) ≡ heardRow removed t o noTransition ++ addedRow t (triggerOf m (k - firstAdd)) (k - firstAdd)
   unfolding rowsBy
-  rows-add h = ap (rowsBy m o t) (move-add k h) ∙ ap (λ (l : List Row). l ++ addedRow t (triggerOf m (k - 65)) (k - 65)) (removed-row t o)
+  rows-add h = ap (rowsBy m o t) (move-add k h) ∙ ap (λ (l : List Row). l ++ addedRow t (triggerOf m (k - firstAdd)) (k - firstAdd)) (removed-row t o)
 
   -- a removed row is among the rows of every move but keeping
-  pub removed-few : 64 ≤ k → length (heardRow removed t o noTransition) ≤ length (rowsBy m o t (moveOf k))
-  removed-few h = on (decLt 64 k)
+  pub removed-few : restMove ≤ k → length (heardRow removed t o noTransition) ≤ length (rowsBy m o t (moveOf k))
+  removed-few h = on (decLt restMove k)
     where
-      on : Dec (64 < k) → length (heardRow removed t o noTransition) ≤ length (rowsBy m o t (moveOf k))
-      on (yes l) = omega (arith, ap length (rows-add l), length-append (heardRow removed t o noTransition) (addedRow t (triggerOf m (k - 65)) (k - 65)))
+      on : Dec (restMove < k) → length (heardRow removed t o noTransition) ≤ length (rowsBy m o t (moveOf k))
+      on (yes l) = omega (arith, ap length (rows-add l), length-append (heardRow removed t o noTransition) (addedRow t (triggerOf m (k - firstAdd)) (k - firstAdd)))
       on (no l) = omega (arith, ap length (rows-rest (omega arith)))
 
-pub fits-add : (m : Monitor) (o : Option ℕ) (k : ℕ) → 64 < k → Fits m o (moveOf k) → (a : ℕ) × (triggerOf m (k - 65) ≡ some a)
-fits-add m o k h f = on o (subst (Fits m o) (move-add k h) f)
+pub fits-add : (m : Monitor) (o : Option ℕ) (k : ℕ) → restMove < k → HasRows m o (moveOf k) → (a : ℕ) × (triggerOf m (k - firstAdd) ≡ some a)
+fits-add m o k h f = on o (subst (HasRows m o) (move-add k h) f)
   where
-    on : (p : Option ℕ) → Fits m p (add (k - 65)) → (a : ℕ) × (triggerOf m (k - 65) ≡ some a)
+    on : (p : Option ℕ) → HasRows m p (add (k - firstAdd)) → (a : ℕ) × (triggerOf m (k - firstAdd) ≡ some a)
     on none g = g
     on (some r) g = g
 
 -- an added row is written behind the removed one, if there is one
 module _
-    (m : Monitor) (o : Option ℕ) (t k : ℕ) (late : 64 < k) {r n : ℕ} {x y : List ℕ} (room : Room (rowsBy m o t (moveOf k)) r x)
+    (m : Monitor) (o : Option ℕ) (t k : ℕ) (late : restMove < k) {r n : ℕ} {x y : List ℕ} (room : Room (rowsBy m o t (moveOf k)) r x)
     (first : RowsPut (heardRow removed t o noTransition) r n x y)
   where
-    all : Room (heardRow removed t o noTransition ++ addedRow t (triggerOf m (k - 65)) (k - 65)) r x
+    all : Room (heardRow removed t o noTransition ++ addedRow t (triggerOf m (k - firstAdd)) (k - firstAdd)) r x
     all = omega (arith, room, ap length (rows-add m o t k late))
 
-    pub room-added : Room (addedRow t (triggerOf m (k - 65)) (k - 65)) n y
-    room-added = room-behind (addedRow t (triggerOf m (k - 65)) (k - 65)) first all
+    pub room-added : Room (addedRow t (triggerOf m (k - firstAdd)) (k - firstAdd)) n y
+    room-added = room-behind (addedRow t (triggerOf m (k - firstAdd)) (k - firstAdd)) first all
 
-    pub wrote-added : {next : ℕ} {z : List ℕ} → RowsPut (addedRow t (triggerOf m (k - 65)) (k - 65)) n next y z → RowsPut (rowsBy m o t (moveOf k)) r next x z
+    pub wrote-added : {next : ℕ} {z : List ℕ} → RowsPut (addedRow t (triggerOf m (k - firstAdd)) (k - firstAdd)) n next y z → RowsPut (rowsBy m o t (moveOf k)) r next x z
     wrote-added then = wrote-same (sym (rows-add m o t k late)) (wrote-more all first then)
 
 -- the kind of an added row
@@ -108,7 +107,7 @@ unfolding bind
 bound none f g x e = absurd (Option·none-ne-some x e)
 bound (some a) f g x e = (a, refl)
 
-fits-by : (m : Monitor) (write : List ℕ → List ℕ) (recorded : Option ℕ) (s : Situation) (a : Move) (x : Situation) → stepBy m write recorded s a ≡ some x → Fits m recorded a
+fits-by : (m : Monitor) (write : List ℕ → List ℕ) (recorded : Option ℕ) (s : Situation) (a : Move) (x : Situation) → stepBy m write recorded s a ≡ some x → HasRows m recorded a
 unfolding stepBy moved
 fits-by m write none s (keep j) x e = Option·none-ne-some x e
 fits-by m write (some k) s (keep j) x e = tt
@@ -117,11 +116,11 @@ fits-by m write (some k) s rest x e = tt
 fits-by m write none s (add j) x e = bound (triggerOf m j) _ (tick write) x e
 fits-by m write (some k) s (add j) x e = bound (triggerOf m j) _ (tick write) x e
 
-pub fits-number : (m : Monitor) (recording : List Packet) (t n k x : ℕ) → stepNumber m recording t n k ≡ some x → Fits m (recordedAt recording t) (moveOf k)
+pub fits-number : (m : Monitor) (recording : List Packet) (t n k x : ℕ) → stepNumber m recording t n k ≡ some x → HasRows m (recordedAt recording t) (moveOf k)
 unfolding stepNumber
 fits-number m recording t n k x e = on (stepBy m (capped m) (recordedAt recording t) (situationOf m n) (moveOf k)) refl e
   where
     on : (o : Option Situation) → stepBy m (capped m) (recordedAt recording t) (situationOf m n) (moveOf k) ≡ o → Option·map (number m) o ≡ some x
-        → Fits m (recordedAt recording t) (moveOf k)
+        → HasRows m (recordedAt recording t) (moveOf k)
     on none p q = absurd (Option·none-ne-some x q)
     on (some y) p q = fits-by m (capped m) (recordedAt recording t) (situationOf m n) (moveOf k) y p

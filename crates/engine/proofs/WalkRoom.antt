@@ -5,24 +5,13 @@ use mathlib.Core.Path.{_≡_, refl, sym, ap, ap₂, subst, _∙_}
 use mathlib.Core.List.{List, [], _∷_, _++_, append-assoc, append-nil}
 use lib.ListN.{length, take, drop, length-append, length-take, length-drop, take-append-drop}
 use lib.Seq.{take-at, drop-at, drop-drop, length-take-le}
+use Rattle.model.specs.Frame.{rowsFrame}
 use Rattle.model.specs.Room.{over}
-use Rattle.model.specs.Witness.{Row, rowBytes, rowsBytes, witnessBytes}
+use Rattle.model.specs.Witness.{Row, rowsBytes, witnessBytes}
+use Rattle.model.proofs.WitnessForm.{rowsBytes-append, rowsBytes-length}
 use Rattle.wire.specs.Placed.{placed}
 use Rattle.wire.proofs.Room.{placed-fits}
-use Rattle.frame.specs.Framed.{rowsFrame}
 use Rattle.engine.specs.WalkRows.{RowsPut, Room}
-
--- the bytes of rows
-
-pub rows-bytes-append : (a b : List Row) → rowsBytes (a ++ b) ≡ rowsBytes a ++ rowsBytes b
-unfolding rowsBytes
-rows-bytes-append [] b = refl
-rows-bytes-append (r ∷ a) b = ap (λ (l : List ℕ). rowBytes r ++ l) (rows-bytes-append a b) ∙ sym (append-assoc (rowBytes r) (rowsBytes a) (rowsBytes b))
-
-pub rows-bytes-length : (a : List Row) → length (rowsBytes a) ≡ 5 * length a
-unfolding rowsBytes
-rows-bytes-length [] = refl
-rows-bytes-length (r ∷ a) = let again : length (rowsBytes a) ≡ 5 * length a = rows-bytes-length a in omega arith
 
 -- places in a room
 
@@ -76,13 +65,13 @@ wrote-none r room h = record { bytes = sym (placed-none (5 + 5 * r) room h); cou
 
 pub wrote-more : {a b : List Row} {r n k : ℕ} {x y z : List ℕ} → Room (a ++ b) r x → RowsPut a r n x y → RowsPut b n k y z → RowsPut (a ++ b) r k x z
 wrote-more {a} {b} {r} {n} {k} {x} {y} {z} h first then =
-    let place : 5 + 5 * n ≡ 5 + 5 * r + length (rowsBytes a) = omega (arith, rows-bytes-length a, first .count) in
+    let place : 5 + 5 * n ≡ 5 + 5 * r + length (rowsBytes a) = omega (arith, rowsBytes-length a, first .count) in
     record {
       bytes =
           then .bytes
           ∙ ap₂ (λ (p : ℕ) (l : List ℕ). placed (rowsBytes b) p l) place (first .bytes)
-          ∙ placed-more (rowsBytes a) (rowsBytes b) (5 + 5 * r) x (omega (arith, rows-bytes-length a, rows-bytes-length b, length-append a b))
-          ∙ ap (λ (l : List ℕ). placed l (5 + 5 * r) x) (sym (rows-bytes-append a b));
+          ∙ placed-more (rowsBytes a) (rowsBytes b) (5 + 5 * r) x (omega (arith, rowsBytes-length a, rowsBytes-length b, length-append a b))
+          ∙ ap (λ (l : List ℕ). placed l (5 + 5 * r) x) (sym (rowsBytes-append a b));
       count = omega (arith, first .count, then .count, length-append a b);
     }
 
@@ -91,7 +80,7 @@ wrote-same {a} {b} {r} {n} {x} {y} e w = subst (λ (l : List Row). RowsPut l r n
 
 pub wrote-length : {a : List Row} {r n : ℕ} {x y : List ℕ} → RowsPut a r n x y → Room a r x → length y ≡ length x
 wrote-length {a} {r} {n} {x} {y} w h =
-    ap length (w .bytes) ∙ placed-length (rowsBytes a) (5 + 5 * r) x (omega (arith, rows-bytes-length a))
+    ap length (w .bytes) ∙ placed-length (rowsBytes a) (5 + 5 * r) x (omega (arith, rowsBytes-length a))
 
 -- behind the rows that are written there is room for the others
 pub room-behind : {a : List Row} (b : List Row) {r n : ℕ} {x y : List ℕ} → RowsPut a r n x y → Room (a ++ b) r x → Room b n y
@@ -99,9 +88,9 @@ room-behind {a} b {r} {n} {x} {y} w h =
     omega (arith, length-append a b, w .count, wrote-length w (omega (arith, length-append a b)))
 
 -- all rows and the frame
-pub wrote-framed : {a : List Row} {n : ℕ} {x y : List ℕ} → RowsPut a 0 n x y → Room a 0 x → placed (rowsFrame (3 + 5 * n) n) 0 y ≡ over (witnessBytes a) x
+pub wrote-framed : {a : List Row} {n : ℕ} {x y : List ℕ} → RowsPut a 0 n x y → Room a 0 x → placed (rowsFrame 5 n) 0 y ≡ over (witnessBytes a) x
 unfolding witnessBytes
 wrote-framed {a} {n} {x} {y} w h =
     let all : n ≡ length a = omega (arith, w .count) in
-    ap₂ (λ (k : ℕ) (l : List ℕ). placed (rowsFrame (3 + 5 * k) k) 0 l) all (w .bytes)
-    ∙ placed-before (rowsFrame (3 + 5 * length a) (length a)) (rowsBytes a) x (omega (arith, rows-bytes-length a))
+    ap₂ (λ (k : ℕ) (l : List ℕ). placed (rowsFrame 5 k) 0 l) all (w .bytes)
+    ∙ placed-before (rowsFrame 5 (length a)) (rowsBytes a) x (omega (arith, rowsBytes-length a))

@@ -11,17 +11,19 @@ use lib.Seq.{getD-set-same}
 use Rattle.model.specs.Monitor.{Monitor}
 use Rattle.model.specs.Table.{monitorAt}
 use Rattle.model.specs.Recording.{packetsAt, endOf}
-use Rattle.model.specs.Layers.{count, layer, arrived}
+use Rattle.model.specs.Layers.{count, layer, arrived, leastFrom}
 use Rattle.model.specs.Situation.{moveOf, moveLimit, recordedAt, firstNumber}
-use Rattle.model.specs.Validation.{rowsBy, rowsOf, movesOf, preferred}
-use Rattle.model.specs.Witness.{Row, witnessLimit}
+use Rattle.model.specs.Validation.{rowsBy, rowsOf, movesOf, preferred, HasRows}
+use Rattle.model.specs.Limits.{witnessLimit}
+use Rattle.model.specs.Witness.{Row}
 use Rattle.model.specs.declared.Situation.{Situation}
 use Rattle.model.proofs.SetLaws.{member-within, leadsInto-member, count-some}
 use Rattle.model.proofs.LayerLaws.{length-layer, layer-suc, layer-leads}
-use Rattle.model.proofs.LeastLaws.{alive-suc, length-alive, alive-carries, leads-enters, leastInto-leads, leastFrom, leastFrom-zero, leastFrom-suc, leastMoves-from, length-least}
+use Rattle.model.proofs.LeastLaws.{alive-suc, length-alive, alive-carries, leads-enters, leastInto-leads, leastFrom-zero, leastFrom-suc, leastMoves-from, length-least}
 use Rattle.model.proofs.LeastLaws as least
+use Rattle.model.specs.Layers as L
 use Rattle.model.proofs.WalkLaws.{least-same}
-use Rattle.model.proofs.MoveRows.{Fits, rows-short}
+use Rattle.model.proofs.MoveRows.{rows-short}
 use Rattle.model.proofs.Numbering.{first-number-below}
 use Rattle.situation.specs.Rows.{Cursor}
 use Rattle.situation.specs.Stepping.{arriveFrom, situationBy}
@@ -51,22 +53,22 @@ module _ (N K : ℕ) (step : ℕ → ℕ → ℕ → Option ℕ) (first : ℕ) w
     pub few : k < K
     pub arrives : step (suc t) n k ≡ some number
     pub here : getD (layer N K step first (suc t)) number false ≡ true
-    pub alive : getD (least.alive N K step left (suc t)) number false ≡ true
+    pub alive : getD (L.alive N K step left (suc t)) number false ≡ true
     pub moves : leastFrom N K step (suc left) t n ≡ k ∷ leastFrom N K step left (suc t) number
 
   pub inside : (t n : ℕ) → getD (layer N K step first t) n false ≡ true → n < N
   inside t n e = omega (arith, member-within (layer N K step first t) n e, length-layer N K step first t)
 
-  moves-on : (left t n x : ℕ) → step (suc t) n (least.leastInto N K step (least.alive N K step left (suc t)) t n) ≡ some x
-      → leastFrom N K step (suc left) t n ≡ least.leastInto N K step (least.alive N K step left (suc t)) t n ∷ leastFrom N K step left (suc t) x
+  moves-on : (left t n x : ℕ) → step (suc t) n (least.leastInto N K step (L.alive N K step left (suc t)) t n) ≡ some x
+      → leastFrom N K step (suc left) t n ≡ least.leastInto N K step (L.alive N K step left (suc t)) t n ∷ leastFrom N K step left (suc t) x
   moves-on left t n x e =
       leastFrom-suc N K step left t n
-      ∙ ap (λ (o : Option ℕ). least.leastInto N K step (least.alive N K step left (suc t)) t n ∷ leastFrom N K step left (suc t) (arrived N K step o)) e
+      ∙ ap (λ (o : Option ℕ). least.leastInto N K step (L.alive N K step left (suc t)) t n ∷ leastFrom N K step left (suc t) (arrived N K step o)) e
 
-  pub next : (left t n : ℕ) → getD (layer N K step first t) n false ≡ true → getD (least.alive N K step (suc left) t) n false ≡ true
-      → Next left t n (least.leastInto N K step (least.alive N K step left (suc t)) t n)
+  pub next : (left t n : ℕ) → getD (layer N K step first t) n false ≡ true → getD (L.alive N K step (suc left) t) n false ≡ true
+      → Next left t n (least.leastInto N K step (L.alive N K step left (suc t)) t n)
   next left t n here alive =
-      let s : List Bool = least.alive N K step left (suc t) in
+      let s : List Bool = L.alive N K step left (suc t) in
       let k : ℕ = least.leastInto N K step s t n in
       let (j, y, few, q, r) = leads-enters N K step s (suc t) n K .0 (sym (alive-suc N K step left t n (inside t n here)) ∙ alive) in
       let (x, le, p, g) = leastInto-leads N K step s t n j few (leadsInto-member s (step (suc t) n j) .1 (y, q, r)) in
@@ -86,7 +88,7 @@ pub record Leading (table recording : List ℕ) (last t n k : ℕ) (heard : Opti
   pub number : ℕ
   pub arrives : to ≡ some number
   pub few : k < moveLimit
-  pub fits : Fits (monitorAt table) heard (moveOf k)
+  pub fits : HasRows (monitorAt table) heard (moveOf k)
   pub here : getD (possible table recording (t + 1)) number false ≡ true
   pub alive : getD (reaching table recording (last - (t + 1)) (t + 1)) number false ≡ true
   pub split : rowsAfter table recording last t n ≡ rowsBy (monitorAt table) heard (t + 1) (moveOf k) ++ rowsAfter table recording last (t + 1) number
@@ -131,7 +133,7 @@ module _
           number = on .number;
           arrives = ap (λ (o : Option ℕ). stepAt table offsets (g .shape) o n k) q ∙ set .stepping (t + 1) n k below ∙ arrives;
           few = omega (arith, same, on .few);
-          fits = subst (λ (o : Option ℕ). Fits m o (moveOf k)) (sym q) (fits-number m (packetsAt recording) (t + 1) n k (on .number) arrives);
+          fits = subst (λ (o : Option ℕ). HasRows m o (moveOf k)) (sym q) (fits-number m (packetsAt recording) (t + 1) n k (on .number) arrives);
           here = subst (λ (u : ℕ). getD (possible table recording u) (on .number) false ≡ true) (sym (add-one t)) (on .here);
           alive = subst (λ (u : ℕ). getD (reaching table recording left u) (on .number) false ≡ true) (sym (add-one t)) (on .alive);
           split =

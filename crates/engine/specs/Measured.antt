@@ -1,7 +1,8 @@
 -- What is measured of a table's parts and a recording, for any parts and bytes.
-use Prim.Native.Nat.{ℕ, _<_, min}
+use Prim.Native.Nat.{ℕ, _+_, _<_, min}
 use mathlib.Core.Path.{_≡_}
 use mathlib.Core.List.{List}
+use Rattle.model.specs.Limits.{sizeLimit}
 use Rattle.model.specs.Size
 use Rattle.model.specs.Table.{monitorOf}
 use Rattle.model.specs.Recording.{packetsAt, endOf}
@@ -13,8 +14,8 @@ use Rattle.engine.specs.declared.measures.Measures.{Measures}
 
 pub record Measured (parts : TableParts) (recording : List ℕ) (g : Measures) : Type 0 where
   pub shape : g .shape ≡ shapeOf parts
-  pub size : g .size ≡ min (Size.size (monitorOf parts)) 65537
-  pub row : g .row ≡ Size.rowBytes (g .size)
+  pub size : g .size ≡ min (Size.size (monitorOf parts)) (sizeLimit + 1)
+  pub row : g .row ≡ Size.setBytes (g .size)
   pub last : g .last ≡ endOf (packetsAt recording)
   pub first : g .first ≡ numberBy (g .shape) (firstBy (cappedBy (g .shape)))
   pub short : g .last < 65536

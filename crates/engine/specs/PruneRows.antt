@@ -12,7 +12,7 @@ use Rattle.model.specs.Table.{monitorAt}
 use Rattle.model.specs.Recording.{packetsAt}
 use Rattle.model.specs.Situation.{moveLimit, stepNumber}
 use Rattle.model.specs.Validation.{possibleAfter}
-use Rattle.model.proofs.LeastLaws.{alive}
+use Rattle.model.specs.Layers.{alive}
 use Rattle.bits.specs.Member.{mem}
 use Rattle.situation.specs.Rows.{isAt}
 use Rattle.layers.specs.Advance.{leastInto}

@@ -9,7 +9,7 @@ use Rattle.model.specs.Table.{monitorAt}
 use Rattle.model.specs.Recording.{packetsAt, endOf}
 use Rattle.model.specs.Situation.{recordedAt, stepNumber, firstNumber}
 use Rattle.model.specs.Validation.{possibleAfter}
-use Rattle.model.proofs.Chains.{Sane, SaneRecording}
+use Rattle.model.specs.Sane.{Sane, SaneRecording}
 use Rattle.bits.specs.Member.{mem}
 use Rattle.layers.specs.Advance.{stepAt}
 use Rattle.engine.specs.declared.measures.Measures.{Measures}

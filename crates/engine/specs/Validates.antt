@@ -5,14 +5,16 @@ use mathlib.Core.List.{List}
 use lib.ListN.{length}
 use Rattle.model.specs.Table.{monitorAt}
 use Rattle.model.specs.Recording.{packetsAt}
+use Rattle.model.specs.Numbers.{verdictValues}
 use Rattle.model.specs.Validation.{refusal, validation, scratchAfter, roomAfter}
 use Rattle.model.specs.Claims.{Judged}
 use Rattle.model.specs.declared.Reading.the-variants.{Sound}
 use Rattle.model.specs.declared.Verdict.{Verdict}
 
--- the answer and the lent buffers are the definition's; and where nothing is refused, demand 3 itself
+-- the answer, document 01's numbers of it and the lent buffers are the definition's; and where nothing is refused, demand 3 itself
 pub record Validates (table recording : List ℕ) (budget : ℕ) (scratch room scratchThen roomThen : List ℕ) (v : Verdict) : Type 0 where
   pub answered : v ≡ validation table recording budget (length scratch) (length room)
+  pub numbers : verdictValues v ≡ verdictValues (validation table recording budget (length scratch) (length room))
   pub cleared : scratchThen ≡ scratchAfter table recording budget scratch room
   pub written : roomThen ≡ roomAfter table recording budget scratch room
   pub judged : refusal table recording (length scratch) (length room) ≡ Sound → Judged (monitorAt table) (packetsAt recording) budget v

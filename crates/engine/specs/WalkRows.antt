@@ -12,9 +12,8 @@ use Rattle.model.specs.Table.{monitorAt}
 use Rattle.model.specs.Recording.{packetsAt}
 use Rattle.model.specs.Situation.{moveLimit, stepNumber}
 use Rattle.model.specs.Validation.{possibleAfter, rowsOf}
-use Rattle.model.specs.Witness.{Row, rowsBytes}
-use Rattle.model.proofs.LeastLaws.{alive, leastFrom}
-use Rattle.model.proofs.MoveRows.{marked}
+use Rattle.model.specs.Witness.{Row, rowsBytes, marked}
+use Rattle.model.specs.Layers.{alive, leastFrom}
 use Rattle.wire.specs.Placed.{placed}
 use Rattle.situation.specs.Rows.{Cursor}
 use Rattle.engine.specs.declared.measures.Measures.{Measures}

@@ -2,6 +2,7 @@
 use crate::measures::Measures;
 use bits::count;
 use bits::put;
+use layers::Span;
 use layers::advance;
 use situation::rows::heard_at;
 use situation::rows::passed;
@@ -31,16 +32,11 @@ fn instant<'a>(
 {
     let h = g.shape;
     let heard = heard_at(recording, i, t as u64 + 1);
-    advance(
-        table,
-        offsets,
-        h,
-        heard,
-        scratch,
-        8 * g.row * t,
-        8 * g.row * (t + 1),
-        g.size,
-    );
+    let next = Span {
+        start: 8 * g.row * (t + 1),
+        size: g.size,
+    };
+    advance(table, offsets, h, heard, scratch, 8 * g.row * t, next);
     let from = g.row * (t + 1);
     let to = from + g.row;
     count(&scratch[from..to])

@@ -5,7 +5,7 @@ mod measures;
 mod prune;
 mod walk;
 
-use codec::recording::recording_answer;
+use codec::recording::recording_scan;
 use codec::table::read_table;
 use judge::judge;
 use measures::measure;
@@ -25,11 +25,15 @@ pub fn validate<'a>(
 ) -> Verdict
     ensures { λ r. ⌜ Validates (now (table .entry)) (now (recording .entry)) budget (now (scratch .entry)) (now (room .entry)) (now (scratch .exit)) (now (room .exit)) r ⌝ }
 {
-    let answer = recording_answer(table, recording);
+    let reading = read_table(table);
+    let answer = reading.answer;
     if let Reading::Unsound(why) = answer {
         return Verdict::Refused(why);
     }
-    let reading = read_table(table);
+    let scan = recording_scan(table, recording);
+    if let Reading::Unsound(why) = scan {
+        return Verdict::Refused(why);
+    }
     let parts = reading.parts;
     let g = measure(parts, recording);
     let scratch_wanted = g.row * (g.last + 1);

@@ -1,5 +1,8 @@
 // The way back through the rows: a situation from which the end cannot be reached is cut from its row.
 use crate::measures::Measures;
+use layers::Span;
+use layers::least_into;
+use model::MOVE_LIMIT;
 use situation::Heard;
 use situation::Shape;
 use situation::rows::heard_at;
@@ -10,8 +13,6 @@ ghost use Rattle.situation.specs.Rows.{heardAt, heardOf};
 ghost use Rattle.layers.specs.Advance.{stepAt};
 ghost use Rattle.engine.specs.Setting.{Setting, LayersUpTo};
 ghost use Rattle.engine.specs.PruneRows.{cursorBefore, CutIn, RowCut, PrunedRows};
-
-const MOVE_LIMIT: usize = 129;
 
 // The cursor of instant t, from that of the next instant.
 fn back(recording: &[u8], cursor: usize, t: u64) -> usize
@@ -26,7 +27,7 @@ fn back(recording: &[u8], cursor: usize, t: u64) -> usize
     }
 }
 
-// Cuts situation n from the row at bit from, unless some move leads from it into the row at bit to.
+// Cuts situation n from the row at bit from, unless some move leads from it into the row to.
 fn cut_stuck<'a>(
     table: &'a [u8],
     offsets: &'a [u16],
@@ -34,17 +35,16 @@ fn cut_stuck<'a>(
     heard: Heard,
     scratch: &mut [u8],
     from: usize,
-    to: usize,
-    size: usize,
+    to: Span,
     n: usize,
 )
     requires { ⌜ from + n < 4294967296 ⌝ }
-    ensures { λ r. ⌜ CutIn (stepAt (now (table .entry)) (now (offsets .entry)) h (heardOf heard)) from to size n (now (scratch .entry)) (now (scratch .exit)) ⌝ }
+    ensures { λ r. ⌜ CutIn (stepAt (now (table .entry)) (now (offsets .entry)) h (heardOf heard)) from (to .start) (to .size) n (now (scratch .entry)) (now (scratch .exit)) ⌝ }
 {
     if !bits::test(scratch, from + n) {
         return;
     }
-    if layers::least_into(table, offsets, h, heard, scratch, to, size, n as u64) < MOVE_LIMIT {
+    if least_into(table, offsets, h, heard, scratch, to, n as u64) < MOVE_LIMIT {
         return;
     }
     bits::cut(scratch, from + n);
@@ -58,15 +58,14 @@ fn cut_row<'a>(
     heard: Heard,
     scratch: &mut [u8],
     from: usize,
-    to: usize,
-    size: usize,
+    to: Span,
 )
-    requires { ⌜ (from + size ≤ to) × (to < 4294967296) ⌝ }
-    ensures { λ r. ⌜ RowCut (stepAt (now (table .entry)) (now (offsets .entry)) h (heardOf heard)) from to size size (now (scratch .entry)) (now (scratch .exit)) ⌝ }
+    requires { ⌜ (from + to .size ≤ to .start) × (to .start < 4294967296) ⌝ }
+    ensures { λ r. ⌜ RowCut (stepAt (now (table .entry)) (now (offsets .entry)) h (heardOf heard)) from (to .start) (to .size) (to .size) (now (scratch .entry)) (now (scratch .exit)) ⌝ }
 {
     let mut n = 0;
-    while n < size {
-        cut_stuck(table, offsets, h, heard, scratch, from, to, size, n);
+    while n < to.size {
+        cut_stuck(table, offsets, h, heard, scratch, from, to, n);
         n += 1;
     }
 }
@@ -88,16 +87,11 @@ fn prune_at<'a>(
     let before = back(recording, cursor, instant);
     let heard = heard_at(recording, before, instant);
     let h = g.shape;
-    cut_row(
-        table,
-        offsets,
-        h,
-        heard,
-        scratch,
-        8 * g.row * t,
-        8 * g.row * (t + 1),
-        g.size,
-    );
+    let to = Span {
+        start: 8 * g.row * (t + 1),
+        size: g.size,
+    };
+    cut_row(table, offsets, h, heard, scratch, 8 * g.row * t, to);
     before
 }
 

@@ -1,6 +1,14 @@
 // The walk along the least moves, whose rows are the preferred witness.
 use crate::measures::Measures;
 use frame::frame_bytes;
+use layers::Span;
+use layers::least_into;
+use model::ADDED;
+use model::FIRST_ADD;
+use model::KEPT;
+use model::NO_TRANSITION;
+use model::REMOVED;
+use model::REST;
 use situation::Arrival;
 use situation::Heard;
 use situation::Shape;
@@ -18,32 +26,20 @@ ghost use mathlib.Core.Path.{_≡_};
 ghost use mathlib.Core.List.{[], _∷_};
 ghost use mathlib.Core.Option.{some};
 ghost use lib.ListN.{length};
+ghost use Rattle.model.specs.Limits.{witnessLimit};
+ghost use Rattle.model.specs.Frame.{rowsFrame};
 ghost use Rattle.model.specs.Table.{monitorAt};
 ghost use Rattle.model.specs.Recording.{packetsAt};
 ghost use Rattle.model.specs.Situation.{triggerOf, moveLimit, moveOf};
 ghost use Rattle.model.specs.Layers.{count};
 ghost use Rattle.model.specs.Room.{over};
-ghost use Rattle.model.specs.Validation.{addedRow, rowsBy, possibleAfter, preferred};
-ghost use Rattle.model.specs.Witness.{witnessLimit, witnessBytes};
-ghost use Rattle.model.proofs.MoveRows.{Fits};
+ghost use Rattle.model.specs.Validation.{addedRow, rowsBy, HasRows, possibleAfter, preferred};
+ghost use Rattle.model.specs.Witness.{witnessBytes};
 ghost use Rattle.wire.specs.Placed.{placed};
-ghost use Rattle.frame.specs.Framed.{rowsFrame};
 ghost use Rattle.witness.specs.Rows.{rowOf};
 ghost use Rattle.situation.specs.Rows.{heardOf};
 ghost use Rattle.layers.specs.Advance.{stepAt, leastInto};
 ghost use Rattle.engine.specs.WalkRows.{Triggers, Ground, RowsPut, Room, heardRow, Stands, rowsAfter, WalkedOn};
-
-const KEPT: u8 = 0;
-
-const REMOVED: u8 = 1;
-
-const ADDED: u8 = 2;
-
-const NO_TRANSITION: u8 = 255;
-
-const REST: usize = 64;
-
-const FIRST_ADD: usize = 65;
 
 // A least move, and the number that it leads to.
 struct Least {
@@ -123,7 +119,7 @@ fn put_move<'a>(
     heard: Heard,
     k: usize,
 ) -> usize
-    requires { ⌜ Triggers (now table) (now offsets) × (k < moveLimit) × Fits (monitorAt (now table)) (heardOf heard) (moveOf k) × Room (rowsBy (monitorAt (now table)) (heardOf heard) t (moveOf k)) r (now room) ⌝ }
+    requires { ⌜ Triggers (now table) (now offsets) × (k < moveLimit) × HasRows (monitorAt (now table)) (heardOf heard) (moveOf k) × Room (rowsBy (monitorAt (now table)) (heardOf heard) t (moveOf k)) r (now room) ⌝ }
     ensures { λ n. ⌜ RowsPut (rowsBy (monitorAt (now (table .entry))) (heardOf heard) t (moveOf k)) r n (now (room .entry)) (now (room .exit)) ⌝ }
 {
     if k < REST {
@@ -139,27 +135,26 @@ fn put_move<'a>(
 // What stands before the rows.
 fn put_header(room: &mut [u8], rows: usize)
     requires { ⌜ rows ≤ witnessLimit ⌝ }
-    ensures { λ n. ⌜ now (room .exit) ≡ placed (rowsFrame (3 + 5 * rows) rows) 0 (now (room .entry)) ⌝ }
+    ensures { λ n. ⌜ now (room .exit) ≡ placed (rowsFrame 5 rows) 0 (now (room .entry)) ⌝ }
 {
-    let frame = frame_bytes((3 + 5 * rows) as u16, rows as u16);
+    let frame = frame_bytes(5, rows as u16);
     place(&frame, room, 0);
 }
 
-// The least move from situation n into the row at bit to.
+// The least move from situation n into a row.
 fn least_move<'a>(
     table: &'a [u8],
     offsets: &'a [u16],
     h: Shape,
     heard: Heard,
     scratch: &'a [u8],
-    to: usize,
-    size: usize,
+    to: Span,
     n: u64,
 ) -> Least
-    requires { ⌜ ((x : ℕ) × (stepAt (now table) (now offsets) h (heardOf heard) n (leastInto (stepAt (now table) (now offsets) h (heardOf heard)) (now scratch) to size n) ≡ some x)) ⌝ }
-    ensures { λ r. ⌜ (r .k ≡ leastInto (stepAt (now (table .entry)) (now (offsets .entry)) h (heardOf heard)) (now (scratch .entry)) to size n) × (stepAt (now (table .entry)) (now (offsets .entry)) h (heardOf heard) n (r .k) ≡ some (r .to)) ⌝ }
+    requires { ⌜ ((x : ℕ) × (stepAt (now table) (now offsets) h (heardOf heard) n (leastInto (stepAt (now table) (now offsets) h (heardOf heard)) (now scratch) (to .start) (to .size) n) ≡ some x)) ⌝ }
+    ensures { λ r. ⌜ (r .k ≡ leastInto (stepAt (now (table .entry)) (now (offsets .entry)) h (heardOf heard)) (now (scratch .entry)) (to .start) (to .size) n) × (stepAt (now (table .entry)) (now (offsets .entry)) h (heardOf heard) n (r .k) ≡ some (r .to)) ⌝ }
 {
-    let k = layers::least_into(table, offsets, h, heard, scratch, to, size, n);
+    let k = least_into(table, offsets, h, heard, scratch, to, n);
     let s = situation_of(h, n);
     match arrive(table, offsets, h, heard, s, k) {
         Arrival::At(x) => Least { k, to: x },
@@ -184,16 +179,12 @@ fn walk_on<'a>(
     let instant = t as u64 + 1;
     let heard = heard_at(recording, at.cursor, instant);
     let h = g.shape;
-    let least = least_move(
-        table,
-        offsets,
-        h,
-        heard,
-        scratch,
-        8 * g.row * (t + 1),
-        g.size,
-        at.number,
-    );
+    let start = 8 * g.row * (t + 1);
+    let to = Span {
+        start,
+        size: g.size,
+    };
+    let least = least_move(table, offsets, h, heard, scratch, to, at.number);
     let cursor = passed(recording, at.cursor, instant);
     let rows = put_move(
         table,

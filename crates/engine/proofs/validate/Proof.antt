@@ -1,46 +1,65 @@
 -- `validate` meets its contract: each refusal in its turn, and then the judgement. Assumes nothing.
 use Prim.Native.Nat.{_+_, _*_}
 use native.Mathlib.Omega.{arith}
-use mathlib.Core.Path.{_≡_, sym, _∙_}
+use mathlib.Core.Path.{_≡_}
 use borrow.Author.Needs.{needs}
 use Rattle.model.specs.Recording.{recordingAnswer}
 use Rattle.model.specs.Validation.{scratchWanted, roomWanted}
 use Rattle.model.specs.declared.Reading.the-variants.{Sound}
 use Rattle.engine.proofs.ForwardRows.{product}
-use Rattle.engine.proofs.ValidateLaws.{unread, scratch-short, scratch-is, room-short, room-is, le-by, judging, judged-part}
+use Rattle.engine.proofs.ValidateLaws.{table-unread, recording-unread, both-read, unread, scratch-short, scratch-is, room-short, room-is, le-by, judging, judged-part}
 use Rattle.engine.proofs.validate.Statement.{statement}
 use Rattle.engine.proofs.validate.Tie as tie
 
 -- the table and the recording are sound
-sound : (c : tie.After-enum-told) → let a = c .before .before .before .before .before .before .before .args in recordingAnswer (a .table .now) (a .recording .now) ≡ Sound
-sound c = sym (c .before .before .recording-answer .ensures) ∙ c .enum-told .given .1
+sound : (c : tie.After-enum-told2)
+    → let a = c .before .before .before .before .before .before .before .before .before .before .args in recordingAnswer (a .table .now) (a .recording .now) ≡ Sound
+sound c =
+    let told = c .before .before .before in
+    both-read _ _ _ (told .before .before .read-table .ensures .0) (told .enum-told .given .1) _ (c .before .before .recording-scan .ensures) (c .enum-told2 .given .1)
 
 -- the scratch and the room that are wanted
 
 wanted : (c : tie.After-measure)
-    → let a = c .before .before .before .before .before .before .before .before .before .before .args in
+    → let a = c .before .before .before .before .before .before .before .before .before .before .before .before .args in
     let g = c .measure .result in g .row * (g .last + 1) ≡ scratchWanted (a .table .now) (a .recording .now)
-wanted c = scratch-is _ _ (sound (c .before .before .before)) _ (c .before .before .read-table .ensures) _ (c .measure .ensures)
+wanted c =
+    let read = c .before .before .before .before .before .before .before in
+    scratch-is _ _ (sound (c .before .before)) _ (read .read-table .ensures .0) _ (c .measure .ensures)
 
 roomy : (c : tie.After-word)
     → let measured = c .before .before .before .before in
-    5 + 5 * (measured .measure .result .last + c .word .result) ≡ roomWanted (measured .before .before .before .before .before .before .before .before .before .before .args .recording .now)
+    5 + 5 * (measured .measure .result .last + c .word .result)
+    ≡ roomWanted (measured .before .before .before .before .before .before .before .before .before .before .before .before .args .recording .now)
 roomy c = room-is _ _ _ (c .before .before .before .before .measure .ensures .last) (c .word .ensures .0)
 
-recording-answer-requires : tie.Need-recording-answer-requires
-recording-answer-requires c κs = search needs
+read-table-requires : tie.Need-read-table-requires
+read-table-requires c κs = search needs
 
 enum-known-answer : tie.Need-enum-known-answer
 enum-known-answer c = search needs
 
 returns : tie.Need-returns
-returns c = unread _ _ _ _ _ _ (sym (c .before .before .before .recording-answer .ensures) ∙ c .before .answer .given .1)
+returns c = unread _ _ _ _ _ _ (table-unread _ _ _ (c .before .before .before .read-table .ensures .0) _ (c .before .answer .given .1))
 
 enum-told : tie.Need-enum-told
 enum-told c = search needs
 
-read-table-requires : tie.Need-read-table-requires
-read-table-requires c κs = search needs
+recording-scan-requires : tie.Need-recording-scan-requires
+recording-scan-requires c κs = search needs
+
+enum-known-scan : tie.Need-enum-known-scan
+enum-known-scan c = search needs
+
+returns-2 : tie.Need-returns-2
+returns-2 c =
+    let scanned = c .before .before .before in
+    let told = scanned .before in
+    unread _ _ _ _ _ _
+    (recording-unread _ _ _ (told .before .before .read-table .ensures .0) (told .enum-told .given .1) _ (scanned .recording-scan .ensures) _ (c .before .scan .given .1))
+
+enum-told-2 : tie.Need-enum-told-2
+enum-told-2 c = search needs
 
 measure-requires : tie.Need-measure-requires
 measure-requires c κs = search needs
@@ -51,10 +70,10 @@ add-scratch-wanted c = search needs
 mul-scratch-wanted : tie.Need-mul-scratch-wanted
 mul-scratch-wanted c = product _ _ (omega arith) (omega arith)
 
-returns-2 : tie.Need-returns-2
-returns-2 c =
+returns-3 : tie.Need-returns-3
+returns-3 c =
     let measured = c .before .before .before in
-    scratch-short _ _ _ _ _ _ (sound (measured .before .before .before)) (wanted measured) (c .if1 .taken)
+    scratch-short _ _ _ _ _ _ (sound (measured .before .before)) (wanted measured) (c .if1 .taken)
 
 word-requires : tie.Need-word-requires
 word-requires c κs = search needs
@@ -71,11 +90,11 @@ mul-room-wanted c = search needs
 add-room-wanted-2 : tie.Need-add-room-wanted-2
 add-room-wanted-2 c = search needs
 
-returns-3 : tie.Need-returns-3
-returns-3 c =
+returns-4 : tie.Need-returns-4
+returns-4 c =
     let read = c .before .before in
     let measured = read .before .before .before .before in
-    room-short _ _ _ _ _ _ (sound (measured .before .before .before)) (le-by _ _ _ (wanted measured) (read .before .if1 .left)) (roomy read) (c .if2 .taken)
+    room-short _ _ _ _ _ _ (sound (measured .before .before)) (le-by _ _ _ (wanted measured) (read .before .if1 .left)) (roomy read) (c .if2 .taken)
 
 sub-part : tie.Need-sub-part
 sub-part c = search needs
@@ -90,7 +109,7 @@ judge-requires : tie.Need-judge-requires
 judge-requires c κs =
     let read = c .before .before .before .before in
     let measured = read .before .before .before .before in
-    judging _ _ (sound (measured .before .before .before)) _ (measured .before .before .read-table .ensures) _ (measured .measure .ensures) _ _ _ (read .word .ensures .0)
+    judging _ _ (sound (measured .before .before)) _ (measured .before .before .before .before .before .before .before .read-table .ensures .0) _ (measured .measure .ensures) _ _ _ (read .word .ensures .0)
     (read .before .if1 .left) (c .before .before .if2 .left)
 
 same-length : tie.Need-same-length
@@ -99,37 +118,40 @@ same-length c = search needs
 same-length-2 : tie.Need-same-length-2
 same-length-2 c = search needs
 
-returns-4 : tie.Need-returns-4
-returns-4 c =
+returns-5 : tie.Need-returns-5
+returns-5 c =
     let judged = c .before .before .before .before in
     let fits = judged .before .before .before in
     let read = fits .before .before in
     let measured = read .before .before .before .before in
-    judged-part _ _ _ _ _ (sound (measured .before .before .before)) _ (wanted measured) (read .before .if1 .left) (le-by _ _ _ (roomy read) (fits .if2 .left)) _ _ _ (judged .judge .ensures)
+    judged-part _ _ _ _ _ (sound (measured .before .before)) _ (wanted measured) (read .before .if1 .left) (le-by _ _ _ (roomy read) (fits .if2 .left)) _ _ _ (judged .judge .ensures)
 
 pub validate-spec : {M : Type 1} → statement M
 validate-spec =
     tie.close
     (tie.spec
-    recording-answer-requires
+    read-table-requires
     enum-known-answer
     returns
     enum-told
-    read-table-requires
+    recording-scan-requires
+    enum-known-scan
+    returns-2
+    enum-told-2
     measure-requires
     add-scratch-wanted
     mul-scratch-wanted
-    returns-2
+    returns-3
     word-requires
     cast-room-wanted
     add-room-wanted
     mul-room-wanted
     add-room-wanted-2
-    returns-3
+    returns-4
     sub-part
     part-part-start
     part-part-end
     judge-requires
     same-length
     same-length-2
-    returns-4)
+    returns-5)

@@ -14,14 +14,14 @@ heard-at-requires c κs = search needs
 mul-advance : tie.Need-mul-advance
 mul-advance c = search needs
 
+add-advance : tie.Need-add-advance
+add-advance c = search needs
+
 mul-advance-2 : tie.Need-mul-advance-2
 mul-advance-2 c = product _ _ (omega arith) (omega arith)
 
 mul-advance-3 : tie.Need-mul-advance-3
 mul-advance-3 c = search needs
-
-add-advance : tie.Need-add-advance
-add-advance c = search needs
 
 mul-advance-4 : tie.Need-mul-advance-4
 mul-advance-4 c = product _ _ (omega arith) (omega arith)
@@ -68,9 +68,9 @@ instant-spec =
     add-heard-at
     heard-at-requires
     mul-advance
+    add-advance
     mul-advance-2
     mul-advance-3
-    add-advance
     mul-advance-4
     advance-requires
     add-from

@@ -22,22 +22,22 @@ heard-at-requires c κs = search needs
 mul-cut-row : tie.Need-mul-cut-row
 mul-cut-row c = search needs
 
+add-cut-row : tie.Need-add-cut-row
+add-cut-row c = search needs
+
 mul-cut-row-2 : tie.Need-mul-cut-row-2
 mul-cut-row-2 c =
-    let start = c .before .before .before .before .before .before .before .before .before in
-    let below : 8 * start .args .g .row * start .args .t < 4294967296 = row-start _ _ (omega arith) (omega arith) in
+    let start = c .before .before .before .before .before .before .before .before in
+    let below : 8 * start .args .g .row * (start .args .t + 1) < 4294967296 = row-start _ _ (omega arith) (omega arith) in
     omega arith
 
 mul-cut-row-3 : tie.Need-mul-cut-row-3
 mul-cut-row-3 c = search needs
 
-add-cut-row : tie.Need-add-cut-row
-add-cut-row c = search needs
-
 mul-cut-row-4 : tie.Need-mul-cut-row-4
 mul-cut-row-4 c =
     let start = c .before .before .before .before .before .before .before .before .before .before in
-    let below : 8 * start .args .g .row * (start .args .t + 1) < 4294967296 = row-start _ _ (omega arith) (omega arith) in
+    let below : 8 * start .args .g .row * start .args .t < 4294967296 = row-start _ _ (omega arith) (omega arith) in
     omega arith
 
 cut-row-requires : tie.Need-cut-row-requires
@@ -65,9 +65,9 @@ prune-at-spec =
     back-requires
     heard-at-requires
     mul-cut-row
+    add-cut-row
     mul-cut-row-2
     mul-cut-row-3
-    add-cut-row
     mul-cut-row-4
     cut-row-requires
     same-length

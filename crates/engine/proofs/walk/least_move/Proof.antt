@@ -37,7 +37,7 @@ returns-2 c =
     let a = start .args in
     let step = stepAt (a .table .now) (a .offsets .now) (a .h) (heardOf (a .heard)) in
     absurd
-    (not-nowhere (step (a .n)) _ (leastInto step (a .scratch .now) (a .to) (a .size) (a .n)) (start .pre .0)
+    (not-nowhere (step (a .n)) _ (leastInto step (a .scratch .now) (a .to .start) (a .to .size) (a .n)) (start .pre .0)
     (step-arrives _ _ _ _ _ _ _ _ (here .before .situation-of .ensures) (here .arrive .ensures) ∙ ap arrivalOf (c .enum-told .given .1))
     (here .before .before .least-into .ensures) (start .pre .1))
 

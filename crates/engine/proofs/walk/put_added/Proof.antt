@@ -6,7 +6,7 @@ use mathlib.Core.List.{[], _∷_}
 use lib.ListN.{length}
 use Rattle.model.specs.Bytes.{byteAt}
 use Rattle.model.specs.Witness.{added}
-use Rattle.model.proofs.MoveRows.{marked}
+use Rattle.model.specs.Witness.{marked}
 use Rattle.engine.proofs.WalkRoom.{wrote-same}
 use Rattle.engine.proofs.WalkMoves.{trigger-byte, added-one}
 use borrow.Author.Needs.{needs}

@@ -7,17 +7,8 @@ use borrow.Author.Needs.{needs}
 use Rattle.engine.proofs.walk.put_header.Statement.{statement}
 use Rattle.engine.proofs.walk.put_header.Tie as tie
 
-mul-frame-bytes : tie.Need-mul-frame-bytes
-mul-frame-bytes c = search needs
-
-add-frame-bytes : tie.Need-add-frame-bytes
-add-frame-bytes c = search needs
-
 cast-frame-bytes : tie.Need-cast-frame-bytes
 cast-frame-bytes c = search needs
-
-cast-frame-bytes-2 : tie.Need-cast-frame-bytes-2
-cast-frame-bytes-2 c = search needs
 
 frame-bytes-requires : tie.Need-frame-bytes-requires
 frame-bytes-requires c κs = search needs
@@ -41,10 +32,7 @@ pub put-header-spec : {M : Type 1} → statement M
 put-header-spec =
     tie.close
     (tie.spec
-    mul-frame-bytes
-    add-frame-bytes
     cast-frame-bytes
-    cast-frame-bytes-2
     frame-bytes-requires
     slice-aggregate-place
     place-requires

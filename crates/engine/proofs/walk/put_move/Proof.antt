@@ -3,6 +3,7 @@ use Prim.Native.Nat.{_<_}
 use native.Mathlib.Omega.{arith}
 use mathlib.Core.Path.{sym, ap}
 use lib.ListN.{length}
+use Rattle.model.specs.Situation.{restMove}
 use Rattle.model.specs.Table.{monitorAt}
 use Rattle.situation.specs.Rows.{heardOf}
 use Rattle.engine.proofs.WalkRoom.{wrote-same}
@@ -43,7 +44,7 @@ returns-2 c = wrote-same (sym (rows-rest _ _ _ _ (c .if2 .taken))) (c .before .b
 sub-put-added : tie.Need-sub-put-added
 sub-put-added c = search needs
 
-more : (c : tie.After-put-added-arg) → 64 < c .before .before .before .before .before .before .before .before .before .before .args .k
+more : (c : tie.After-put-added-arg) → restMove < c .before .before .before .before .before .before .before .before .before .before .args .k
 more c = omega (arith, c .before .if2 .left, c .before .before .before .before .before .before .if1 .left)
 
 put-added-requires : tie.Need-put-added-requires

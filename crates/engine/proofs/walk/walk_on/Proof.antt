@@ -22,14 +22,14 @@ add-instant c = search needs
 heard-at-requires : tie.Need-heard-at-requires
 heard-at-requires c κs = search needs
 
-mul-least-move : tie.Need-mul-least-move
-mul-least-move c = search needs
+mul-start : tie.Need-mul-start
+mul-start c = search needs
 
-add-least-move : tie.Need-add-least-move
-add-least-move c = search needs
+add-start : tie.Need-add-start
+add-start c = search needs
 
-mul-least-move-2 : tie.Need-mul-least-move-2
-mul-least-move-2 c =
+mul-start-2 : tie.Need-mul-start-2
+mul-start-2 c =
     let start = c .before .before .before .before .before .before .before .before in
     let below : 8 * start .args .g .row * (start .args .t + 1) < 4294967296 =
     row-start _ _ (start .pre .0 .setting .narrow) (omega (arith, start .pre .1, start .pre .0 .setting .end, start .pre .0 .setting .sound .last)) in
@@ -96,9 +96,9 @@ walk-on-spec =
     (tie.spec
     add-instant
     heard-at-requires
-    mul-least-move
-    add-least-move
-    mul-least-move-2
+    mul-start
+    add-start
+    mul-start-2
     least-move-requires
     passed-requires
     cast-put-move
