@@ -3,11 +3,6 @@
 // write the parts of one of the three, 9 to 11 read them back too), then six four-byte numbers: the budget and the lengths of scratch, room and
 // three files. An answer is its three numbers and a sum over every number of the parts that were read back, and every byte of scratch and room,
 // so that none changes unseen. A case of the desk prints the desk's lines.
-ghost use mathlib.Core.Path.{_≡_};
-ghost use Prim.Native.Nat.{_+_, _<_, _≤_};
-ghost use lib.ListN.{length};
-ghost use Rattle.model.specs.Bytes.{tab};
-ghost use Rattle.cases.specs.Batch.{longAt, HeadAt, patternAt};
 mod calls;
 mod parts;
 mod sums;
@@ -17,6 +12,11 @@ use crate::sums::sum;
 use libc::STDIN_FILENO;
 use libc::STDOUT_FILENO;
 use numbers::Answer;
+ghost use mathlib.Core.Path.{_≡_};
+ghost use Prim.Native.Nat.{_+_, _<_, _≤_};
+ghost use lib.ListN.{length};
+ghost use Rattle.model.specs.Bytes.{tab};
+ghost use Rattle.cases.specs.Batch.{longAt, HeadAt, patternAt};
 
 struct Head {
     call: u8,
