@@ -6,6 +6,7 @@
 #![deny(unsafe_code)]
 
 pub mod answer;
+pub mod back;
 pub mod bench;
 pub mod brute;
 pub mod call;
@@ -23,6 +24,7 @@ pub mod limits;
 pub mod linked;
 pub mod moves;
 pub mod papers;
+pub mod parts;
 pub mod recording;
 pub mod rewrite;
 pub mod search;
@@ -33,3 +35,4 @@ pub mod table;
 pub mod validate;
 pub mod wide;
 pub mod witness;
+pub mod writing;

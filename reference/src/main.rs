@@ -88,8 +88,15 @@ fn write_cases(folder: &Path) -> Result<(), String> {
     for (name, bytes) in [("stdin", &made.input), ("stdout", &made.output)] {
         std::fs::write(folder.join(name), bytes).map_err(|it| format!("{name}: {it}"))?;
     }
-    let times = made.numbers.iter().map(|(number, times)| format!("{number} x {times}"));
-    println!("{}", times.collect::<Vec<_>>().join(", "));
+    let tallies = [
+        ("from files", &made.from_files),
+        ("from writing", &made.from_writing),
+        ("from writing and reading back", &made.from_back),
+    ];
+    for (from, numbers) in tallies {
+        let times = numbers.iter().map(|(number, times)| format!("{number} x {times}"));
+        println!("{from}: {}", times.collect::<Vec<_>>().join(", "));
+    }
     Ok(())
 }
 

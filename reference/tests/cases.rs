@@ -7,11 +7,16 @@ use lutarosa_reference::situation::Space;
 #[test]
 fn every_number_comes_often_and_p5_is_printed_whole() {
     let made = cases(1).expect("writing to memory");
-    assert!(made.numbers.values().sum::<usize>() >= 5_000);
+    assert!(made.from_files.values().sum::<usize>() >= 5_000);
     let list =
         [0, 1, 2, 10, 11, 12, 13, 14, 15, 16, 20, 21, 22, 23, 24, 30, 31, 33, 40, 41, 42, 43];
     for number in list {
-        assert!(made.numbers.get(&number).is_some_and(|times| *times >= 20), "number {number}");
+        assert!(made.from_files.get(&number).is_some_and(|times| *times >= 20), "number {number}");
+    }
+    for number in [12, 14, 15, 16, 22, 23, 24, 33, 42, 43] {
+        for numbers in [&made.from_writing, &made.from_back] {
+            assert!(numbers.get(&number).is_some_and(|times| *times >= 20), "writing {number}");
+        }
     }
     let output = String::from_utf8(made.output).expect("lines are text");
     assert!(output.contains("accepted 13 3\nkept 1 0 0\nremoved 3 2 255\nkept 6 1 2\n0 13 3 "));

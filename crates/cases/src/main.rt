@@ -1,18 +1,22 @@
 // Runs a batch of recorded calls from standard input through the library, and prints each answer on a line of its own.
-// A case is a head of 25 bytes and its files: the call (0 validate, 1 check, 2 to 4 rewrite a table, a recording, a witness, 5 the desk), then
-// six four-byte numbers: the budget and the lengths of scratch, room and three files. An answer is its three numbers and a sum over every byte
-// of scratch and room, so that no byte changes unseen. A case of the desk prints the desk's lines.
+// A case is a head of 25 bytes and its files: the call (0 validate, 1 check, 2 to 4 rewrite a table, a recording, a witness, 5 the desk, 6 to 8
+// write the parts of one of the three, 9 to 11 read them back too), then six four-byte numbers: the budget and the lengths of scratch, room and
+// three files. An answer is its three numbers and a sum over every number of the parts that were read back, and every byte of scratch and room,
+// so that none changes unseen. A case of the desk prints the desk's lines.
+mod calls;
+mod parts;
+mod sums;
+
+use crate::calls::call;
+use crate::sums::sum;
+use libc::STDIN_FILENO;
+use libc::STDOUT_FILENO;
+use numbers::Answer;
 ghost use mathlib.Core.Path.{_≡_};
 ghost use Prim.Native.Nat.{_+_, _<_, _≤_};
 ghost use lib.ListN.{length};
 ghost use Rattle.model.specs.Bytes.{tab};
-ghost use Rattle.cases.specs.Batch.{longAt, HeadAt, patternAt, sumFrom};
-use libc::STDIN_FILENO;
-use libc::STDOUT_FILENO;
-use numbers::Answer;
-use numbers::checking_numbers;
-use numbers::verdict_numbers;
-use numbers::writing_numbers;
+ghost use Rattle.cases.specs.Batch.{longAt, HeadAt, patternAt};
 
 struct Head {
     call: u8,
@@ -60,20 +64,6 @@ fn pattern(bytes: &mut [u8])
     }
 }
 
-// Goes by place, so that bytes that change places change it.
-fn sum(from: u64, bytes: &[u8]) -> u64
-    requires { ⌜ from < 1000003 ⌝ }
-    ensures { λ r. ⌜ (r ≡ sumFrom from (now (bytes .entry))) × (r < 1000003) ⌝ }
-{
-    let mut total = from;
-    let mut i = 0;
-    while i < bytes.len() {
-        total = (total * 257 + bytes[i] as u64 + 1) % 1000003;
-        i += 1;
-    }
-    total
-}
-
 // Puts a number and the byte behind it at a place of the line, and returns the next place.
 fn put(n: u64, behind: u8, line: &mut [u8], at: usize) -> usize
     requires { ⌜ at ≤ 63 ⌝ }
@@ -109,30 +99,6 @@ fn desk(input: &[u8]) -> bool {
     io::write_all(STDOUT_FILENO, &text[0..count])
 }
 
-fn call<'a>(
-    which: u8,
-    budget: u32,
-    first: &'a [u8],
-    second: &'a [u8],
-    third: &'a [u8],
-    scratch: &mut [u8],
-    room: &mut [u8],
-) -> Answer {
-    if which == 0 {
-        return verdict_numbers(engine::validate(first, second, budget, scratch, room));
-    }
-    if which == 1 {
-        return checking_numbers(checker::check_witness(first, second, third));
-    }
-    if which == 2 {
-        return writing_numbers(rewrite::rewrite_table(first, room));
-    }
-    if which == 3 {
-        return writing_numbers(rewrite::rewrite_recording(first, second, room));
-    }
-    writing_numbers(rewrite::rewrite_witness(first, room))
-}
-
 fn answer<'a>(
     which: u8,
     budget: u32,
@@ -144,9 +110,9 @@ fn answer<'a>(
 ) -> bool {
     pattern(scratch);
     pattern(room);
-    let numbers = call(which, budget, first, second, third, scratch, room);
-    let total = sum(1, scratch);
-    print(numbers, sum(total, room))
+    let outcome = call(which, budget, first, second, third, scratch, room);
+    let total = sum(outcome.sum, scratch);
+    print(outcome.numbers, sum(total, room))
 }
 
 // The first file ends where the second begins, and that one where the third does.
@@ -164,7 +130,7 @@ fn run(
     if which == 5 {
         return desk(&files[0..second]);
     }
-    if 5 < which {
+    if 11 < which {
         return stop(b"cases: there is no such call\n");
     }
     answer(

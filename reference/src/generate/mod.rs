@@ -3,6 +3,7 @@
 mod buffers;
 mod calls;
 mod encode;
+mod parts;
 mod recordings;
 mod rng;
 mod spoil;
@@ -13,6 +14,7 @@ mod witnesses;
 pub use buffers::{dirty, length_near};
 pub use calls::calls;
 pub use encode::{encode_recording, encode_table, encode_witness};
+pub use parts::writings;
 pub use recordings::{any_rows, overheard, spoil_rows};
 pub use rng::Rng;
 pub use spoil::{any_bytes, spoil_bytes};

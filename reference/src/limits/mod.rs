@@ -1,5 +1,9 @@
 //! Calls at the limits of the paper, and one beyond each.
 
+mod parts;
+
+pub use parts::writings;
+
 use crate::answer::Answer;
 use crate::call::{Call, ORDINARY};
 use crate::generate::encode_table;

@@ -1,4 +1,4 @@
--- `cases::sum` meets its contract: the total over the bytes that are left is the whole's. Assumes nothing.
+-- `cases::sums::sum` meets its contract: the total over the bytes that are left is the whole's. Assumes nothing.
 use borrow.Author.Needs.{needs}
 use Prim.Native.Nat.{ℕ, _-_, _≤_, _<_}
 use native.Mathlib.Omega.{arith}
@@ -7,8 +7,8 @@ use lib.ListN.{length, drop}
 use lib.Seq.{drop-length}
 use Rattle.cases.specs.Batch.{sumFrom}
 use Rattle.cases.proofs.Summing.{sum-more}
-use Rattle.cases.proofs.sum.Statement.{statement}
-use Rattle.cases.proofs.sum.Tie as tie
+use Rattle.cases.proofs.sums.sum.Statement.{statement}
+use Rattle.cases.proofs.sums.sum.Tie as tie
 
 abbrev Inv-loop : tie.InvT-loop
 Inv-loop from bytes total₀ i₀ total i = (i ≤ length bytes) × (total < 1000003) × (sumFrom total (drop i bytes) ≡ sumFrom from bytes)

@@ -1,0 +1,141 @@
+// The library's functions by the numbers of a batch's calls.
+use crate::parts::recording_parts;
+use crate::parts::table_parts;
+use crate::parts::witness_parts;
+use crate::sums::sum_recording;
+use crate::sums::sum_table;
+use crate::sums::sum_witness;
+use codec::recording::write_recording;
+use codec::table::write_table;
+use model::RecordingReading;
+use model::TableReading;
+use model::WitnessReading;
+use numbers::Answer;
+use numbers::checking_numbers;
+use numbers::reading_numbers;
+use numbers::verdict_numbers;
+use numbers::writing_numbers;
+use rewrite::back::recording_back;
+use rewrite::back::table_back;
+use rewrite::back::witness_back;
+use witness::write_witness;
+ghost use Prim.Native.Nat.{_<_};
+
+// The numbers of an answer, and the sum over the parts that were read back, 1 where none are.
+pub struct Outcome {
+    pub numbers: Answer,
+    pub sum: u64,
+}
+
+fn from_files<'a>(
+    which: u8,
+    budget: u32,
+    first: &'a [u8],
+    second: &'a [u8],
+    third: &'a [u8],
+    scratch: &mut [u8],
+    room: &mut [u8],
+) -> Answer {
+    if which == 0 {
+        return verdict_numbers(engine::validate(first, second, budget, scratch, room));
+    }
+    if which == 1 {
+        return checking_numbers(checker::check_witness(first, second, third));
+    }
+    if which == 2 {
+        return writing_numbers(rewrite::rewrite_table(first, room));
+    }
+    if which == 3 {
+        return writing_numbers(rewrite::rewrite_recording(first, second, room));
+    }
+    writing_numbers(rewrite::rewrite_witness(first, room))
+}
+
+fn write<'a>(
+    which: u8,
+    first: &'a [u8],
+    second: &'a [u8],
+    third: &'a [u8],
+    room: &mut [u8],
+) -> Answer {
+    if which == 6 {
+        return writing_numbers(write_table(table_parts(first, second, third), room));
+    }
+    if which == 7 {
+        return writing_numbers(write_recording(first, recording_parts(second), room));
+    }
+    writing_numbers(write_witness(witness_parts(first), room))
+}
+
+fn table_outcome(reading: TableReading) -> Outcome
+    ensures { λ r. ⌜ r .sum < 1000003 ⌝ }
+{
+    let answer = reading.answer;
+    let parts = reading.parts;
+    Outcome {
+        numbers: reading_numbers(answer),
+        sum: sum_table(parts),
+    }
+}
+
+fn recording_outcome(reading: RecordingReading) -> Outcome
+    ensures { λ r. ⌜ r .sum < 1000003 ⌝ }
+{
+    let answer = reading.answer;
+    let parts = reading.parts;
+    Outcome {
+        numbers: reading_numbers(answer),
+        sum: sum_recording(parts),
+    }
+}
+
+fn witness_outcome(reading: WitnessReading) -> Outcome
+    ensures { λ r. ⌜ r .sum < 1000003 ⌝ }
+{
+    let answer = reading.answer;
+    let parts = reading.parts;
+    Outcome {
+        numbers: reading_numbers(answer),
+        sum: sum_witness(parts),
+    }
+}
+
+fn back<'a>(
+    which: u8,
+    first: &'a [u8],
+    second: &'a [u8],
+    third: &'a [u8],
+    room: &mut [u8],
+) -> Outcome
+    ensures { λ r. ⌜ r .sum < 1000003 ⌝ }
+{
+    if which == 9 {
+        return table_outcome(table_back(table_parts(first, second, third), room));
+    }
+    if which == 10 {
+        return recording_outcome(recording_back(first, recording_parts(second), room));
+    }
+    witness_outcome(witness_back(witness_parts(first), room))
+}
+
+pub fn call<'a>(
+    which: u8,
+    budget: u32,
+    first: &'a [u8],
+    second: &'a [u8],
+    third: &'a [u8],
+    scratch: &mut [u8],
+    room: &mut [u8],
+) -> Outcome
+    ensures { λ r. ⌜ r .sum < 1000003 ⌝ }
+{
+    if which < 5 {
+        let numbers = from_files(which, budget, first, second, third, scratch, room);
+        return Outcome { numbers, sum: 1 };
+    }
+    if which < 9 {
+        let numbers = write(which, first, second, third, room);
+        return Outcome { numbers, sum: 1 };
+    }
+    back(which, first, second, third, room)
+}

@@ -1,0 +1,297 @@
+//! Writing parts that no reading gave, and reading them back, with answers worked out by hand from
+//! the list.
+
+mod common;
+
+use common::{answer, monitor_with};
+use lutarosa_reference::back::{recording_back, table_back, witness_back};
+use lutarosa_reference::papers::{ACK, DATA, SMALL_MONITOR};
+use lutarosa_reference::parts::{Placed, RecordingParts, RowParts, TableParts, WitnessParts};
+use lutarosa_reference::recording::Heard;
+use lutarosa_reference::table::{read, Kind};
+use lutarosa_reference::witness::{Row, ADDED, KEPT, REMOVED};
+use lutarosa_reference::writing::Parts;
+
+/// Neither writing, with room or without, nor reading back gives anything else.
+fn refused(parts: &Parts, number: u64, value: u64) {
+    let expected = answer(number, value, 0);
+    let mut room = [0x5A; 100];
+    assert_eq!(parts.write(&mut room), expected, "{parts:?}");
+    assert_eq!(parts.write(&mut []), expected);
+    let (it, numbers) = parts.back(&mut room);
+    assert_eq!(it, expected);
+    assert!(numbers.iter().all(|number| *number == 0));
+    assert_eq!(room, [0x5A; 100]);
+}
+
+/// These bytes and no others, if there is room for them, and these numbers back, with 0 between.
+fn written(parts: &Parts, bytes: &[u8], all: usize, numbers: &[(usize, u8)]) {
+    let wanted = bytes.len();
+    let mut room = vec![0x5A; wanted - 1];
+    assert_eq!(parts.write(&mut room), answer(33, wanted as u64, 0));
+    assert_eq!(parts.back(&mut room), (answer(33, wanted as u64, 0), vec![0; all]));
+    assert_eq!(room, vec![0x5A; wanted - 1]);
+    for spare in [0, 3] {
+        let expected_room = [bytes, &vec![0x5A; spare]].concat();
+        let mut room = vec![0x5A; wanted + spare];
+        assert_eq!(parts.write(&mut room), answer(0, wanted as u64, 0));
+        assert_eq!(room, expected_room);
+        let mut expected = vec![0; all];
+        numbers.iter().for_each(|(place, number)| expected[*place] = *number);
+        let mut room = vec![0x5A; wanted + spare];
+        assert_eq!(parts.back(&mut room), (answer(0, 0, 0), expected));
+        assert_eq!(room, expected_room);
+    }
+}
+
+/// Two states, two variables, one clock; the kind is at 8, the transitions are at 10 and 19. Every
+/// place beyond, in a record too, holds rubbish.
+fn table() -> TableParts {
+    let guard = |bytes: &[u8]| {
+        let mut guard = [0xEE; 32];
+        guard[..bytes.len()].copy_from_slice(bytes);
+        guard
+    };
+    TableParts {
+        counts: [2, 2, 1, 1, 2],
+        filler: 0xEE,
+        kinds: vec![Kind { direction: 1, airtime: 15 }, Kind { direction: 9, airtime: 99 }],
+        transitions: vec![
+            Placed { fields: [0, 1, 0, 1, 2, 1, 2], guard: guard(&[3, 1]) },
+            Placed { fields: [1, 0, 0, 0, 3, 0, 3], guard: guard(&[1, 0, 7]) },
+            Placed { fields: [99; 7], guard: [99; 32] },
+        ],
+    }
+}
+
+fn with_count(place: usize, count: u8) -> Parts {
+    let mut it = table();
+    it.counts[place] = count;
+    Parts::Table(it)
+}
+
+fn with_fields(changes: &[(usize, usize, u8)]) -> Parts {
+    let mut it = table();
+    for (transition, place, value) in changes {
+        it.transitions[*transition].fields[*place] = *value;
+    }
+    Parts::Table(it)
+}
+
+#[test]
+fn a_table_comes_back_without_what_lies_beyond() {
+    let bytes = [
+        &[0, 27, 1, 2, 2, 1, 1, 2, 1, 15][..],
+        &[0, 1, 0, 1, 2, 1, 2, 3, 1],
+        &[1, 0, 0, 0, 3, 0, 3, 1, 0, 7],
+    ]
+    .concat();
+    // 5 counts, 2 columns of 32, 7 of 64, and 64 guards of 32 places from 517 on.
+    let numbers = [
+        (0, 2),
+        (1, 2),
+        (2, 1),
+        (3, 1),
+        (4, 2),
+        (5, 1),
+        (37, 15),
+        (70, 1),
+        (133, 1),
+        (261, 1),
+        (325, 2),
+        (326, 3),
+        (389, 1),
+        (453, 2),
+        (454, 3),
+        (517, 3),
+        (518, 1),
+        (549, 1),
+        (551, 7),
+    ];
+    written(&Parts::Table(table()), &bytes, 2_565, &numbers);
+}
+
+#[test]
+fn number_12_whatever_the_records_hold() {
+    let beyond: [&[u8]; 5] = [&[0, 17, 255], &[5, 255], &[3, 255], &[0, 33, 255], &[65, 255]];
+    for (place, counts) in beyond.iter().enumerate() {
+        for count in *counts {
+            refused(&with_count(place, *count), 12, 3 + place as u64);
+        }
+    }
+    refused(&Parts::Table(TableParts::default()), 12, 3);
+}
+
+#[test]
+fn number_14_fields() {
+    let values: [&[u8]; 6] = [&[2], &[2, 255], &[1], &[4, 8], &[4, 128], &[2, 128]];
+    for (place, values) in values.iter().enumerate() {
+        for value in *values {
+            refused(&with_fields(&[(1, place, *value)]), 14, 19);
+        }
+    }
+    // Set and clear meet.
+    refused(&with_fields(&[(0, 3, 3)]), 14, 10);
+    // The records that a count covers beyond those that it should.
+    refused(&with_count(3, 2), 14, 10);
+    refused(&with_count(4, 3), 14, 29);
+}
+
+#[test]
+fn number_15_guard_lengths_in_their_place() {
+    for length in [0, 33, 255] {
+        refused(&with_fields(&[(0, 6, length)]), 15, 10);
+        refused(&with_fields(&[(1, 6, length)]), 15, 19);
+        // A field of an earlier record, or of its own, comes first; a later one's does not.
+        refused(&with_fields(&[(1, 6, length), (0, 0, 2)]), 14, 10);
+        refused(&with_fields(&[(0, 6, length), (0, 0, 2)]), 14, 10);
+        refused(&with_fields(&[(0, 6, length), (1, 0, 2)]), 15, 10);
+    }
+    // Within the limits the length covers too few bytes, or rubbish.
+    for length in [1, 3, 32] {
+        refused(&with_fields(&[(0, 6, length)]), 15, 10);
+    }
+    let mut deepest = table();
+    deepest.transitions[0].fields[6] = 32;
+    deepest.transitions[0].guard = [4; 32];
+    refused(&Parts::Table(deepest.clone()), 15, 10);
+    deepest.transitions[0].guard[31] = 0;
+    let mut room = [0; 59];
+    assert_eq!(Parts::Table(deepest.clone()).write(&mut room), answer(0, 59, 0));
+    let back = table_back(&deepest, &mut room).1;
+    assert_eq!(back.transitions[0].guard, deepest.transitions[0].guard);
+}
+
+/// 2 x 4 x 9 x 16 is 1,152; with 16 states and 4 variables and M at 14 it is 16 x 16 x 16 x 16.
+#[test]
+fn number_16_situations() {
+    let sized = |limit: u8| {
+        let mut it = table();
+        (it.counts[0], it.counts[1]) = (16, 4);
+        it.transitions[1].guard[2] = limit;
+        it
+    };
+    assert_eq!(table_back(&sized(14), &mut [0; 29]).0, answer(0, 0, 0));
+    refused(&Parts::Table(sized(15)), 16, 0);
+}
+
+#[test]
+fn the_smallest_table_of_a_filler_alone() {
+    let filled = |filler, transitions| TableParts {
+        counts: [1, 0, 0, 1, transitions],
+        filler,
+        ..TableParts::default()
+    };
+    assert_eq!(table_back(&filled(0, 0), &mut [0; 10]).0, answer(0, 0, 0));
+    refused(&Parts::Table(filled(0, 64)), 15, 10);
+    refused(&Parts::Table(filled(1, 1)), 14, 10);
+    refused(&Parts::Table(filled(255, 0)), 14, 8);
+}
+
+fn heard(count: u16, filler: u8, rows: &[(u16, u8)]) -> RecordingParts {
+    let row = |it: &(u16, u8)| Heard { time: it.0, kind: it.1 };
+    RowParts { count, filler, rows: rows.iter().map(row).collect() }
+}
+
+fn recording(count: u16, filler: u8, rows: &[(u16, u8)]) -> Parts {
+    Parts::Recording(SMALL_MONITOR.to_vec(), heard(count, filler, rows))
+}
+
+#[test]
+fn a_recording_comes_back_without_what_lies_beyond() {
+    let parts = recording(2, 0xEE, &[(1, DATA), (4_096, ACK), (0, 99)]);
+    let bytes = [0, 9, 1, 0, 2, 0, 1, DATA, 16, 0, ACK];
+    // The count, 512 times of two bytes and 512 kinds.
+    written(&parts, &bytes, 1_538, &[(1, 2), (3, 1), (4, 16), (1_027, ACK)]);
+    written(&recording(0, 1, &[(0, 99)]), &[0, 3, 1, 0, 0], 1_538, &[]);
+    // Filler 1 is the row (257, RETRY).
+    let bytes = [0, 9, 1, 0, 2, 0, 1, DATA, 1, 1, 1];
+    let numbers = [(1, 2), (3, 1), (4, 1), (5, 1), (1_027, 1)];
+    written(&recording(2, 1, &[(1, DATA)]), &bytes, 1_538, &numbers);
+}
+
+#[test]
+fn numbers_22_to_24() {
+    for count in [513, 65_535] {
+        refused(&recording(count, 0, &[(0, 9)]), 22, 3);
+    }
+    for (time, kind) in [(0, DATA), (4_097, DATA), (65_535, DATA), (9, 3), (9, 255)] {
+        refused(&recording(2, 0, &[(1, DATA), (time, kind)]), 23, 1);
+    }
+    refused(&recording(512, 0, &[(1, DATA)]), 23, 1);
+    refused(&recording(512, 1, &[(1, DATA)]), 24, 2);
+    refused(&recording(2, 0, &[(9, DATA), (10, ACK)]), 24, 1);
+    refused(&recording(2, 0, &[(9, ACK), (9, ACK)]), 24, 1);
+    refused(&recording(3, 0, &[(9, ACK), (8, ACK), (0, ACK)]), 24, 1);
+}
+
+#[test]
+fn the_table_comes_before_the_count() {
+    let parts = heard(513, 0, &[]);
+    refused(&Parts::Recording(vec![], parts.clone()), 10, 0);
+    refused(&Parts::Recording(monitor_with(&[(2, 9)]), parts.clone()), 11, 2);
+    refused(&Parts::Recording(monitor_with(&[(20, 33)]), parts), 15, 14);
+}
+
+fn witness(count: u16, filler: u8, rows: &[(u8, u16, u8, u8)]) -> Parts {
+    let row = |it: &(u8, u16, u8, u8)| Row { mark: it.0, time: it.1, kind: it.2, transition: it.3 };
+    Parts::Witness(RowParts { count, filler, rows: rows.iter().map(row).collect() })
+}
+
+#[test]
+fn a_witness_comes_back_without_what_lies_beyond() {
+    let parts = witness(2, 0xEE, &[(REMOVED, 258, 9, 255), (ADDED, 258, 8, 7), (3, 0, 0, 0)]);
+    let bytes = [0, 13, 1, 0, 2, 1, 1, 2, 9, 255, 2, 1, 2, 8, 7];
+    // The count, 4,608 marks, times of two bytes, kinds and transitions.
+    let numbers = [
+        (1, 2),
+        (2, 1),
+        (3, 2),
+        (4_610, 1),
+        (4_611, 2),
+        (4_612, 1),
+        (4_613, 2),
+        (13_826, 9),
+        (13_827, 8),
+        (18_434, 255),
+        (18_435, 7),
+    ];
+    written(&parts, &bytes, 23_042, &numbers);
+    written(&witness(0, 255, &[]), &[0, 3, 1, 0, 0], 23_042, &[]);
+}
+
+#[test]
+fn numbers_42_and_43() {
+    for count in [4_609, 65_535] {
+        refused(&witness(count, 0, &[(9, 0, 0, 0)]), 42, 3);
+    }
+    refused(&witness(4_608, 0, &[(KEPT, 1, 0, 0)]), 43, 1);
+    // Filler 1 is a removed row with transition 1.
+    refused(&witness(1, 1, &[]), 43, 0);
+    let bad = [(3, 4, 0, 0), (255, 4, 0, 0), (KEPT, 0, 0, 0), (ADDED, 4_097, 0, 0)];
+    for row in bad.into_iter().chain([(KEPT, 65_535, 0, 0), (REMOVED, 4, 0, 254)]) {
+        refused(&witness(2, 0, &[(KEPT, 3, 0, 0), row]), 43, 1);
+    }
+    // At one time, and before it.
+    for row in [(KEPT, 3, 1, 0), (ADDED, 3, 0, 0), (REMOVED, 3, 1, 255), (ADDED, 2, 1, 0)] {
+        refused(&witness(2, 0, &[(REMOVED, 3, 0, 255), row]), 43, 1);
+    }
+}
+
+#[test]
+fn as_many_as_there_are_places() {
+    let rows: Vec<_> = (1..=512).map(|number| (8 * number, DATA)).collect();
+    let (it, back) = recording_back(&SMALL_MONITOR, &heard(512, 0, &rows), &mut [0; 1_541]);
+    assert_eq!((it, back), (answer(0, 0, 0), heard(512, 0, &rows)));
+    // Two rows at each of the first 512 times, one at every other.
+    let at = |time| match time {
+        1..=512 => vec![(REMOVED, time, 0, 255), (ADDED, time, 1, 0)],
+        _ => vec![(KEPT, time, 0, 0)],
+    };
+    let rows: Vec<_> = (1..=4_096).flat_map(at).collect();
+    let Parts::Witness(parts) = witness(4_608, 0, &rows) else { unreachable!() };
+    let back: (_, WitnessParts) = witness_back(&parts, &mut [0; 23_045]);
+    assert_eq!(back, (answer(0, 0, 0), parts));
+    let small_monitor = TableParts::of(&read(&SMALL_MONITOR).unwrap());
+    assert_eq!(table_back(&small_monitor, &mut [0; 68]), (answer(0, 0, 0), small_monitor));
+}
