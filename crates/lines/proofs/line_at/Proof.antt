@@ -19,7 +19,10 @@ same-length : tie.Need-same-length
 same-length c = search needs
 
 returns : tie.Need-returns
-returns c = ?
+returns c =
+    let a = c .before .before .before .before .before .before .before .args in
+    subst (λ (r : Row). Wrote (rowLine r) (a .at) (a .text .now) (c .before .before .row-line .last .1 .0) (c .before .before .row-line .result))
+    (c .before .before .before .before .row-at .ensures) (c .before .before .row-line .ensures)
 
 pub line-at-spec : {M : Type 1} → statement M
 line-at-spec = tie.close (tie.spec cast-row-at row-at-requires row-line-requires same-length returns)
