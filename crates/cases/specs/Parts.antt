@@ -3,11 +3,12 @@
 use Prim.Native.Nat.{ℕ, _+_, _*_}
 use mathlib.Core.List.{List, [], _∷_, _++_}
 use lib.ListN.{replicate}
+use Rattle.model.specs.Limits.{kindLimit, transitionLimit, guardLimit, rowLimit, witnessLimit}
 use Rattle.model.specs.Bytes.{byteAt, wordAt, wordBytes}
 use Rattle.model.specs.declared.TableParts.{TableParts}
 use Rattle.model.specs.declared.RecordingParts.{RecordingParts}
 use Rattle.model.specs.declared.WitnessParts.{WitnessParts}
-use Rattle.frame.specs.Framed.{filled}
+use Rattle.frame.specs.Filled.{filled}
 
 abbrev pub fillerAt : List ℕ → ℕ
 fillerAt b = byteAt b 2
@@ -16,16 +17,16 @@ fillerAt b = byteAt b 2
 abbrev pub fillerTimeAt : List ℕ → ℕ
 fillerTimeAt b = 257 * fillerAt b
 
--- a table's kinds stand behind its counts; the fields of its transitions, and the 32 places of each guard, are two further files
+-- a table's kinds stand behind its counts; the fields of its transitions, and the places of each guard, are two further files
 
 abbrev pub kindsGiven : List ℕ → ℕ → List ℕ
-kindsGiven b field = filled (λ i. byteAt b (8 + field + 2 * i)) (byteAt b 0) (replicate 32 (fillerAt b))
+kindsGiven b field = filled (λ i. byteAt b (8 + field + 2 * i)) (byteAt b 0) (replicate kindLimit (fillerAt b))
 
 abbrev pub transitionsGiven : List ℕ → List ℕ → ℕ → List ℕ
-transitionsGiven b fields field = filled (λ j. byteAt fields (field + 7 * j)) (byteAt b 1) (replicate 64 (fillerAt b))
+transitionsGiven b fields field = filled (λ j. byteAt fields (field + 7 * j)) (byteAt b 1) (replicate transitionLimit (fillerAt b))
 
 abbrev pub guardsGiven : List ℕ → List ℕ → List ℕ
-guardsGiven b guards = filled (λ i. byteAt guards (0 + 1 * i)) (32 * byteAt b 1) (replicate 2048 (fillerAt b))
+guardsGiven b guards = filled (λ i. byteAt guards (0 + 1 * i)) (guardLimit * byteAt b 1) (replicate (guardLimit * transitionLimit) (fillerAt b))
 
 unfoldable pub tableGiven : List ℕ → List ℕ → List ℕ → TableParts
 tableGiven b fields guards =
@@ -48,20 +49,20 @@ tableGiven b fields guards =
     }
 
 abbrev pub recordedTimesGiven : List ℕ → List ℕ
-recordedTimesGiven b = filled (λ i. wordAt b (5 + 3 * i)) (wordAt b 0) (replicate 512 (fillerTimeAt b))
+recordedTimesGiven b = filled (λ i. wordAt b (5 + 3 * i)) (wordAt b 0) (replicate rowLimit (fillerTimeAt b))
 
 abbrev pub recordedKindsGiven : List ℕ → List ℕ
-recordedKindsGiven b = filled (λ i. byteAt b (7 + 3 * i)) (wordAt b 0) (replicate 512 (fillerAt b))
+recordedKindsGiven b = filled (λ i. byteAt b (7 + 3 * i)) (wordAt b 0) (replicate rowLimit (fillerAt b))
 
 unfoldable pub recordingGiven : List ℕ → RecordingParts
 recordingGiven b = record { count = wordAt b 3; times = recordedTimesGiven b; kinds = recordedKindsGiven b }
 
 -- the byte that stands at start in row 0
 abbrev pub rowsGiven : List ℕ → ℕ → List ℕ
-rowsGiven b start = filled (λ i. byteAt b (start + 5 * i)) (wordAt b 0) (replicate 4608 (fillerAt b))
+rowsGiven b start = filled (λ i. byteAt b (start + 5 * i)) (wordAt b 0) (replicate witnessLimit (fillerAt b))
 
 abbrev pub timesGiven : List ℕ → List ℕ
-timesGiven b = filled (λ i. wordAt b (6 + 5 * i)) (wordAt b 0) (replicate 4608 (fillerTimeAt b))
+timesGiven b = filled (λ i. wordAt b (6 + 5 * i)) (wordAt b 0) (replicate witnessLimit (fillerTimeAt b))
 
 unfoldable pub witnessGiven : List ℕ → WitnessParts
 witnessGiven b =

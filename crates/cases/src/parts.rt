@@ -1,8 +1,13 @@
 // The parts of a table, a recording and a witness as a case's files give them, so that they can be parts that no reading gives.
 use frame::column::bytes_column;
 use frame::column::words_column;
+use model::GUARD_LIMIT;
+use model::KIND_LIMIT;
+use model::ROW_LIMIT;
 use model::RecordingParts;
+use model::TRANSITION_LIMIT;
 use model::TableParts;
+use model::WITNESS_LIMIT;
 use model::WitnessParts;
 use wire::byte;
 use wire::word;
@@ -10,31 +15,34 @@ ghost use mathlib.Core.Path.{_≡_};
 ghost use Prim.Native.Nat.{_≤_};
 ghost use Rattle.cases.specs.Parts.{fillerTimeAt, kindsGiven, transitionsGiven, guardsGiven, tableGiven, recordedTimesGiven, recordedKindsGiven, recordingGiven, rowsGiven, timesGiven, witnessGiven};
 
-fn kind_column(b: &[u8], field: u8) -> [u8; 32]
+// The places of a guard.
+const PLACES: u16 = GUARD_LIMIT as u16;
+
+fn kind_column(b: &[u8], field: u8) -> [u8; KIND_LIMIT]
     requires { ⌜ field ≤ 1 ⌝ }
     ensures { λ r. ⌜ r ≡ kindsGiven (now (b .entry)) field ⌝ }
 {
     let filler = byte(b, 2);
-    let mut column = [filler; 32];
+    let mut column = [filler; KIND_LIMIT];
     bytes_column(b, 8 + field, 2, byte(b, 0) as u16, &mut column);
     column
 }
 
-fn transition_column<'a>(b: &'a [u8], fields: &'a [u8], field: u8) -> [u8; 64]
+fn transition_column<'a>(b: &'a [u8], fields: &'a [u8], field: u8) -> [u8; TRANSITION_LIMIT]
     ensures { λ r. ⌜ r ≡ transitionsGiven (now (b .entry)) (now (fields .entry)) field ⌝ }
 {
     let filler = byte(b, 2);
-    let mut column = [filler; 64];
+    let mut column = [filler; TRANSITION_LIMIT];
     bytes_column(fields, field, 7, byte(b, 1) as u16, &mut column);
     column
 }
 
-fn guard_places<'a>(b: &'a [u8], guards: &'a [u8]) -> [u8; 2048]
+fn guard_places<'a>(b: &'a [u8], guards: &'a [u8]) -> [u8; GUARD_LIMIT * TRANSITION_LIMIT]
     ensures { λ r. ⌜ r ≡ guardsGiven (now (b .entry)) (now (guards .entry)) ⌝ }
 {
     let filler = byte(b, 2);
-    let mut places = [filler; 2048];
-    bytes_column(guards, 0, 1, 32 * byte(b, 1) as u16, &mut places);
+    let mut places = [filler; GUARD_LIMIT * TRANSITION_LIMIT];
+    bytes_column(guards, 0, 1, PLACES * byte(b, 1) as u16, &mut places);
     places
 }
 
@@ -76,20 +84,20 @@ fn filler_time(b: &[u8]) -> u16
     257 * byte(b, 2) as u16
 }
 
-fn recorded_times(b: &[u8]) -> [u16; 512]
+fn recorded_times(b: &[u8]) -> [u16; ROW_LIMIT]
     ensures { λ r. ⌜ r ≡ recordedTimesGiven (now (b .entry)) ⌝ }
 {
     let filler = filler_time(b);
-    let mut times = [filler; 512];
+    let mut times = [filler; ROW_LIMIT];
     words_column(b, 5, 3, word(b, 0), &mut times);
     times
 }
 
-fn recorded_kinds(b: &[u8]) -> [u8; 512]
+fn recorded_kinds(b: &[u8]) -> [u8; ROW_LIMIT]
     ensures { λ r. ⌜ r ≡ recordedKindsGiven (now (b .entry)) ⌝ }
 {
     let filler = byte(b, 2);
-    let mut kinds = [filler; 512];
+    let mut kinds = [filler; ROW_LIMIT];
     bytes_column(b, 7, 3, word(b, 0), &mut kinds);
     kinds
 }
@@ -106,20 +114,20 @@ pub fn recording_parts(b: &[u8]) -> RecordingParts
     }
 }
 
-fn row_column(b: &[u8], start: u8) -> [u8; 4608]
+fn row_column(b: &[u8], start: u8) -> [u8; WITNESS_LIMIT]
     ensures { λ r. ⌜ r ≡ rowsGiven (now (b .entry)) start ⌝ }
 {
     let filler = byte(b, 2);
-    let mut column = [filler; 4608];
+    let mut column = [filler; WITNESS_LIMIT];
     bytes_column(b, start, 5, word(b, 0), &mut column);
     column
 }
 
-fn time_column(b: &[u8]) -> [u16; 4608]
+fn time_column(b: &[u8]) -> [u16; WITNESS_LIMIT]
     ensures { λ r. ⌜ r ≡ timesGiven (now (b .entry)) ⌝ }
 {
     let filler = filler_time(b);
-    let mut column = [filler; 4608];
+    let mut column = [filler; WITNESS_LIMIT];
     words_column(b, 6, 5, word(b, 0), &mut column);
     column
 }

@@ -1,4 +1,5 @@
 -- `cases::parts::kind_column` meets its contract. Assumes nothing.
+use Rattle.model.specs.Limits.{kindLimit}
 use Rattle.model.specs.Bytes.{byteAt}
 use Prim.Native.Nat.{_+_, _*_}
 use mathlib.Core.Path.{_∙_}
@@ -28,7 +29,7 @@ bytes-column-requires c κs = search needs
 returns : tie.Need-returns
 returns c =
     let a = c .before .before .before .before .before .before .args in
-    c .before .bytes-column .ensures ∙ same-filled (λ i. byteAt (a .b .now) (8 + a .field + 2 * i)) 32 _ _ _ _ (c .before .before .before .byte2 .ensures .0) (c .before .before .before .before .byte .ensures .0)
+    c .before .bytes-column .ensures ∙ same-filled (λ i. byteAt (a .b .now) (8 + a .field + 2 * i)) kindLimit _ _ _ _ (c .before .before .before .byte2 .ensures .0) (c .before .before .before .before .byte .ensures .0)
 
 pub kind-column-spec : {M : Type 1} → statement M
 kind-column-spec =

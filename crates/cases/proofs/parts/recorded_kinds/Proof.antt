@@ -1,4 +1,5 @@
 -- `cases::parts::recorded_kinds` meets its contract. Assumes nothing.
+use Rattle.model.specs.Limits.{rowLimit}
 use Rattle.model.specs.Bytes.{byteAt}
 use Prim.Native.Nat.{_+_, _*_}
 use mathlib.Core.Path.{_∙_}
@@ -22,7 +23,7 @@ bytes-column-requires c κs = search needs
 returns : tie.Need-returns
 returns c =
     let a = c .before .before .before .before .before .before .args in
-    c .before .bytes-column .ensures ∙ same-filled (λ i. byteAt (a .b .now) (7 + 3 * i)) 512 _ _ _ _ (c .before .before .before .word .ensures .0) (c .before .before .before .before .byte .ensures .0)
+    c .before .bytes-column .ensures ∙ same-filled (λ i. byteAt (a .b .now) (7 + 3 * i)) rowLimit _ _ _ _ (c .before .before .before .word .ensures .0) (c .before .before .before .before .byte .ensures .0)
 
 pub recorded-kinds-spec : {M : Type 1} → statement M
 recorded-kinds-spec =

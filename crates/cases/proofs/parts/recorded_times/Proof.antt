@@ -1,4 +1,5 @@
 -- `cases::parts::recorded_times` meets its contract. Assumes nothing.
+use Rattle.model.specs.Limits.{rowLimit}
 use Rattle.model.specs.Bytes.{wordAt}
 use Prim.Native.Nat.{_+_, _*_}
 use mathlib.Core.Path.{_∙_}
@@ -22,7 +23,7 @@ words-column-requires c κs = search needs
 returns : tie.Need-returns
 returns c =
     let a = c .before .before .before .before .before .before .args in
-    c .before .words-column .ensures ∙ same-filled (λ i. wordAt (a .b .now) (5 + 3 * i)) 512 _ _ _ _ (c .before .before .before .word .ensures .0) (c .before .before .before .before .filler-time .ensures)
+    c .before .words-column .ensures ∙ same-filled (λ i. wordAt (a .b .now) (5 + 3 * i)) rowLimit _ _ _ _ (c .before .before .before .word .ensures .0) (c .before .before .before .before .filler-time .ensures)
 
 pub recorded-times-spec : {M : Type 1} → statement M
 recorded-times-spec =

@@ -1,4 +1,5 @@
 -- `cases::parts::row_column` meets its contract. Assumes nothing.
+use Rattle.model.specs.Limits.{witnessLimit}
 use Rattle.model.specs.Bytes.{byteAt}
 use Prim.Native.Nat.{_+_, _*_}
 use mathlib.Core.Path.{_∙_}
@@ -22,7 +23,7 @@ bytes-column-requires c κs = search needs
 returns : tie.Need-returns
 returns c =
     let a = c .before .before .before .before .before .before .args in
-    c .before .bytes-column .ensures ∙ same-filled (λ i. byteAt (a .b .now) (a .start + 5 * i)) 4608 _ _ _ _ (c .before .before .before .word .ensures .0) (c .before .before .before .before .byte .ensures .0)
+    c .before .bytes-column .ensures ∙ same-filled (λ i. byteAt (a .b .now) (a .start + 5 * i)) witnessLimit _ _ _ _ (c .before .before .before .word .ensures .0) (c .before .before .before .before .byte .ensures .0)
 
 pub row-column-spec : {M : Type 1} → statement M
 row-column-spec =

@@ -1,4 +1,5 @@
 -- `cases::parts::time_column` meets its contract. Assumes nothing.
+use Rattle.model.specs.Limits.{witnessLimit}
 use Rattle.model.specs.Bytes.{wordAt}
 use Prim.Native.Nat.{_+_, _*_}
 use mathlib.Core.Path.{_∙_}
@@ -22,7 +23,7 @@ words-column-requires c κs = search needs
 returns : tie.Need-returns
 returns c =
     let a = c .before .before .before .before .before .before .args in
-    c .before .words-column .ensures ∙ same-filled (λ i. wordAt (a .b .now) (6 + 5 * i)) 4608 _ _ _ _ (c .before .before .before .word .ensures .0) (c .before .before .before .before .filler-time .ensures)
+    c .before .words-column .ensures ∙ same-filled (λ i. wordAt (a .b .now) (6 + 5 * i)) witnessLimit _ _ _ _ (c .before .before .before .word .ensures .0) (c .before .before .before .before .filler-time .ensures)
 
 pub time-column-spec : {M : Type 1} → statement M
 time-column-spec =

@@ -1,4 +1,5 @@
 -- `cases::parts::transition_column` meets its contract. Assumes nothing.
+use Rattle.model.specs.Limits.{transitionLimit}
 use Rattle.model.specs.Bytes.{byteAt}
 use Prim.Native.Nat.{_+_, _*_}
 use mathlib.Core.Path.{_∙_}
@@ -25,7 +26,7 @@ bytes-column-requires c κs = search needs
 returns : tie.Need-returns
 returns c =
     let a = c .before .before .before .before .before .before .before .args in
-    c .before .bytes-column .ensures ∙ same-filled (λ i. byteAt (a .fields .now) (a .field + 7 * i)) 64 _ _ _ _ (c .before .before .before .byte2 .ensures .0) (c .before .before .before .before .byte .ensures .0)
+    c .before .bytes-column .ensures ∙ same-filled (λ i. byteAt (a .fields .now) (a .field + 7 * i)) transitionLimit _ _ _ _ (c .before .before .before .byte2 .ensures .0) (c .before .before .before .before .byte .ensures .0)
 
 pub transition-column-spec : {M : Type 1} → statement M
 transition-column-spec =
