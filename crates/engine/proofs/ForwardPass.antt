@@ -27,7 +27,7 @@ use Rattle.situation.specs.Rows.{passedBy}
 use Rattle.situation.proofs.Cursors.{first-cursor}
 use Rattle.engine.specs.declared.measures.Measures.{Measures}
 use Rattle.engine.specs.Forwarding.{Filled, Turn, Turned, Forwarding, Through}
-use Rattle.engine.proofs.ForwardRows.{next-row, product, possible}
+use Rattle.engine.proofs.Rows.{next-row, product, possible}
 
 -- a set of none, and a set of one
 

@@ -1,6 +1,6 @@
 -- Rows of the scratch: how many situations a row holds, and the next row, which an instant fills.
 use Prim.Native.Nat.{ℕ, zero, suc, _+_, _-_, _*_, _%_, _^_, _<_, _≤_}
-use native.Mathlib.Nat.{mul-assoc, mul-suc, mul-le-mul-left, mul-le-mul, not-suc-le-zero}
+use native.Mathlib.Nat.{mul-assoc, not-suc-le-zero}
 use native.Mathlib.Numerals.{add-one}
 use native.Mathlib.Omega.{arith}
 use native.Mathlib.Decide.{decLt}
@@ -16,9 +16,8 @@ use lib.Seq.{length-take-le}
 use Rattle.model.specs.Size
 use Rattle.model.specs.Table.{monitorAt}
 use Rattle.model.specs.Recording.{packetsAt}
-use Rattle.model.specs.Situation.{moveLimit, stepNumber, firstNumber, recordedAt}
+use Rattle.model.specs.Situation.{moveLimit, firstNumber, recordedAt}
 use Rattle.model.specs.Layers.{count}
-use Rattle.model.specs.Validation.{possibleAfter}
 use Rattle.model.proofs.LayerLaws.{Given, length-layer, layer-suc}
 use Rattle.bits.specs.Member.{mem, tally, population}
 use Rattle.bits.proofs.Laws.{tally-same, mem-part, population-fits}
@@ -29,6 +28,7 @@ use Rattle.layers.specs.Advance.{Advanced, stepAt}
 use Rattle.engine.specs.declared.measures.Measures.{Measures}
 use Rattle.engine.specs.Setting.{RowHolds, LayersUpTo}
 use Rattle.engine.specs.Forwarding.{Filled, Turn, Turned}
+use Rattle.engine.proofs.Rows.{next-row, row-before, product, stepOf, possible}
 
 -- two tests that pass together are the same
 same-test : (a b : Bool) → (a ≡ true → b ≡ true) → (b ≡ true → a ≡ true) → a ≡ b
@@ -54,18 +54,6 @@ count-tally [] n h = sym (tally-none n)
 count-tally (b ∷ s) zero h = absurd (not-suc-le-zero h)
 count-tally (b ∷ s) (suc n) h = omega (arith, tally-front (λ z. getD (b ∷ s) z false) n, count-tally s n (omega arith))
 
--- rows of w places, one behind the other
-
-pub next-row : (w t : ℕ) → w * (t + 1) ≡ w * t + w
-next-row w t = ap (λ (n : ℕ). w * n) (add-one t) ∙ mul-suc w t
-
-pub row-before : (w u t : ℕ) → u < t → w * u + w ≤ w * t
-row-before w u t h = let s : u + 1 ≤ t = omega arith in omega (arith, next-row w u, mul-le-mul-left w s)
-
--- products of numbers up to 65,536 fit
-pub product : (a b : ℕ) → a ≤ 65536 → b ≤ 65536 → Fits w64 (a * b)
-product a b h l = let p : a * b ≤ 65536 * 65536 = mul-le-mul h l in record { fits = omega arith }
-
 -- the bytes of a row, and how many are in it
 
 abbrev rowAt : List ℕ → (row t : ℕ) → List ℕ
@@ -82,14 +70,6 @@ module _ (scratch : List ℕ) (row t : ℕ) (fits : row * t + row ≤ length scr
       ∙ tally-same (mem (rowAt scratch row t)) (λ z. getD s z false) (8 * row)
       (λ z l. mem-part scratch (row * t) row z l ∙ ap (λ (n : ℕ). mem scratch (n + z)) (sym (mul-assoc 8 row t)) ∙ holds z l)
       ∙ sym (count-tally s (8 * row) h)
-
--- the situations possible after an instant, and the step at one
-
-abbrev pub possible : (table recording : List ℕ) → ℕ → List Bool
-possible table recording = possibleAfter (monitorAt table) (packetsAt recording)
-
-abbrev stepOf : (table recording : List ℕ) → (t n k : ℕ) → Option ℕ
-stepOf table recording = stepNumber (monitorAt table) (packetsAt recording)
 
 -- z is given by the situations possible after instant t
 abbrev GivenNext : (table recording : List ℕ) → (t z : ℕ) → Type 0

@@ -9,3 +9,4 @@ pub mod ForwardRows
 pub mod Grounds
 pub mod JudgeLaws
 pub mod ValidateLaws
+pub mod Rows

@@ -1,6 +1,5 @@
 -- What pruning leaves, row by row: the possible situations from which the end can be reached.
 use Prim.Native.Nat.{ℕ, suc, _+_, _-_, _*_, _≤_, _<_}
-use native.Mathlib.Nat.{mul-suc, mul-le-mul, mul-le-mul-left}
 use native.Mathlib.Numerals.{add-one}
 use native.Mathlib.Decide.{decLt}
 use native.Mathlib.Omega.{arith}
@@ -16,8 +15,7 @@ use Rattle.model.specs.Size
 use Rattle.model.specs.Table.{monitorAt}
 use Rattle.model.specs.Recording.{countAt, packetsAt}
 use Rattle.model.specs.Layers.{live, firstFrom, alive, into}
-use Rattle.model.specs.Situation.{moveLimit, recordedAt, stepNumber, firstNumber}
-use Rattle.model.specs.Validation.{possibleAfter}
+use Rattle.model.specs.Situation.{moveLimit, recordedAt, firstNumber}
 use Rattle.model.proofs.LayerLaws.{length-layer}
 use Rattle.model.proofs.WalkLaws.{firstFrom-same, Pruned, least-alive}
 use Rattle.bits.specs.Member.{mem}
@@ -28,32 +26,13 @@ use Rattle.engine.specs.declared.measures.Measures.{Measures}
 use Rattle.engine.specs.Setting.{Setting, LayersUpTo, RowHolds}
 use Rattle.engine.specs.PruneRows.{cursorBefore, stays, RowCut, PrunedAt, PrunedRow}
 use Rattle.engine.proofs.PruneCursors.{last-cursor, back-cursor}
-
--- rows do not meet
-pub rows-apart : (w u t : ℕ) → u < t → w * u + w ≤ w * t
-rows-apart w u t l = omega (arith, mul-suc w u, mul-le-mul-left w l)
-
--- rows of at most 8,192 bytes start below 2 ^ 32
-pub row-start : (row t : ℕ) → row ≤ 8192 → t < 65536 → 8 * row * t < 4294967296
-row-start row t h l =
-    let wide : 8 * row ≤ 65536 = omega arith in
-    let early : t ≤ 65535 = omega arith in
-    omega (arith, mul-le-mul wide early)
+use Rattle.engine.proofs.Rows.{row-before, sizeOf, stepOf, possible}
 
 and-true : (a : Bool) → a && true ≡ a
 and-true true = refl
 and-true false = refl
 
--- N, the step and the first number of a table and a recording
-
-abbrev pub sizeOf : List ℕ → ℕ
-sizeOf table = Size.size (monitorAt table)
-
-abbrev pub stepOf : (table recording : List ℕ) → (t n k : ℕ) → Option ℕ
-stepOf table recording = stepNumber (monitorAt table) (packetsAt recording)
-
-abbrev pub possible : (table recording : List ℕ) → ℕ → List Bool
-possible table recording = possibleAfter (monitorAt table) (packetsAt recording)
+-- the situations from which the end can be reached, and a test for the possible ones among them
 
 abbrev pub reaching : (table recording : List ℕ) → (left t : ℕ) → List Bool
 reaching table recording = alive (sizeOf table) moveLimit (stepOf table recording)
@@ -139,7 +118,7 @@ module _ (table offsets recording : List ℕ) (g : Measures) (set : Setting tabl
   pruned-next heard t s r l q done cut = record { below = before; from = behind }
     where
       before : (u : ℕ) → u < t → RowHolds r (g .row) u (possible table recording u)
-      before u l z i = cut .others (8 * g .row * u + z) (inl (omega (arith, rows-apart (8 * g .row) u t l))) ∙ done .below u (omega arith) z i
+      before u l z i = cut .others (8 * g .row * u + z) (inl (omega (arith, row-before (8 * g .row) u t l))) ∙ done .below u (omega arith) z i
 
       here : (z : ℕ) → z < g .size → mem r (8 * g .row * t + z) ≡ (getD (possible table recording t) z false && getD (reaching table recording (g .last - t) t) z false)
       here z i =
@@ -153,7 +132,7 @@ module _ (table offsets recording : List ℕ) (g : Measures) (set : Setting tabl
       behind u n o z i = on (decLt t u)
         where
           on : Dec (t < u) → mem r (8 * g .row * u + z) ≡ (getD (possible table recording u) z false && getD (reaching table recording (g .last - u) u) z false)
-          on (yes d) = cut .others (8 * g .row * u + z) (inr (omega (arith, rows-apart (8 * g .row) t u d))) ∙ done .from u (omega arith) o z i
+          on (yes d) = cut .others (8 * g .row * u + z) (inr (omega (arith, row-before (8 * g .row) t u d))) ∙ done .from u (omega arith) o z i
           on (no d) =
               let e : t ≡ u = omega arith in
               subst (λ (x : ℕ). mem r (8 * g .row * x + z) ≡ (getD (possible table recording x) z false && getD (reaching table recording (g .last - x) x) z false)) e (here z i)

@@ -16,7 +16,7 @@ use Rattle.model.specs.Validation.{keptRow, removedRow, addedRow, rowsBy, HasRo
 use Rattle.model.specs.Witness.{Row, kept, removed, added, noTransition, marked}
 use Rattle.model.specs.declared.Situation.{Situation}
 use Rattle.engine.specs.WalkRows.{Triggers, RowsPut, Room, heardRow}
-use Rattle.engine.proofs.WalkRoom.{wrote-same, wrote-more, room-behind}
+use Rattle.engine.proofs.WalkRoom.{rows-put-same, rows-put-more, room-behind}
 
 -- moves by their numbers
 
@@ -79,8 +79,8 @@ module _
     pub room-added : Room (addedRow t (triggerOf m (k - firstAdd)) (k - firstAdd)) n y
     room-added = room-behind (addedRow t (triggerOf m (k - firstAdd)) (k - firstAdd)) first all
 
-    pub wrote-added : {next : ℕ} {z : List ℕ} → RowsPut (addedRow t (triggerOf m (k - firstAdd)) (k - firstAdd)) n next y z → RowsPut (rowsBy m o t (moveOf k)) r next x z
-    wrote-added then = wrote-same (sym (rows-add m o t k late)) (wrote-more all first then)
+    pub rows-put-added : {next : ℕ} {z : List ℕ} → RowsPut (addedRow t (triggerOf m (k - firstAdd)) (k - firstAdd)) n next y z → RowsPut (rowsBy m o t (moveOf k)) r next x z
+    rows-put-added then = rows-put-same (sym (rows-add m o t k late)) (rows-put-more all first then)
 
 -- the kind of an added row
 

@@ -1,8 +1,8 @@
 -- Rows written into a room one behind the other, and the frame before them.
 use Prim.Native.Nat.{ℕ, _+_, _*_, _≤_}
 use native.Mathlib.Omega.{arith}
-use mathlib.Core.Path.{_≡_, refl, sym, ap, ap₂, subst, _∙_}
-use mathlib.Core.List.{List, [], _∷_, _++_, append-assoc, append-nil}
+use mathlib.Core.Path.{_≡_, sym, ap, ap₂, subst, _∙_}
+use mathlib.Core.List.{List, [], _++_, append-assoc, append-nil}
 use lib.ListN.{length, take, drop, length-append, length-take, length-drop, take-append-drop}
 use lib.Seq.{take-at, drop-at, drop-drop, length-take-le}
 use Rattle.model.specs.Frame.{rowsFrame}
@@ -59,12 +59,12 @@ placed-before a b room h =
 
 -- rows
 
-pub wrote-none : (r : ℕ) (room : List ℕ) → 5 + 5 * r ≤ length room → RowsPut [] r r room room
+pub rows-put-none : (r : ℕ) (room : List ℕ) → 5 + 5 * r ≤ length room → RowsPut [] r r room room
 unfolding rowsBytes
-wrote-none r room h = record { bytes = sym (placed-none (5 + 5 * r) room h); count = omega arith }
+rows-put-none r room h = record { bytes = sym (placed-none (5 + 5 * r) room h); count = omega arith }
 
-pub wrote-more : {a b : List Row} {r n k : ℕ} {x y z : List ℕ} → Room (a ++ b) r x → RowsPut a r n x y → RowsPut b n k y z → RowsPut (a ++ b) r k x z
-wrote-more {a} {b} {r} {n} {k} {x} {y} {z} h first then =
+pub rows-put-more : {a b : List Row} {r n k : ℕ} {x y z : List ℕ} → Room (a ++ b) r x → RowsPut a r n x y → RowsPut b n k y z → RowsPut (a ++ b) r k x z
+rows-put-more {a} {b} {r} {n} {k} {x} {y} {z} h first then =
     let place : 5 + 5 * n ≡ 5 + 5 * r + length (rowsBytes a) = omega (arith, rowsBytes-length a, first .count) in
     record {
       bytes =
@@ -75,22 +75,22 @@ wrote-more {a} {b} {r} {n} {k} {x} {y} {z} h first then =
       count = omega (arith, first .count, then .count, length-append a b);
     }
 
-pub wrote-same : {a b : List Row} {r n : ℕ} {x y : List ℕ} → a ≡ b → RowsPut a r n x y → RowsPut b r n x y
-wrote-same {a} {b} {r} {n} {x} {y} e w = subst (λ (l : List Row). RowsPut l r n x y) e w
+pub rows-put-same : {a b : List Row} {r n : ℕ} {x y : List ℕ} → a ≡ b → RowsPut a r n x y → RowsPut b r n x y
+rows-put-same {a} {b} {r} {n} {x} {y} e w = subst (λ (l : List Row). RowsPut l r n x y) e w
 
-pub wrote-length : {a : List Row} {r n : ℕ} {x y : List ℕ} → RowsPut a r n x y → Room a r x → length y ≡ length x
-wrote-length {a} {r} {n} {x} {y} w h =
+pub rows-put-length : {a : List Row} {r n : ℕ} {x y : List ℕ} → RowsPut a r n x y → Room a r x → length y ≡ length x
+rows-put-length {a} {r} {n} {x} {y} w h =
     ap length (w .bytes) ∙ placed-length (rowsBytes a) (5 + 5 * r) x (omega (arith, rowsBytes-length a))
 
 -- behind the rows that are written there is room for the others
 pub room-behind : {a : List Row} (b : List Row) {r n : ℕ} {x y : List ℕ} → RowsPut a r n x y → Room (a ++ b) r x → Room b n y
 room-behind {a} b {r} {n} {x} {y} w h =
-    omega (arith, length-append a b, w .count, wrote-length w (omega (arith, length-append a b)))
+    omega (arith, length-append a b, w .count, rows-put-length w (omega (arith, length-append a b)))
 
 -- all rows and the frame
-pub wrote-framed : {a : List Row} {n : ℕ} {x y : List ℕ} → RowsPut a 0 n x y → Room a 0 x → placed (rowsFrame 5 n) 0 y ≡ over (witnessBytes a) x
+pub rows-put-framed : {a : List Row} {n : ℕ} {x y : List ℕ} → RowsPut a 0 n x y → Room a 0 x → placed (rowsFrame 5 n) 0 y ≡ over (witnessBytes a) x
 unfolding witnessBytes
-wrote-framed {a} {n} {x} {y} w h =
+rows-put-framed {a} {n} {x} {y} w h =
     let all : n ≡ length a = omega (arith, w .count) in
     ap₂ (λ (k : ℕ) (l : List ℕ). placed (rowsFrame 5 k) 0 l) all (w .bytes)
     ∙ placed-before (rowsFrame 5 (length a)) (rowsBytes a) x (omega (arith, rowsBytes-length a))

@@ -34,8 +34,9 @@ use Rattle.engine.specs.declared.measures.Measures.{Measures}
 use Rattle.engine.specs.Setting.{Setting}
 use Rattle.engine.specs.PruneRows.{PrunedRows}
 use Rattle.engine.specs.WalkRows.{RowsPut, Room, Stands, rowsAfter, WalkedOn}
-use Rattle.engine.proofs.PruneLayers.{sizeOf, stepOf, possible, reaching, PrunedBy, in-row-pruned, least-step}
-use Rattle.engine.proofs.WalkRoom.{wrote-none, wrote-same, wrote-more, wrote-length, room-behind}
+use Rattle.engine.proofs.PruneLayers.{reaching, PrunedBy, in-row-pruned, least-step}
+use Rattle.engine.proofs.Rows.{sizeOf, stepOf, possible}
+use Rattle.engine.proofs.WalkRoom.{rows-put-none, rows-put-same, rows-put-more, rows-put-length, room-behind}
 use Rattle.engine.proofs.WalkMoves.{fits-number}
 
 -- arriving from the situation of a number is the step
@@ -197,7 +198,7 @@ module _ {table recording : List ℕ} {last t n r : ℕ} {before after : List �
         omega (arith, walked .wrote .count, ap length (walked .whole), length-append (walked .rows) (rowsAfter table recording last t n))
 
     pub walked-length : length after ≡ length before
-    walked-length = wrote-length (walked .wrote) (omega (arith, ap length (walked .whole), length-append (walked .rows) (rowsAfter table recording last t n)))
+    walked-length = rows-put-length (walked .wrote) (omega (arith, ap length (walked .whole), length-append (walked .rows) (rowsAfter table recording last t n)))
 
     pub walked-on : {x j next : ℕ} {then : List ℕ} → WalkedOn table recording last t n r x j next after then → Walked table recording last (t + 1) x next before then
     walked-on {x} on =
@@ -207,7 +208,7 @@ module _ {table recording : List ℕ} {last t n r : ℕ} {before after : List �
         ∙ walked .whole in
         record {
           rows = walked .rows ++ on .rows;
-          wrote = wrote-more (omega (arith, ap length all, length-append (walked .rows ++ on .rows) (rowsAfter table recording last (t + 1) x))) (walked .wrote) (on .wrote);
+          wrote = rows-put-more (omega (arith, ap length all, length-append (walked .rows ++ on .rows) (rowsAfter table recording last (t + 1) x))) (walked .wrote) (on .wrote);
           whole = all;
         }
 
@@ -257,12 +258,12 @@ module _ (table offsets recording : List ℕ) (g : Measures) (set : Setting tabl
   rows-few = omega (arith, rows-fit)
 
   pub walked-first : (room : List ℕ) → 5 ≤ length room → Walked table recording (g .last) 0 (firstNumber (monitorAt table)) 0 room room
-  walked-first room l = record { rows = []; wrote = wrote-none 0 room (omega arith); whole = rows-all }
+  walked-first room l = record { rows = []; wrote = rows-put-none 0 room (omega arith); whole = rows-all }
 
   pub walked-all : {t n r : ℕ} {before after : List ℕ} → Walked table recording (g .last) t n r before after → t ≡ g .last
       → RowsPut (preferred (monitorAt table) (packetsAt recording)) 0 r before after
   walked-all {t} {n} walked e =
-      wrote-same
+      rows-put-same
       (sym (append-nil (walked .rows))
       ∙ ap (λ (l : List Row). walked .rows ++ l) (sym (ap (λ (u : ℕ). rowsAfter table recording (g .last) u n) e ∙ rows-end n))
       ∙ walked .whole)

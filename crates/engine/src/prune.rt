@@ -1,11 +1,14 @@
 // The way back through the rows: a situation from which the end cannot be reached is cut from its row.
 use crate::measures::Measures;
+use bits::cut;
+use bits::test;
 use layers::Span;
 use layers::least_into;
 use model::MOVE_LIMIT;
 use situation::Heard;
 use situation::Shape;
 use situation::rows::heard_at;
+use wire::word;
 ghost use Prim.Native.Nat.{_+_, _*_, _≤_, _<_};
 ghost use mathlib.Core.Path.{_≡_};
 ghost use lib.ListN.{length};
@@ -41,13 +44,13 @@ fn cut_stuck<'a>(
     requires { ⌜ from + n < 4294967296 ⌝ }
     ensures { λ r. ⌜ CutIn (stepAt (now (table .entry)) (now (offsets .entry)) h (heardOf heard)) from (to .start) (to .size) n (now (scratch .entry)) (now (scratch .exit)) ⌝ }
 {
-    if !bits::test(scratch, from + n) {
+    if !test(scratch, from + n) {
         return;
     }
     if least_into(table, offsets, h, heard, scratch, to, n as u64) < MOVE_LIMIT {
         return;
     }
-    bits::cut(scratch, from + n);
+    cut(scratch, from + n);
 }
 
 // The same for each situation of the row.
@@ -106,7 +109,7 @@ pub(crate) fn prune<'a>(
     requires { ⌜ Setting (now table) (now offsets) (now recording) g × LayersUpTo (now table) (now recording) (now scratch) (g .row) (g .last) ⌝ }
     ensures { λ r. ⌜ (length (now (scratch .exit)) ≡ length (now (scratch .entry))) × PrunedRows (now (table .entry)) (now (recording .entry)) (now (scratch .exit)) (g .row) (g .size) (g .last) ⌝ }
 {
-    let mut cursor = wire::word(recording, 3) as usize;
+    let mut cursor = word(recording, 3) as usize;
     let mut t = g.last;
     while 0 < t {
         t -= 1;

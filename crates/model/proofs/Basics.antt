@@ -1,14 +1,16 @@
--- Small laws that several theorems cite: tests joined by "and", lists made from a function of the index, and the first refusal of a list of tests.
+-- Small laws that several theorems cite: tests joined by "and", comparisons, lists made from a function of the index, and the first refusal of a list of tests.
 use Prim.Native.Nat.{ℕ, zero, suc, _+_, _<_, _≤_}
 use native.Mathlib.Nat.{not-suc-le-zero}
 use native.Mathlib.Omega.{arith}
-use mathlib.Core.Path.{_≡_, refl, ap, _∙_}
+use mathlib.Core.Path.{_≡_, refl, sym, ap, _∙_}
 use mathlib.Core.List.{List, [], _∷_, _++_}
 use mathlib.Core.Bool.{Bool, true, false, _&&_, false≢true}
 use mathlib.Core.Option.{Option, none, some}
 use lib.ListN.{length, getD, getElem?, length-append, List·getD-append}
 use lib.Seq.{getD-at}
-use native.Mathlib.Decide.{decLt}
+use lib.Dec.{leb}
+use borrow.Author.Tests.{le-leb, lt-leb}
+use native.Mathlib.Decide.{decLt, decLe}
 use Rattle.model.specs.Bytes.{tab}
 use Rattle.model.specs.First.{unless, andThen}
 use Rattle.model.specs.declared.Refusal.{Refusal}
@@ -26,6 +28,16 @@ and-right false b e = absurd (false≢true e)
 pub both-true : (a b : Bool) → a ≡ true → b ≡ true → a && b ≡ true
 both-true true b p q = q
 both-true false b p q = p
+
+-- comparisons that pass together
+pub leb-same : (a b c d : ℕ) → (a ≤ b → c ≤ d) → (c ≤ d → a ≤ b) → leb a b ≡ leb c d
+leb-same a b c d f g = on (decLe a b) (decLe c d)
+  where
+    on : Dec (a ≤ b) → Dec (c ≤ d) → leb a b ≡ leb c d
+    on (yes p) (yes q) = le-leb a b p ∙ sym (le-leb c d q)
+    on (yes p) (no q) = absurd (q (f p))
+    on (no p) (yes q) = absurd (p (g q))
+    on (no p) (no q) = lt-leb a b (omega arith) ∙ sym (lt-leb c d (omega arith))
 
 pub unless-sound : (t : Bool) (r : Refusal) → unless t r ≡ Sound → t ≡ true
 unless-sound true r e = refl

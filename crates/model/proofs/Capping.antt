@@ -1,6 +1,5 @@
 -- Writing each clock above M as M + 1 changes no guard and no step: the moves that lead somewhere on numbers are those that do with real clocks.
 use Prim.Native.Nat.{ℕ, zero, suc, _+_, _-_, _/_, _%_, _<_, _≤_, min}
-use native.Mathlib.Decide.{decLe}
 use native.Mathlib.Nat.{not-suc-le-zero}
 use native.Mathlib.Omega.{arith}
 use mathlib.Core.Path.{_≡_, refl, sym, ap, ap₂, subst, _∙_}
@@ -9,8 +8,8 @@ use mathlib.Core.Bool.{Bool, true, false, cond, not, _&&_}
 use mathlib.Core.Logic.{_↔_}
 use mathlib.Core.Option.{Option, none, some, Option·map, bind, map-eq-some-iff}
 use lib.ListN.{getD, getElem?}
-use lib.Dec.{eqb, leb}
-use borrow.Author.Tests.{le-leb, lt-leb, lt-ltb, eq-eqb}
+use lib.Dec.{eqb}
+use borrow.Author.Tests.{lt-ltb, eq-eqb}
 use Rattle.model.specs.Guard.{Guard, always, atMost, atLeast, variable, negation, conjunction, holds, largest}
 use Rattle.model.specs.Monitor.{Monitor, Transition, fires, after, enabled, reset, toUnit}
 use Rattle.model.specs.Size.{largestIn, largestBound, cap, size}
@@ -18,6 +17,7 @@ use Rattle.model.specs.Situation.{TwoClocks, InRange, Move, keep, rest, 
 use Rattle.model.specs.Trace.{Packet}
 use Rattle.model.specs.declared.Situation.{Situation}
 use Rattle.model.specs.Sane.{Sane, Closed}
+use Rattle.model.proofs.Basics.{leb-same}
 use Rattle.model.proofs.Chains.{Leads, Moves}
 use Rattle.model.proofs.Numbering.{outcome, sending, number-below, back, every-step, step-in-range, first-in-range}
 
@@ -26,15 +26,6 @@ abbrev pub written : Monitor → Situation → Situation
 written m s = record { state = s .state; variables = s .variables; clocks = capped m (s .clocks); air = s .air }
 
 -- guards
-
-leb-same : (a b c d : ℕ) → (a ≤ b → c ≤ d) → (c ≤ d → a ≤ b) → leb a b ≡ leb c d
-leb-same a b c d f g = on (decLe a b) (decLe c d)
-  where
-    on : Dec (a ≤ b) → Dec (c ≤ d) → leb a b ≡ leb c d
-    on (yes p) (yes q) = le-leb a b p ∙ sym (le-leb c d q)
-    on (yes p) (no q) = absurd (q (f p))
-    on (no p) (yes q) = absurd (p (g q))
-    on (no p) (no q) = lt-leb a b (omega arith) ∙ sym (lt-leb c d (omega arith))
 
 module _ (m : Monitor) (two : m .clocks ≤ 2) where
   -- a clock that the table has is written as at most M + 1

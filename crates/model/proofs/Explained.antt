@@ -14,13 +14,10 @@ use Rattle.model.specs.Trace.{Packet, Spaced, PacketTrace, Carries, Poss
 use Rattle.model.specs.Witness.{Row, kept, removed, added, noTransition, isRemoved, inForm, follows, inPlace, misformed, Formed, marked}
 use Rattle.model.specs.Rules.{Progress, begin, noneBefore, isNext, noneAt, others, sends, removes, keeps, adds, account, broken}
 use Rattle.model.specs.Claims.{packetOf, heard, sentRows, packets, CarriedBy, Explains}
+use Rattle.model.proofs.SetLaws.{or-cases}
 use Rattle.model.proofs.Basics.{and-left, and-right, both-true}
 
 -- tests and options
-
-or-cases : (a b : Bool) → a || b ≡ true → (a ≡ true) ⊎ (b ≡ true)
-or-cases true b e = inl refl
-or-cases false b e = inr e
 
 and-first : (a b c d : Bool) → a && b && c && d ≡ true → (a ≡ true) × (b ≡ true)
 and-first a b c d e = let h : a && b ≡ true = and-left (a && b) c (and-left (a && b && c) d e) in (and-left a b h, and-right a b h)

@@ -6,7 +6,7 @@ use borrow.Author.Needs.{needs}
 use Rattle.model.specs.Recording.{recordingAnswer}
 use Rattle.model.specs.Validation.{scratchWanted, roomWanted}
 use Rattle.model.specs.declared.Reading.the-variants.{Sound}
-use Rattle.engine.proofs.ForwardRows.{product}
+use Rattle.engine.proofs.Rows.{product}
 use Rattle.engine.proofs.ValidateLaws.{table-unread, recording-unread, both-read, unread, scratch-short, scratch-is, room-short, room-is, le-by, judging, judged-part}
 use Rattle.engine.proofs.validate.Statement.{statement}
 use Rattle.engine.proofs.validate.Tie as tie

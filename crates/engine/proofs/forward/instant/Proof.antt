@@ -1,7 +1,8 @@
 -- `forward::instant` meets its contract: the products fit, and the rest is one law.
 use native.Mathlib.Omega.{arith}
 use borrow.Author.Needs.{needs}
-use Rattle.engine.proofs.ForwardRows.{product, next-fits, begin-fits, end-fits, turned}
+use Rattle.engine.proofs.ForwardRows.{next-fits, begin-fits, end-fits, turned}
+use Rattle.engine.proofs.Rows.{product}
 use Rattle.engine.proofs.forward.instant.Statement.{statement}
 use Rattle.engine.proofs.forward.instant.Tie as tie
 

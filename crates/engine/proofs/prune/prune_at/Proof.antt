@@ -5,7 +5,7 @@ use mathlib.Core.Path.{subst}
 use mathlib.Core.Option.{Option}
 use Rattle.layers.specs.Advance.{stepAt}
 use Rattle.engine.specs.PruneRows.{RowCut}
-use Rattle.engine.proofs.PruneLayers.{rows-apart, row-start}
+use Rattle.engine.proofs.Rows.{row-before, row-start}
 use borrow.Author.Needs.{needs}
 use Rattle.engine.proofs.prune.prune_at.Statement.{statement}
 use Rattle.engine.proofs.prune.prune_at.Tie as tie
@@ -43,7 +43,7 @@ mul-cut-row-4 c =
 cut-row-requires : tie.Need-cut-row-requires
 cut-row-requires c κs =
     let start = c .before .before .before .before .before .before .before .before .before .before in
-    (omega (arith, rows-apart (8 * start .args .g .row) (start .args .t) (start .args .t + 1) (omega arith)), row-start _ _ (omega arith) (omega arith))
+    (omega (arith, row-before (8 * start .args .g .row) (start .args .t) (start .args .t + 1) (omega arith)), row-start _ _ (omega arith) (omega arith))
 
 same-length : tie.Need-same-length
 same-length c = search needs

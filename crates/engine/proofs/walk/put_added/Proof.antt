@@ -7,7 +7,7 @@ use lib.ListN.{length}
 use Rattle.model.specs.Bytes.{byteAt}
 use Rattle.model.specs.Witness.{added}
 use Rattle.model.specs.Witness.{marked}
-use Rattle.engine.proofs.WalkRoom.{wrote-same}
+use Rattle.engine.proofs.WalkRoom.{rows-put-same}
 use Rattle.engine.proofs.WalkMoves.{trigger-byte, added-one}
 use borrow.Author.Needs.{needs}
 use Rattle.engine.proofs.walk.put_added.Statement.{statement}
@@ -47,7 +47,7 @@ returns c =
     read .byte .ensures .0
     ∙ ap (λ (x : ℕ). byteAt (a .table .now) (x + 2)) (read .before .short .ensures .0)
     ∙ trigger-byte (a .table .now) (a .offsets .now) (start .pre .0) (a .j) kind known in
-    wrote-same (ap (λ (k : ℕ). marked added (a .t) k (a .j) ∷ []) told ∙ sym (added-one (a .t) (a .j) kind _ known)) (called .put-row .ensures)
+    rows-put-same (ap (λ (k : ℕ). marked added (a .t) k (a .j) ∷ []) told ∙ sym (added-one (a .t) (a .j) kind _ known)) (called .put-row .ensures)
 
 pub put-added-spec : {M : Type 1} → statement M
 put-added-spec =

@@ -3,7 +3,7 @@ use native.Mathlib.Omega.{arith}
 use mathlib.Core.Path.{sym, ap}
 use lib.ListN.{length}
 use Rattle.situation.specs.Rows.{heardOf}
-use Rattle.engine.proofs.WalkRoom.{wrote-none, wrote-same}
+use Rattle.engine.proofs.WalkRoom.{rows-put-none, rows-put-same}
 use Rattle.engine.proofs.WalkMoves.{heard-one, heard-none}
 use borrow.Author.Needs.{needs}
 use Rattle.engine.proofs.walk.put_heard.Statement.{statement}
@@ -27,12 +27,12 @@ returns : tie.Need-returns
 returns c =
     let called = c .before .before in
     let known = called .before .before .before in
-    wrote-same (sym (heard-one _ _ _ _ _ (ap heardOf (known .heard .given .1)))) (called .put-row .ensures)
+    rows-put-same (sym (heard-one _ _ _ _ _ (ap heardOf (known .heard .given .1)))) (called .put-row .ensures)
 
 returns-2 : tie.Need-returns-2
 returns-2 c =
     let start = c .before .before .before in
-    wrote-same (sym (heard-none _ _ _ _ (ap heardOf (c .enum-told .given .1)))) (wrote-none (start .args .r) (start .args .room .now) (omega (arith, start .pre)))
+    rows-put-same (sym (heard-none _ _ _ _ (ap heardOf (c .enum-told .given .1)))) (rows-put-none (start .args .r) (start .args .room .now) (omega (arith, start .pre)))
 
 pub put-heard-spec : {M : Type 1} → statement M
 put-heard-spec =

@@ -6,8 +6,8 @@ use lib.ListN.{length}
 use Rattle.model.specs.Situation.{restMove}
 use Rattle.model.specs.Table.{monitorAt}
 use Rattle.situation.specs.Rows.{heardOf}
-use Rattle.engine.proofs.WalkRoom.{wrote-same}
-use Rattle.engine.proofs.WalkMoves.{rows-keep, rows-rest, removed-few, fits-add, room-added, wrote-added}
+use Rattle.engine.proofs.WalkRoom.{rows-put-same}
+use Rattle.engine.proofs.WalkMoves.{rows-keep, rows-rest, removed-few, fits-add, room-added, rows-put-added}
 use borrow.Author.Needs.{needs}
 use Rattle.engine.proofs.walk.put_move.Statement.{statement}
 use Rattle.engine.proofs.walk.put_move.Tie as tie
@@ -27,7 +27,7 @@ same-length c = search needs
 returns : tie.Need-returns
 returns c =
     let called = c .before .before in
-    wrote-same (sym (rows-keep _ _ _ _ (omega arith))) (called .put-heard .ensures)
+    rows-put-same (sym (rows-keep _ _ _ _ (omega arith))) (called .put-heard .ensures)
 
 put-heard-requires-2 : tie.Need-put-heard-requires-2
 put-heard-requires-2 c κs =
@@ -39,7 +39,7 @@ same-length-2 : tie.Need-same-length-2
 same-length-2 c = search needs
 
 returns-2 : tie.Need-returns-2
-returns-2 c = wrote-same (sym (rows-rest _ _ _ _ (c .if2 .taken))) (c .before .before .before .put-heard2 .ensures)
+returns-2 c = rows-put-same (sym (rows-rest _ _ _ _ (c .if2 .taken))) (c .before .before .before .put-heard2 .ensures)
 
 sub-put-added : tie.Need-sub-put-added
 sub-put-added c = search needs
@@ -59,7 +59,7 @@ returns-3 : tie.Need-returns-3
 returns-3 c =
     let called = c .before .before in
     let start = called .before .before .before .before .before .before .before .before .before .before .before in
-    wrote-added _ _ _ _ (more (called .before)) (start .pre .3) (called .before .before .before .before .before .put-heard2 .ensures) (called .put-added .ensures)
+    rows-put-added _ _ _ _ (more (called .before)) (start .pre .3) (called .before .before .before .before .before .put-heard2 .ensures) (called .put-added .ensures)
 
 pub put-move-spec : {M : Type 1} → statement M
 put-move-spec =

@@ -6,7 +6,7 @@ use Rattle.model.specs.Table.{monitorAt}
 use Rattle.model.specs.Recording.{packetsAt}
 use Rattle.model.specs.Validation.{preferred}
 use Rattle.engine.specs.WalkRows.{Room, Stands}
-use Rattle.engine.proofs.WalkRoom.{wrote-framed}
+use Rattle.engine.proofs.WalkRoom.{rows-put-framed}
 use Rattle.engine.proofs.WalkSteps.{Walked, room-left, walked-few, walked-length, walked-on, stands-first, walked-first, walked-all, rows-fit, rows-few}
 use borrow.Author.Needs.{needs}
 use Rattle.engine.proofs.walk.walk.Statement.{statement}
@@ -87,7 +87,7 @@ returns c =
     let a = start .args in
     let done : at-loop .loop .t ≡ a .g .last = omega (arith, at-loop .loop .inv .0, c .before .before .before .before .if1 .left) in
     let all = walked-all (a .table .now) (a .offsets .now) (a .recording .now) (a .g) (start .pre .0 .setting) (at-loop .loop .inv .2) done in
-    (omega (arith, all .count), c .before .before .put-header .ensures ∙ wrote-framed all (room start))
+    (omega (arith, all .count), c .before .before .put-header .ensures ∙ rows-put-framed all (room start))
 
 pub walk-spec : {M : Type 1} → statement M
 walk-spec =

@@ -10,7 +10,7 @@ use Rattle.situation.specs.Rows.{heardOf, Cursor}
 use Rattle.situation.proofs.Cursors.{heard-recorded, passed-cursor}
 use Rattle.layers.specs.Advance.{stepAt, leastInto}
 use Rattle.engine.specs.WalkRows.{rowsAfter}
-use Rattle.engine.proofs.PruneLayers.{row-start}
+use Rattle.engine.proofs.Rows.{row-start}
 use Rattle.engine.proofs.WalkSteps.{Leading, leading, onward}
 use borrow.Author.Needs.{needs}
 use Rattle.engine.proofs.walk.walk_on.Statement.{statement}

@@ -2,7 +2,7 @@
 use Prim.Native.Nat.{_+_, _*_, _/_, _%_}
 use native.Mathlib.Omega.{arith}
 use borrow.Author.Needs.{needs}
-use Rattle.layers.proofs.Apart.{same-test}
+use Rattle.model.proofs.Basics.{leb-same}
 use Rattle.layers.proofs.row.ends_within.Statement.{statement}
 use Rattle.layers.proofs.row.ends_within.Tie as tie
 
@@ -23,7 +23,7 @@ returns c =
     let a = c .before .before .before .before .args in
     let start = a .row .start in
     let size = a .row .size in
-    same-test (start / 8 + size / 8 + (start % 8 + size % 8 + 7) / 8) (a .bytes) (start + size) (8 * a .bytes) (λ h. omega arith) (λ h. omega arith)
+    leb-same (start / 8 + size / 8 + (start % 8 + size % 8 + 7) / 8) (a .bytes) (start + size) (8 * a .bytes) (λ h. omega arith) (λ h. omega arith)
 
 pub ends-within-spec : {M : Type 1} → statement M
 ends-within-spec = tie.close (tie.spec add-result add-result-2 add-result-3 add-result-4 returns)
