@@ -22,7 +22,7 @@ use witness::write_witness;
 ghost use Prim.Native.Nat.{_<_};
 
 // The numbers of an answer, and the sum over the parts that were read back, 1 where none are.
-pub struct Outcome {
+pub(crate) struct Outcome {
     pub numbers: Answer,
     pub sum: u64,
 }
@@ -118,7 +118,7 @@ fn back<'a>(
     witness_outcome(witness_back(witness_parts(first), room))
 }
 
-pub fn call<'a>(
+pub(crate) fn call<'a>(
     which: u8,
     budget: u32,
     first: &'a [u8],

@@ -46,7 +46,7 @@ fn guard_places<'a>(b: &'a [u8], guards: &'a [u8]) -> [u8; GUARD_LIMIT * TRANSIT
     places
 }
 
-pub fn table_parts<'a>(b: &'a [u8], fields: &'a [u8], guards: &'a [u8]) -> TableParts
+pub(crate) fn table_parts<'a>(b: &'a [u8], fields: &'a [u8], guards: &'a [u8]) -> TableParts
     ensures { λ r. ⌜ r ≡ tableGiven (now (b .entry)) (now (fields .entry)) (now (guards .entry)) ⌝ }
 {
     let directions = kind_column(b, 0);
@@ -102,7 +102,7 @@ fn recorded_kinds(b: &[u8]) -> [u8; ROW_LIMIT]
     kinds
 }
 
-pub fn recording_parts(b: &[u8]) -> RecordingParts
+pub(crate) fn recording_parts(b: &[u8]) -> RecordingParts
     ensures { λ r. ⌜ r ≡ recordingGiven (now (b .entry)) ⌝ }
 {
     let times = recorded_times(b);
@@ -132,7 +132,7 @@ fn time_column(b: &[u8]) -> [u16; WITNESS_LIMIT]
     column
 }
 
-pub fn witness_parts(b: &[u8]) -> WitnessParts
+pub(crate) fn witness_parts(b: &[u8]) -> WitnessParts
     ensures { λ r. ⌜ r ≡ witnessGiven (now (b .entry)) ⌝ }
 {
     let marks = row_column(b, 5);

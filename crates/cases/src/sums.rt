@@ -8,7 +8,7 @@ ghost use Rattle.model.specs.Bytes.{wordBytes};
 ghost use Rattle.cases.specs.Batch.{sumFrom};
 ghost use Rattle.cases.specs.Parts.{wordsBytes, kindNumbers, transitionNumbers, tableNumbers, recordingNumbers, witnessNumbers};
 
-pub fn sum(from: u64, bytes: &[u8]) -> u64
+pub(crate) fn sum(from: u64, bytes: &[u8]) -> u64
     requires { ⌜ from < 1000003 ⌝ }
     ensures { λ r. ⌜ (r ≡ sumFrom from (now (bytes .entry))) × (r < 1000003) ⌝ }
 {
@@ -65,13 +65,13 @@ fn sum_transitions(from: u64, t: TableParts) -> u64
     sum(total, &t.guards)
 }
 
-pub fn sum_table(t: TableParts) -> u64
+pub(crate) fn sum_table(t: TableParts) -> u64
     ensures { λ r. ⌜ (r ≡ sumFrom 1 (tableNumbers t)) × (r < 1000003) ⌝ }
 {
     sum_transitions(sum_kinds(t), t)
 }
 
-pub fn sum_recording(r: RecordingParts) -> u64
+pub(crate) fn sum_recording(r: RecordingParts) -> u64
     ensures { λ x. ⌜ (x ≡ sumFrom 1 (recordingNumbers r)) × (x < 1000003) ⌝ }
 {
     let total = sum_word(1, r.count);
@@ -79,7 +79,7 @@ pub fn sum_recording(r: RecordingParts) -> u64
     sum(total, &r.kinds)
 }
 
-pub fn sum_witness(w: WitnessParts) -> u64
+pub(crate) fn sum_witness(w: WitnessParts) -> u64
     ensures { λ r. ⌜ (r ≡ sumFrom 1 (witnessNumbers w)) × (r < 1000003) ⌝ }
 {
     let total = sum_word(1, w.count);
