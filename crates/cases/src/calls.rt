@@ -1,10 +1,10 @@
 // The library's functions by the numbers of a batch's calls.
-use crate::parts::recording_parts;
-use crate::parts::table_parts;
-use crate::parts::witness_parts;
-use crate::sums::sum_recording;
-use crate::sums::sum_table;
-use crate::sums::sum_witness;
+use batch::parts::recording_parts;
+use batch::parts::table_parts;
+use batch::parts::witness_parts;
+use batch::sums::sum_recording;
+use batch::sums::sum_table;
+use batch::sums::sum_witness;
 use codec::recording::write_recording;
 use codec::table::write_table;
 use model::RecordingReading;

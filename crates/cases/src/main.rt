@@ -4,65 +4,17 @@
 // three files. An answer is its three numbers and a sum over every number of the parts that were read back, and every byte of scratch and room,
 // so that none changes unseen. A case of the desk prints the desk's lines.
 mod calls;
-mod parts;
-mod sums;
 
 use crate::calls::call;
-use crate::sums::sum;
+use batch::Head;
+use batch::head_of;
+use batch::pattern;
+use batch::sums::sum;
 use libc::STDIN_FILENO;
 use libc::STDOUT_FILENO;
 use numbers::Answer;
-ghost use mathlib.Core.Path.{_≡_};
-ghost use Prim.Native.Nat.{_+_, _<_, _≤_};
+ghost use Prim.Native.Nat.{_+_, _≤_};
 ghost use lib.ListN.{length};
-ghost use Rattle.model.specs.Bytes.{tab};
-ghost use Rattle.cases.specs.Batch.{longAt, HeadAt, patternAt};
-
-struct Head {
-    call: u8,
-    budget: u32,
-    scratch: u32,
-    room: u32,
-    first: u32,
-    second: u32,
-    third: u32,
-}
-
-fn long(bytes: &[u8], at: usize) -> u32
-    requires { ⌜ at < 25 ⌝ }
-    ensures { λ r. ⌜ r ≡ longAt (now (bytes .entry)) at ⌝ }
-{
-    let high = wire::word(bytes, at) as u32;
-    let low = wire::word(bytes, at + 2) as u32;
-    65536 * high + low
-}
-
-fn head_of(bytes: &[u8]) -> Head
-    ensures { λ r. ⌜ HeadAt (now (bytes .entry)) r ⌝ }
-{
-    Head {
-        call: wire::byte(bytes, 0),
-        budget: long(bytes, 1),
-        scratch: long(bytes, 5),
-        room: long(bytes, 9),
-        first: long(bytes, 13),
-        second: long(bytes, 17),
-        third: long(bytes, 21),
-    }
-}
-
-// What lent bytes hold before a call: byte i is (7 i + 1) modulo 256.
-fn pattern(bytes: &mut [u8])
-    ensures { λ _. ⌜ now (bytes .exit) ≡ tab patternAt (length (now (bytes .entry))) ⌝ }
-{
-    let mut next: u64 = 1;
-    let mut i = 0;
-    while i < bytes.len() {
-        bytes[i] = next as u8;
-        next = (next + 7) % 256;
-        i += 1;
-    }
-}
 
 // Puts a number and the byte behind it at a place of the line, and returns the next place.
 fn put(n: u64, behind: u8, line: &mut [u8], at: usize) -> usize

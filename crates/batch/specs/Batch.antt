@@ -1,0 +1,26 @@
+-- A batch's own arithmetic: its heads, what lent bytes hold before a call, and the sum over what they hold after it.
+use Prim.Native.Nat.{ℕ, _+_, _*_, _%_}
+use mathlib.Core.Path.{_≡_}
+use mathlib.Core.List.{List, [], _∷_}
+use Rattle.model.specs.Bytes.{byteAt, wordAt}
+use Rattle.batch.specs.declared.Head.{Head}
+
+-- the four-byte number at an offset, big-endian
+abbrev pub longAt : List ℕ → ℕ → ℕ
+longAt b i = 65536 * wordAt b i + wordAt b (i + 2)
+
+pub record HeadAt (b : List ℕ) (h : Head) : Type 0 where
+  pub call : h .call ≡ byteAt b 0
+  pub budget : h .budget ≡ longAt b 1
+  pub scratch : h .scratch ≡ longAt b 5
+  pub room : h .room ≡ longAt b 9
+  pub first : h .first ≡ longAt b 13
+  pub second : h .second ≡ longAt b 17
+  pub third : h .third ≡ longAt b 21
+
+unfoldable pub patternAt : ℕ → ℕ
+patternAt i = (7 * i + 1) % 256
+
+unfoldable pub sumFrom : ℕ → List ℕ → ℕ
+sumFrom total [] = total
+sumFrom total (b ∷ bs) = sumFrom ((total * 257 + b + 1) % 1000003) bs
