@@ -19,7 +19,12 @@ use rewrite::back::recording_back;
 use rewrite::back::table_back;
 use rewrite::back::witness_back;
 use witness::write_witness;
+ghost use mathlib.Core.Path.{_≡_};
 ghost use Prim.Native.Nat.{_<_};
+ghost use Rattle.model.specs.Numbers.{readingValues};
+ghost use Rattle.numbers.specs.Told.{told};
+ghost use Rattle.batch.specs.Batch.{sumFrom};
+ghost use Rattle.batch.specs.Parts.{tableNumbers, recordingNumbers, witnessNumbers};
 
 // The numbers of an answer, and the sum over the parts that were read back, 1 where none are.
 pub(crate) struct Outcome {
@@ -68,7 +73,7 @@ fn write<'a>(
 }
 
 fn table_outcome(reading: TableReading) -> Outcome
-    ensures { λ r. ⌜ r .sum < 1000003 ⌝ }
+    ensures { λ r. ⌜ (told (r .numbers) ≡ readingValues (reading .answer)) × (r .sum ≡ sumFrom 1 (tableNumbers (reading .parts))) × (r .sum < 1000003) ⌝ }
 {
     let answer = reading.answer;
     let parts = reading.parts;
@@ -79,7 +84,7 @@ fn table_outcome(reading: TableReading) -> Outcome
 }
 
 fn recording_outcome(reading: RecordingReading) -> Outcome
-    ensures { λ r. ⌜ r .sum < 1000003 ⌝ }
+    ensures { λ r. ⌜ (told (r .numbers) ≡ readingValues (reading .answer)) × (r .sum ≡ sumFrom 1 (recordingNumbers (reading .parts))) × (r .sum < 1000003) ⌝ }
 {
     let answer = reading.answer;
     let parts = reading.parts;
@@ -90,7 +95,7 @@ fn recording_outcome(reading: RecordingReading) -> Outcome
 }
 
 fn witness_outcome(reading: WitnessReading) -> Outcome
-    ensures { λ r. ⌜ r .sum < 1000003 ⌝ }
+    ensures { λ r. ⌜ (told (r .numbers) ≡ readingValues (reading .answer)) × (r .sum ≡ sumFrom 1 (witnessNumbers (reading .parts))) × (r .sum < 1000003) ⌝ }
 {
     let answer = reading.answer;
     let parts = reading.parts;

@@ -241,7 +241,7 @@ fn begun() -> Standing
 {
     Standing {
         before: Entry {
-            mark: KEPT,
+            mark: 0,
             time: 0,
             kind: 0,
             transition: 0,

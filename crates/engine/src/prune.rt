@@ -30,7 +30,7 @@ fn back(recording: &[u8], cursor: usize, t: u64) -> usize
     }
 }
 
-// Cuts situation n from the row at bit from, unless some move leads from it into the row to.
+// Cuts situation n from the row at bit from, unless some move leads from it into the other row.
 fn cut_stuck<'a>(
     table: &'a [u8],
     offsets: &'a [u16],

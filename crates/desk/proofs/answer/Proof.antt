@@ -5,23 +5,18 @@ use Rattle.desk.proofs.Own.{own-lines}
 use Rattle.desk.proofs.answer.Statement.{statement}
 use Rattle.desk.proofs.answer.Tie as tie
 
--- src/main.rt:43:25
 slice-aggregate-lines : tie.Need-slice-aggregate-lines
 slice-aggregate-lines c = search needs
 
--- src/main.rt:43:39
 slice-aggregate-lines-2 : tie.Need-slice-aggregate-lines-2
 slice-aggregate-lines-2 c = search needs
 
--- src/main.rt:43:5
 lines-requires : tie.Need-lines-requires
 lines-requires c κs = search needs
 
--- src/main.rt:38:1
 same-length : tie.Need-same-length
 same-length c = search needs
 
--- src/main.rt:38:1
 returns : tie.Need-returns
 returns c = own-lines _ _ _ _ _ _ _ _ (length-replicate {A = ℕ} 65536 0) (length-replicate {A = ℕ} 23045 0) (c .before .before .before .before .lines .ensures)
 

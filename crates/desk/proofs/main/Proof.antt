@@ -8,107 +8,82 @@ use borrow.Author.Needs.{needs}
 use Rattle.desk.proofs.main.Statement.{statement}
 use Rattle.desk.proofs.main.Tie as tie
 
--- src/main.rt:47:8
 arg-count-requires : tie.Need-arg-count-requires
 arg-count-requires c κs = search needs
 
--- src/main.rt:47:31
 isatty-requires : tie.Need-isatty-requires
 isatty-requires c κs = search needs
 
--- src/main.rt:50:13
 slice-aggregate-write-all : tie.Need-slice-aggregate-write-all
 slice-aggregate-write-all c = search needs
 
--- src/main.rt:48:9
 write-all-requires : tie.Need-write-all-requires
 write-all-requires c κs = search needs
 
--- src/main.rt:52:9
 returns : tie.Need-returns
 returns c = search needs
 
--- src/main.rt:55:30
 slice-aggregate-read-input : tie.Need-slice-aggregate-read-input
 slice-aggregate-read-input c = search needs
 
--- src/main.rt:55:9
 read-input-requires : tie.Need-read-input-requires
 read-input-requires c κs = search needs
 
--- src/main.rt:56:24
 enum-known-reading : tie.Need-enum-known-reading
 enum-known-reading c = search needs
 
--- src/main.rt:57:38
 enum-told : tie.Need-enum-told
 enum-told c = search needs
 
--- src/main.rt:57:38
 slice-aggregate-write-all-2 : tie.Need-slice-aggregate-write-all-2
 slice-aggregate-write-all-2 c = search needs
 
--- src/main.rt:57:9
 write-all-requires-2 : tie.Need-write-all-requires-2
 write-all-requires-2 c κs = search needs
 
--- src/main.rt:58:9
 returns-2 : tie.Need-returns-2
 returns-2 c = search needs
 
--- src/main.rt:61:24
 sub-answer : tie.Need-sub-answer
 sub-answer c = search needs
 
--- src/main.rt:61:24
 part-answer-start : tie.Need-part-answer-start
 part-answer-start c = search needs
 
--- src/main.rt:61:24
 part-answer-end : tie.Need-part-answer-end
 part-answer-end c =
     let r = c .before .before .before .before .before .read-input in
     omega (arith, subst (λ (i : Input). Within i (r .last .0)) (c .before .before .reading .given .1) (r .ensures))
 
--- src/main.rt:61:42
 slice-aggregate-answer : tie.Need-slice-aggregate-answer
 slice-aggregate-answer c = search needs
 
--- src/main.rt:61:9
 answer-requires : tie.Need-answer-requires
 answer-requires c κs = search needs
 
--- src/main.rt:62:38
 sub-write-all : tie.Need-sub-write-all
 sub-write-all c = search needs
 
--- src/main.rt:62:38
 part-write-all-start : tie.Need-part-write-all-start
 part-write-all-start c = search needs
 
--- src/main.rt:62:38
 part-write-all-end : tie.Need-part-write-all-end
 part-write-all-end c =
     let a = c .before .before .answer in
     subst (λ (n : ℕ). a .result ≤ n) (sym (a .kept .1 .0 ∙ length-replicate {A = ℕ} 400000 0)) (a .ensures .short)
 
--- src/main.rt:62:9
 write-all-requires-3 : tie.Need-write-all-requires-3
 write-all-requires-3 c κs = search needs
 
--- src/main.rt:65:13
 slice-aggregate-write-all-3 : tie.Need-slice-aggregate-write-all-3
 slice-aggregate-write-all-3 c = search needs
 
--- src/main.rt:63:9
 write-all-requires-4 : tie.Need-write-all-requires-4
 write-all-requires-4 c κs = search needs
 
--- src/main.rt:46:1
 returns-3 : tie.Need-returns-3
 returns-3 c = search needs
 
--- src/main.rt:46:1
 returns-4 : tie.Need-returns-4
 returns-4 c = search needs
 

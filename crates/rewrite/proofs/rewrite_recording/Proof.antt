@@ -4,30 +4,24 @@ use Rattle.rewrite.proofs.Again.{recording-refused, recording-rewritten
 use Rattle.rewrite.proofs.rewrite_recording.Statement.{statement}
 use Rattle.rewrite.proofs.rewrite_recording.Tie as tie
 
--- src/lib.rt:31:9
 read-recording-requires : tie.Need-read-recording-requires
 read-recording-requires c κs = search needs
 
--- src/lib.rt:33:29
 enum-known-answer : tie.Need-enum-known-answer
 enum-known-answer c = search needs
 
--- src/lib.rt:34:9
 returns : tie.Need-returns
 returns c = recording-refused _ _ _ (λ i. omega (arith, c .before .before .before .before .before .shared-slice-known2 .given i)) _ (c .before .before .before .read-recording .ensures .0) _ (c .before .answer .given .1)
 
 enum-told : tie.Need-enum-told
 enum-told c = search needs
 
--- src/lib.rt:37:5
 write-recording-requires : tie.Need-write-recording-requires
 write-recording-requires c κs = search needs
 
--- src/lib.rt:28:1
 same-length : tie.Need-same-length
 same-length c = search needs
 
--- src/lib.rt:28:1
 returns-2 : tie.Need-returns-2
 returns-2 c =
     recording-rewritten _ _ _ (λ i. omega (arith, c .before .before .before .before .before .before .before .before .before .shared-slice-known2 .given i)) _ (c .before .before .before .before .before .before .before .read-recording .ensures .0) (c .before .before .before .before .before .enum-told .given .1) _ _

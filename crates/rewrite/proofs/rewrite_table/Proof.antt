@@ -4,30 +4,24 @@ use Rattle.rewrite.proofs.Again.{table-refused, table-rewritten}
 use Rattle.rewrite.proofs.rewrite_table.Statement.{statement}
 use Rattle.rewrite.proofs.rewrite_table.Tie as tie
 
--- src/lib.rt:19:9
 read-table-requires : tie.Need-read-table-requires
 read-table-requires c κs = search needs
 
--- src/lib.rt:21:29
 enum-known-answer : tie.Need-enum-known-answer
 enum-known-answer c = search needs
 
--- src/lib.rt:22:9
 returns : tie.Need-returns
 returns c = table-refused _ _ (λ i. omega (arith, c .before .before .before .before .before .shared-slice-known .given i)) _ (c .before .before .before .read-table .ensures .0) _ (c .before .answer .given .1)
 
 enum-told : tie.Need-enum-told
 enum-told c = search needs
 
--- src/lib.rt:25:5
 write-table-requires : tie.Need-write-table-requires
 write-table-requires c κs = search needs
 
--- src/lib.rt:16:1
 same-length : tie.Need-same-length
 same-length c = search needs
 
--- src/lib.rt:16:1
 returns-2 : tie.Need-returns-2
 returns-2 c =
     table-rewritten _ _ (λ i. omega (arith, c .before .before .before .before .before .before .before .before .before .shared-slice-known .given i)) _ (c .before .before .before .before .before .before .before .read-table .ensures .0) (c .before .before .before .before .before .enum-told .given .1) _ _

@@ -4,30 +4,24 @@ use Rattle.rewrite.proofs.Again.{witness-refused, witness-rewritten}
 use Rattle.rewrite.proofs.rewrite_witness.Statement.{statement}
 use Rattle.rewrite.proofs.rewrite_witness.Tie as tie
 
--- src/lib.rt:43:9
 read-witness-requires : tie.Need-read-witness-requires
 read-witness-requires c κs = search needs
 
--- src/lib.rt:45:29
 enum-known-answer : tie.Need-enum-known-answer
 enum-known-answer c = search needs
 
--- src/lib.rt:46:9
 returns : tie.Need-returns
 returns c = witness-refused _ _ (λ i. omega (arith, c .before .before .before .before .before .shared-slice-known .given i)) _ (c .before .before .before .read-witness .ensures .0) _ (c .before .answer .given .1)
 
 enum-told : tie.Need-enum-told
 enum-told c = search needs
 
--- src/lib.rt:49:5
 write-witness-requires : tie.Need-write-witness-requires
 write-witness-requires c κs = search needs
 
--- src/lib.rt:40:1
 same-length : tie.Need-same-length
 same-length c = search needs
 
--- src/lib.rt:40:1
 returns-2 : tie.Need-returns-2
 returns-2 c =
     witness-rewritten _ _ (λ i. omega (arith, c .before .before .before .before .before .before .before .before .before .shared-slice-known .given i)) _ (c .before .before .before .before .before .before .before .read-witness .ensures .0) (c .before .before .before .before .before .enum-told .given .1) _ _

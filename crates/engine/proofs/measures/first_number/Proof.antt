@@ -7,19 +7,15 @@ use Rattle.situation.specs.Steps.{cappedBy}
 use Rattle.engine.proofs.measures.first_number.Statement.{statement}
 use Rattle.engine.proofs.measures.first_number.Tie as tie
 
--- src/judge.rt:30:19
 first-clock-requires : tie.Need-first-clock-requires
 first-clock-requires c κs = search needs
 
--- src/judge.rt:30:41
 first-clock-requires-2 : tie.Need-first-clock-requires-2
 first-clock-requires-2 c κs = search needs
 
--- src/judge.rt:31:5
 number-requires : tie.Need-number-requires
 number-requires c κs = search needs
 
--- src/judge.rt:27:1
 returns : tie.Need-returns
 unfolding cappedBy
 returns c =

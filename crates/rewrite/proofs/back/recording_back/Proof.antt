@@ -4,54 +4,42 @@ use Rattle.rewrite.proofs.Kept.{all-below, recording-fits, recording-re
 use Rattle.rewrite.proofs.back.recording_back.Statement.{statement}
 use Rattle.rewrite.proofs.back.recording_back.Tie as tie
 
--- src/back.rt:61:9
 write-recording-requires : tie.Need-write-recording-requires
 write-recording-requires c κs = search needs
 
--- src/back.rt:63:28
 enum-known-written : tie.Need-enum-known-written
 enum-known-written c = search needs
 
--- src/back.rt:65:35
 sub-read-recording : tie.Need-sub-read-recording
 sub-read-recording c = search needs
 
--- src/back.rt:65:35
 part-read-recording-start : tie.Need-part-read-recording-start
 part-read-recording-start c = search needs
 
--- src/back.rt:65:35
 part-read-recording-end : tie.Need-part-read-recording-end
 part-read-recording-end c = omega (arith, recording-fits _ _ _ _ _ _ (c .before .before .before .before .before .before .write-recording .ensures) (c .before .before .written .given .1))
 
--- src/back.rt:65:13
 read-recording-requires : tie.Need-read-recording-requires
 read-recording-requires c κs = search needs
 
--- src/back.rt:67:28
 enum-known-written-2 : tie.Need-enum-known-written-2
 enum-known-written-2 c = search needs
 
--- src/back.rt:67:36
 refused-recording-requires : tie.Need-refused-recording-requires
 refused-recording-requires c κs = search needs
 
--- src/back.rt:58:1
 same-length : tie.Need-same-length
 same-length c = search needs
 
--- src/back.rt:58:1
 returns : tie.Need-returns
 returns c =
     let w = c .before .before .before .before .before .before .before .before .write-recording .ensures in
     let s = c .before .before .before .before .before .before .before .before .before .before .before .before in
     recording-read _ _ _ _ _ w _ (λ i h. all-below (s .args .r .times) (s .good .1 .0 .1 .1 .1 .0 .0) (s .good .1 .0 .1 .1 .1 .0 .1 .1) i) _ (c .before .before .before .before .written .given .1) (c .read-recording .ensures .0)
 
--- src/back.rt:58:1
 same-length-2 : tie.Need-same-length-2
 same-length-2 c = search needs
 
--- src/back.rt:58:1
 returns-2 : tie.Need-returns-2
 returns-2 c =
     let w = c .before .before .before .before .before .before .write-recording .ensures in

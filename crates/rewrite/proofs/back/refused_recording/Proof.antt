@@ -4,19 +4,15 @@ use Rattle.rewrite.proofs.Kept.{no-recording-read}
 use Rattle.rewrite.proofs.back.refused_recording.Statement.{statement}
 use Rattle.rewrite.proofs.back.refused_recording.Tie as tie
 
--- src/back.rt:52:34
 slice-aggregate-read-recording : tie.Need-slice-aggregate-read-recording
 slice-aggregate-read-recording c = search needs
 
--- src/back.rt:52:41
 slice-aggregate-read-recording-2 : tie.Need-slice-aggregate-read-recording-2
 slice-aggregate-read-recording-2 c = search needs
 
--- src/back.rt:52:9
 read-recording-requires : tie.Need-read-recording-requires
 read-recording-requires c κs = search needs
 
--- src/back.rt:48:1
 returns : tie.Need-returns
 returns c = (refl, ap (λ (x : _). x .parts) (c .before .read-recording .ensures .0) ∙ no-recording-read)
 

@@ -4,15 +4,12 @@ use Rattle.rewrite.proofs.Kept.{no-table-read}
 use Rattle.rewrite.proofs.back.refused_table.Statement.{statement}
 use Rattle.rewrite.proofs.back.refused_table.Tie as tie
 
--- src/back.rt:29:30
 slice-aggregate-read-table : tie.Need-slice-aggregate-read-table
 slice-aggregate-read-table c = search needs
 
--- src/back.rt:29:9
 read-table-requires : tie.Need-read-table-requires
 read-table-requires c κs = search needs
 
--- src/back.rt:25:1
 returns : tie.Need-returns
 returns c = (refl, ap (λ (x : _). x .parts) (c .before .read-table .ensures .0) ∙ no-table-read)
 

@@ -4,15 +4,12 @@ use Rattle.rewrite.proofs.Kept.{no-witness-read}
 use Rattle.rewrite.proofs.back.refused_witness.Statement.{statement}
 use Rattle.rewrite.proofs.back.refused_witness.Tie as tie
 
--- src/back.rt:75:32
 slice-aggregate-read-witness : tie.Need-slice-aggregate-read-witness
 slice-aggregate-read-witness c = search needs
 
--- src/back.rt:75:9
 read-witness-requires : tie.Need-read-witness-requires
 read-witness-requires c κs = search needs
 
--- src/back.rt:71:1
 returns : tie.Need-returns
 returns c = (refl, ap (λ (x : _). x .parts) (c .before .read-witness .ensures .0) ∙ no-witness-read)
 

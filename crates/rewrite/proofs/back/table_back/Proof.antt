@@ -6,54 +6,42 @@ use Rattle.rewrite.proofs.Kept.{table-fits, table-read, table-unwritten
 use Rattle.rewrite.proofs.back.table_back.Statement.{statement}
 use Rattle.rewrite.proofs.back.table_back.Tie as tie
 
--- src/back.rt:38:9
 write-table-requires : tie.Need-write-table-requires
 write-table-requires c κs = search needs
 
--- src/back.rt:40:28
 enum-known-written : tie.Need-enum-known-written
 enum-known-written c = search needs
 
--- src/back.rt:42:24
 sub-read-table : tie.Need-sub-read-table
 sub-read-table c = search needs
 
--- src/back.rt:42:24
 part-read-table-start : tie.Need-part-read-table-start
 part-read-table-start c = search needs
 
--- src/back.rt:42:24
 part-read-table-end : tie.Need-part-read-table-end
 part-read-table-end c = omega (arith, table-fits _ _ _ _ _ (c .before .before .before .before .before .before .write-table .ensures) (c .before .before .written .given .1))
 
--- src/back.rt:42:13
 read-table-requires : tie.Need-read-table-requires
 read-table-requires c κs = search needs
 
--- src/back.rt:44:28
 enum-known-written-2 : tie.Need-enum-known-written-2
 enum-known-written-2 c = search needs
 
--- src/back.rt:44:36
 refused-table-requires : tie.Need-refused-table-requires
 refused-table-requires c κs = search needs
 
--- src/back.rt:35:1
 same-length : tie.Need-same-length
 same-length c = search needs
 
--- src/back.rt:35:1
 returns : tie.Need-returns
 returns c =
     let w = c .before .before .before .before .before .before .before .before .write-table .ensures in
     let s = c .before .before .before .before .before .before .before .before .before .before .before in
     table-read _ _ _ _ w _ (sym (length-map (s .args .t .guards) (λ x. x)) ∙ s .good .0 .1 .1 .1 .1 .1 .1 .1 .1 .1 .1 .1 .1 .1 .1 .1 .1 .0 .1 .0 .1) _ (c .before .before .before .before .written .given .1) (c .read-table .ensures .0)
 
--- src/back.rt:35:1
 same-length-2 : tie.Need-same-length-2
 same-length-2 c = search needs
 
--- src/back.rt:35:1
 returns-2 : tie.Need-returns-2
 returns-2 c =
     let w = c .before .before .before .before .before .before .write-table .ensures in

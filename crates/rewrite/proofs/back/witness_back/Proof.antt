@@ -4,54 +4,42 @@ use Rattle.rewrite.proofs.Kept.{all-below, witness-fits, witness-read, 
 use Rattle.rewrite.proofs.back.witness_back.Statement.{statement}
 use Rattle.rewrite.proofs.back.witness_back.Tie as tie
 
--- src/back.rt:84:9
 write-witness-requires : tie.Need-write-witness-requires
 write-witness-requires c κs = search needs
 
--- src/back.rt:86:28
 enum-known-written : tie.Need-enum-known-written
 enum-known-written c = search needs
 
--- src/back.rt:88:26
 sub-read-witness : tie.Need-sub-read-witness
 sub-read-witness c = search needs
 
--- src/back.rt:88:26
 part-read-witness-start : tie.Need-part-read-witness-start
 part-read-witness-start c = search needs
 
--- src/back.rt:88:26
 part-read-witness-end : tie.Need-part-read-witness-end
 part-read-witness-end c = omega (arith, witness-fits _ _ _ _ _ (c .before .before .before .before .before .before .write-witness .ensures) (c .before .before .written .given .1))
 
--- src/back.rt:88:13
 read-witness-requires : tie.Need-read-witness-requires
 read-witness-requires c κs = search needs
 
--- src/back.rt:90:28
 enum-known-written-2 : tie.Need-enum-known-written-2
 enum-known-written-2 c = search needs
 
--- src/back.rt:90:36
 refused-witness-requires : tie.Need-refused-witness-requires
 refused-witness-requires c κs = search needs
 
--- src/back.rt:81:1
 same-length : tie.Need-same-length
 same-length c = search needs
 
--- src/back.rt:81:1
 returns : tie.Need-returns
 returns c =
     let w = c .before .before .before .before .before .before .before .before .write-witness .ensures in
     let s = c .before .before .before .before .before .before .before .before .before .before .before in
     witness-read _ _ _ _ w _ (λ i h. all-below (s .args .w .times) (s .good .0 .1 .1 .1 .1 .0 .0) (s .good .0 .1 .1 .1 .1 .0 .1 .1) i) _ (c .before .before .before .before .written .given .1) (c .read-witness .ensures .0)
 
--- src/back.rt:81:1
 same-length-2 : tie.Need-same-length-2
 same-length-2 c = search needs
 
--- src/back.rt:81:1
 returns-2 : tie.Need-returns-2
 returns-2 c =
     let w = c .before .before .before .before .before .before .write-witness .ensures in
