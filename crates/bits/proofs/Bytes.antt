@@ -3,7 +3,7 @@ use mathlib.Core.Path.{_≡_, refl, sym, ap, _∙_, subst}
 use mathlib.Core.Bool.{Bool, true, false, cond, _&&_}
 use mathlib.Core.List.{List}
 use mathlib.Core.Logic.{⊎-elim}
-use Prim.Native.Nat.{ℕ, zero, suc, _+_, _-_, _*_, _/_, _%_, _^_, _<_}
+use Prim.Native.Nat.{ℕ, zero, suc, _-_, _*_, _/_, _%_, _^_, _<_}
 use native.Mathlib.Nat.{eq-or-lt-of-le, le-of-suc-le-suc, not-suc-le-zero, mod-eq-of-lt}
 use native.Mathlib.Decide.{ℕ-discrete}
 use native.Mathlib.Omega.{arith}
@@ -12,9 +12,7 @@ use lib.Dec.{T, eqb, eqb→eq}
 use lib.ListN.{length, getD, set, length-set}
 use lib.Seq.{getD-set-same, getD-set-other}
 use lib.Bits.{bitAnd, bitOr, or-shr, or-mod, and-shr, and-mod, and-mask, or-zero-r, and-zero-r}
-use lib.Count.{ones}
-use Rattle.bits.specs.Member.{mem, tally, PutIn, TakenOut}
-use Rattle.bits.proofs.Laws.{bit, mem-at, tally-add, tally-same}
+use Rattle.bits.specs.Member.{bit, mem, PutIn, TakenOut}
 
 -- a test passes at each number below n
 abbrev every : (ℕ → Bool) → ℕ → Bool
@@ -139,19 +137,3 @@ taken-out s i h =
       others = mem-other s i (bitAnd b (rest (i % 8))) h (and-other b (i % 8) place);
       past = λ l. absurd (omega arith);
     }
-
--- a byte has as many bits as it has ones
-ones-of : T (every (λ b. eqb (tally (bit b) 8) (ones b)) 256)
-unfolding tally ones
-ones-of = tt
-
--- one byte more
-pub tally-byte : (s : List ℕ) (k : ℕ) → getD s k 0 < 256 → tally (mem s) (8 * (k + 1)) ≡ ones (getD s k 0) + tally (mem s) (8 * k)
-tally-byte s k h =
-    let b = getD s k 0 in
-    let next : 8 * (k + 1) ≡ 8 * k + 8 = omega arith in
-    ap (tally (mem s)) next
-    ∙ tally-add (mem s) (8 * k) 8
-    ∙ ap (λ (n : ℕ). n + tally (mem s) (8 * k))
-    (tally-same (λ j. mem s (8 * k + j)) (bit b) 8 (λ j l. mem-at s k j l)
-    ∙ eqb→eq (tally (bit b) 8) (ones b) (every-at (λ x. eqb (tally (bit x) 8) (ones x)) 256 ones-of b h))

@@ -8,11 +8,7 @@ use native.Mathlib.Omega.{arith}
 use lib.Dec.{eqb}
 use lib.ListN.{length, getD, take, drop, replicate, List·getD-eq-default}
 use lib.Seq.{getD-take, getD-drop}
-use Rattle.bits.specs.Member.{mem, tally, population}
-
--- byte b has bit j
-abbrev pub bit : ℕ → ℕ → Bool
-bit b j = eqb (b / 2 ^ j % 2) 1
+use Rattle.bits.specs.Member.{bit, mem, tally, population}
 
 -- membership is a bit of a byte
 pub mem-at : (s : List ℕ) (k j : ℕ) → j < 8 → mem s (8 * k + j) ≡ bit (getD s k 0) j
@@ -22,7 +18,7 @@ mem-at s k j h =
     let place : (8 * k + j) % 8 ≡ j = omega arith in
     ap₂ (λ (x y : ℕ). bit (getD s x 0) y) byte place
 
-bit-zero : (b j : ℕ) → b ≡ 0 → bit b j ≡ false
+pub bit-zero : (b j : ℕ) → b ≡ 0 → bit b j ≡ false
 bit-zero b j e = ap (λ (x : ℕ). bit x j) e ∙ ap (λ (x : ℕ). eqb (x % 2) 1) (zero-div (2 ^ j))
 
 -- nothing is past the end
@@ -66,6 +62,12 @@ pub tally-le : (p : ℕ → Bool) (n : ℕ) → tally p n ≤ n
 unfolding tally
 tally-le p zero = zero-le
 tally-le p (suc n) = omega (arith, one-le (p n), tally-le p n)
+
+-- no number passes a test that none below n passes
+pub tally-none : (p : ℕ → Bool) (n : ℕ) → ((k : ℕ) → k < n → p k ≡ false) → tally p n ≡ 0
+unfolding tally
+tally-none p zero h = refl
+tally-none p (suc n) h = ap₂ (λ (b : Bool) (m : ℕ). cond b 1 0 + m) (h n (le-refl (suc n))) (tally-none p n (λ k l. h k (omega arith)))
 
 -- the numbers below n, and the m after them
 pub tally-add : (p : ℕ → Bool) (n m : ℕ) → tally p (n + m) ≡ tally (λ k. p (n + k)) m + tally p n

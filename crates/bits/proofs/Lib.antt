@@ -1,2 +1,4 @@
 pub mod Laws
 mod Bytes
+mod Numbers
+mod Words

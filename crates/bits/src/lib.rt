@@ -1,8 +1,9 @@
 // A set of numbers in lent bytes: number i is bit i % 8 of byte i / 8. Contracts speak of membership, for every number.
 ghost use mathlib.Core.Path.{_≡_};
-ghost use Prim.Native.Nat.{_%_, _^_};
+ghost use Prim.Native.Nat.{_+_, _*_, _≤_};
 ghost use lib.ListN.{length, replicate};
-ghost use Rattle.bits.specs.Member.{mem, population, PutIn, TakenOut};
+ghost use Rattle.bits.specs.Member.{mem, tally, Counted, WordOf, PutIn, TakenOut};
+ghost use Rattle.bits.specs.Number.{number};
 
 // Is i in the set? Nothing is past the end.
 pub fn test(s: &[u8], i: usize) -> bool
@@ -35,17 +36,57 @@ pub fn cut(s: &mut [u8], i: usize)
     }
 }
 
-// How many numbers are in the set, modulo 2 ^ 64: a set of 2 ^ 61 bytes or more can have too many for a u64.
-pub fn count(s: &[u8]) -> u64
-    ensures { λ r. ⌜ r ≡ population (now (s .entry)) % 2 ^ 64 ⌝ }
+// At most eight bytes as one number, the first lowest.
+fn number_of(b: &[u8]) -> u64
+    requires { ⌜ length (now b) ≤ 8 ⌝ }
+    ensures { λ r. ⌜ r ≡ number (now (b .entry)) ⌝ }
 {
-    let mut n: u64 = 0;
-    let mut at = 0;
-    while at < s.len() {
-        n = std::num::wrapping_add_u64(n, u8::count_ones(s[at]) as u64);
-        at += 1;
+    let mut x: u64 = 0;
+    let mut i = b.len();
+    while 0 < i {
+        i -= 1;
+        let low = b[i] as u64;
+        x = 256 * x + low;
     }
-    n
+    x
+}
+
+// Word k of the set, 64 numbers from 64 * k on. A last word of fewer than eight bytes is made of those; past the end it is 0.
+pub fn word(s: &[u8], k: usize) -> u64
+    ensures { λ r. ⌜ WordOf (now (s .entry)) k r ⌝ }
+{
+    let last = s.len() / 8;
+    if last < k {
+        return 0;
+    }
+    let from = 8 * k;
+    if k < last {
+        let to = from + 8;
+        return number_of(&s[from..to]);
+    }
+    let to = s.len();
+    number_of(&s[from..to])
+}
+
+// How many numbers of word k are in the set.
+fn count_word(s: &[u8], k: usize) -> u64
+    ensures { λ r. ⌜ r ≡ tally (λ j. mem (now (s .entry)) (64 * k + j)) 64 ⌝ }
+{
+    u64::count_ones(word(s, k)) as u64
+}
+
+// How many numbers are in the set.
+pub fn count(s: &[u8]) -> u64
+    ensures { λ r. ⌜ Counted (now (s .entry)) r ⌝ }
+{
+    let last = s.len() / 8;
+    let mut n: u64 = 0;
+    let mut k = 0;
+    while k < last {
+        n = std::num::wrapping_add_u64(n, count_word(s, k));
+        k += 1;
+    }
+    std::num::wrapping_add_u64(n, count_word(s, last))
 }
 
 // Takes every number out.

@@ -1,10 +1,10 @@
 -- Rows of the scratch: how many situations a row holds, and the next row, which an instant fills.
-use Prim.Native.Nat.{ℕ, zero, suc, _+_, _-_, _*_, _%_, _^_, _<_, _≤_}
+use Prim.Native.Nat.{ℕ, zero, suc, _+_, _-_, _*_, _<_, _≤_}
 use native.Mathlib.Nat.{mul-assoc, not-suc-le-zero}
 use native.Mathlib.Numerals.{add-one}
 use native.Mathlib.Omega.{arith}
 use native.Mathlib.Decide.{decLt}
-use mathlib.Core.Path.{_≡_, refl, sym, ap, _∙_}
+use mathlib.Core.Path.{_≡_, refl, sym, ap, subst, _∙_}
 use mathlib.Core.Logic.{_⊎_, inl, inr, _↔_}
 use mathlib.Core.List.{List, [], _∷_}
 use mathlib.Core.Bool.{Bool, true, false, cond, false≢true}
@@ -19,8 +19,8 @@ use Rattle.model.specs.Recording.{packetsAt}
 use Rattle.model.specs.Situation.{moveLimit, firstNumber, recordedAt}
 use Rattle.model.specs.Layers.{count}
 use Rattle.model.proofs.LayerLaws.{Given, length-layer, layer-suc}
-use Rattle.bits.specs.Member.{mem, tally, population}
-use Rattle.bits.proofs.Laws.{tally-same, mem-part, population-fits}
+use Rattle.bits.specs.Member.{mem, tally, population, Counted}
+use Rattle.bits.proofs.Laws.{tally-same, tally-none, mem-part}
 use Rattle.situation.specs.Rows.{heardAt, passedBy}
 use Rattle.situation.proofs.Cursors.{passed-cursor, heard-recorded}
 use Rattle.layers.proofs.Apart.{apart-above}
@@ -38,11 +38,6 @@ same-test false false f g = refl
 
 -- a set's count is a tally
 
-tally-none : (n : ℕ) → tally (λ z. false) n ≡ 0
-unfolding tally
-tally-none zero = refl
-tally-none (suc n) = omega (arith, tally-none n)
-
 tally-front : (p : ℕ → Bool) (n : ℕ) → tally p (suc n) ≡ cond (p 0) 1 0 + tally (λ k. p (suc k)) n
 unfolding tally
 tally-front p zero = refl
@@ -50,7 +45,7 @@ tally-front p (suc n) = omega (arith, tally-front p n)
 
 pub count-tally : (s : List Bool) (n : ℕ) → length s ≤ n → count s ≡ tally (λ z. getD s z false) n
 unfolding count
-count-tally [] n h = sym (tally-none n)
+count-tally [] n h = sym (tally-none (λ z. false) n (λ k l. refl))
 count-tally (b ∷ s) zero h = absurd (not-suc-le-zero h)
 count-tally (b ∷ s) (suc n) h = omega (arith, tally-front (λ z. getD (b ∷ s) z false) n, count-tally s n (omega arith))
 
@@ -59,14 +54,13 @@ count-tally (b ∷ s) (suc n) h = omega (arith, tally-front (λ z. getD (b ∷ s
 abbrev rowAt : List ℕ → (row t : ℕ) → List ℕ
 rowAt scratch row t = take row (drop (row * t) scratch)
 
-module _ (scratch : List ℕ) (row t : ℕ) (fits : row * t + row ≤ length scratch) (narrow : row ≤ 8192) where
-  row-length : length (rowAt scratch row t) ≡ row
+module _ (scratch : List ℕ) (row t : ℕ) (fits : row * t + row ≤ length scratch) where
+  pub row-length : length (rowAt scratch row t) ≡ row
   row-length = length-take-le row (drop (row * t) scratch) (omega (arith, length-drop (row * t) scratch))
 
-  pub row-count : (s : List Bool) → RowHolds scratch row t s → length s ≤ 8 * row → population (rowAt scratch row t) % 2 ^ 64 ≡ count s
+  pub row-count : (s : List Bool) → RowHolds scratch row t s → length s ≤ 8 * row → population (rowAt scratch row t) ≡ count s
   row-count s holds h =
-      population-fits (rowAt scratch row t) (omega (arith, row-length))
-      ∙ ap (λ (n : ℕ). tally (mem (rowAt scratch row t)) (8 * n)) row-length
+      ap (λ (n : ℕ). tally (mem (rowAt scratch row t)) (8 * n)) row-length
       ∙ tally-same (mem (rowAt scratch row t)) (λ z. getD s z false) (8 * row)
       (λ z l. mem-part scratch (row * t) row z l ∙ ap (λ (n : ℕ). mem scratch (n + z)) (sym (mul-assoc 8 row t)) ∙ holds z l)
       ∙ sym (count-tally s (8 * row) h)
@@ -168,20 +162,23 @@ module _ {table offsets recording before : List ℕ} {g : Measures} {t i : ℕ} 
   -- what the code of an instant does: the next row is filled by what is heard, and counted
   pub turned : {after : List ℕ} {heard : Option ℕ} {work : ℕ} → heard ≡ heardAt recording i (t + 1)
       → Advanced (stepAt table offsets (g .shape) heard) (8 * g .row * t) (8 * g .row * (t + 1)) (g .size) before after
-      → work ≡ population (take (g .row * (t + 1) + g .row - g .row * (t + 1)) (drop (g .row * (t + 1)) after)) % 2 ^ 64
+      → Counted (take (g .row * (t + 1) + g .row - g .row * (t + 1)) (drop (g .row * (t + 1)) after)) work
       → Turned table recording before after (g .row) t i work
-  turned {after} {heard} e done counted =
+  turned {after} {heard} {work} e done counted =
       let filled : Filled table recording after (g .row) (t + 1) (passedBy recording i (t + 1)) =
       filled-next (stepAt table offsets (g .shape) heard) (heard-step heard e) done
       in
       let width : g .row * (t + 1) + g .row - g .row * (t + 1) ≡ g .row = omega arith in
+      let here : Counted (rowAt after (g .row) (t + 1)) work =
+      subst (λ (n : ℕ). Counted (take n (drop (g .row * (t + 1)) after)) work) width counted
+      in
+      let fits : g .row * (t + 1) + g .row ≤ length after = omega (arith, next-fits) in
       record {
         long = done .long;
         filled = filled;
         counted =
-            counted
-            ∙ ap (λ (n : ℕ). population (take n (drop (g .row * (t + 1)) after)) % 2 ^ 64) width
-            ∙ row-count after (g .row) (t + 1) (omega (arith, next-fits)) (turn .setting .narrow) (possible table recording (t + 1))
+            here .exact (omega (arith, row-length after (g .row) (t + 1) fits, turn .setting .narrow))
+            ∙ row-count after (g .row) (t + 1) fits (possible table recording (t + 1))
             (filled .layers (t + 1) (omega arith))
             (omega (arith, possible-length table recording (t + 1)));
       }

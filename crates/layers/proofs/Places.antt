@@ -6,8 +6,7 @@ use mathlib.Core.Path.{_≡_, sym, ap, ap₂, subst, _∙_}
 use mathlib.Core.List.{List, [], _++_, append-nil}
 use lib.ListN.{length, getD, take, drop, length-append, length-drop, take-append-drop, List·getD-append}
 use lib.Seq.{getD-drop, getD-append-add, take-all, drop-drop, drop-length, length-take-le}
-use Rattle.bits.specs.Member.{mem, PutIn}
-use Rattle.bits.proofs.Laws.{bit}
+use Rattle.bits.specs.Member.{bit, mem, PutIn}
 
 -- the set in the bytes from a on
 pub mem-drop : (s : List ℕ) (a i : ℕ) → mem (drop a s) i ≡ mem s (8 * a + i)
