@@ -1,6 +1,6 @@
 //! A set of situations as bits of lent bytes, visited a word of 64 at a time.
 
-const WORD_BYTES: usize = 8;
+pub const WORD_BYTES: usize = 8;
 
 /// Bytes for a set of numbers below `count`: S of the paper.
 pub fn size(count: usize) -> usize {

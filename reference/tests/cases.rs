@@ -18,6 +18,10 @@ fn every_number_comes_often_and_p5_is_printed_whole() {
             assert!(numbers.get(&number).is_some_and(|times| *times >= 20), "writing {number}");
         }
     }
+    for bytes in 0..8 {
+        let times = made.last_words.get(&bytes);
+        assert!(times.is_some_and(|times| *times >= 20), "a last word of {bytes} bytes");
+    }
     let output = String::from_utf8(made.output).expect("lines are text");
     assert!(output.contains("accepted 13 3\nkept 1 0 0\nremoved 3 2 255\nkept 6 1 2\n0 13 3 "));
 }

@@ -20,6 +20,9 @@ use crate::desk;
 use crate::generate::{calls, writings, Rng};
 use crate::limits;
 use crate::papers::{PAPERS, SMALL_MONITOR};
+use crate::set;
+use crate::situation::Space;
+use crate::table;
 use crate::writing::{Parts, Writing};
 
 /// As many random calls as this, of which few are long.
@@ -49,6 +52,9 @@ pub struct Cases {
     pub from_files: Numbers,
     pub from_writing: Numbers,
     pub from_back: Numbers,
+    /// Of the validations that count sets of more than a word: how often the last, shorter word
+    /// has so many bytes.
+    pub last_words: BTreeMap<usize, usize>,
 }
 
 pub fn cases(seed: u64) -> io::Result<Cases> {
@@ -139,7 +145,16 @@ impl Cases {
         head(&mut self.input, kind, budget, lent, &files)?;
         let outcome = call.run(&ORDINARY);
         *self.from_files.entry(outcome.answer.number).or_default() += 1;
+        self.last_word(&call, outcome.answer);
         self.answer(outcome.answer, outcome.scratch.iter().chain(&outcome.room))
+    }
+
+    fn last_word(&mut self, call: &Call, answer: Answer) {
+        let Call::Validate { table, .. } = call else { return };
+        let size = table::read(table).map_or(0, |it| set::size(Space::of(&it).count()));
+        if answer.number <= 2 && size > set::WORD_BYTES {
+            *self.last_words.entry(size % set::WORD_BYTES).or_default() += 1;
+        }
     }
 
     fn write(&mut self, writing: &Writing) -> io::Result<()> {
