@@ -63,7 +63,7 @@ unfolding tally
 tally-le p zero = zero-le
 tally-le p (suc n) = omega (arith, one-le (p n), tally-le p n)
 
--- no number passes a test that none below n passes
+-- where none below n passes, there is none to count
 pub tally-none : (p : ℕ → Bool) (n : ℕ) → ((k : ℕ) → k < n → p k ≡ false) → tally p n ≡ 0
 unfolding tally
 tally-none p zero h = refl
