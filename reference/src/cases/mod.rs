@@ -52,8 +52,8 @@ pub struct Cases {
     pub from_files: Numbers,
     pub from_writing: Numbers,
     pub from_back: Numbers,
-    /// Of the validations that count sets of more than a word: how often the last, shorter word
-    /// has so many bytes.
+    /// Of the validations whose cost has two works or more, the second of which is counted, in
+    /// sets of more than a word: how often the last, shorter word has so many bytes.
     pub last_words: BTreeMap<usize, usize>,
 }
 
@@ -152,7 +152,7 @@ impl Cases {
     fn last_word(&mut self, call: &Call, answer: Answer) {
         let Call::Validate { table, .. } = call else { return };
         let size = table::read(table).map_or(0, |it| set::size(Space::of(&it).count()));
-        if answer.number <= 2 && size > set::WORD_BYTES {
+        if answer.number <= 1 && answer.second > 1 && size > set::WORD_BYTES {
             *self.last_words.entry(size % set::WORD_BYTES).or_default() += 1;
         }
     }
