@@ -1,7 +1,8 @@
 //! The recorded cases: enough of them, every number often enough, and the paper's own first.
 
 use lutarosa_reference::cases::cases;
-use lutarosa_reference::limits::{sized, SIZES};
+use lutarosa_reference::limits::{sized, LAST_WORD_BOUNDS, SIZES};
+use lutarosa_reference::set;
 use lutarosa_reference::situation::Space;
 
 #[test]
@@ -37,4 +38,10 @@ fn tables_at_the_limit_have_the_size_that_is_said() {
     for (states, variables, bounds, airtime, count) in SIZES {
         assert_eq!(Space::of(&sized(states, variables, bounds, airtime)).count(), count);
     }
+}
+
+#[test]
+fn sets_with_last_words_of_every_length_have_9_to_16_bytes() {
+    let size = |bound| set::size(Space::of(&sized(2, 0, &[bound], 0)).count());
+    assert!(LAST_WORD_BOUNDS.map(size).into_iter().eq(9..=16));
 }

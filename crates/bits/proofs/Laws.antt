@@ -7,8 +7,10 @@ use native.Mathlib.Nat.{zero-div, mod-eq-of-lt, add-zero, add-suc, le-refl}
 use native.Mathlib.Omega.{arith}
 use lib.Dec.{eqb}
 use lib.ListN.{length, getD, take, drop, replicate, List·getD-eq-default}
+use lib.Pow.{shr-shr}
 use lib.Seq.{getD-take, getD-drop}
-use Rattle.bits.specs.Member.{bit, mem, tally, population}
+use Rattle.bits.specs.Member.{bit, mem}
+use Rattle.bits.specs.Counting.{tally, population}
 
 -- membership is a bit of a byte
 pub mem-at : (s : List ℕ) (k j : ℕ) → j < 8 → mem s (8 * k + j) ≡ bit (getD s k 0) j
@@ -20,6 +22,10 @@ mem-at s k j h =
 
 pub bit-zero : (b j : ℕ) → b ≡ 0 → bit b j ≡ false
 bit-zero b j e = ap (λ (x : ℕ). bit x j) e ∙ ap (λ (x : ℕ). eqb (x % 2) 1) (zero-div (2 ^ j))
+
+-- a number without its s lowest bits
+pub bit-shr : (x s j : ℕ) → bit (x / 2 ^ s) j ≡ bit x (s + j)
+bit-shr x s j = ap (λ (q : ℕ). eqb (q % 2) 1) (shr-shr x s j)
 
 -- nothing is past the end
 pub mem-past : (s : List ℕ) (i : ℕ) → 8 * length s ≤ i → mem s i ≡ false
@@ -36,15 +42,20 @@ pub mem-zeros : (n i : ℕ) → mem (replicate n 0) i ≡ false
 unfolding mem
 mem-zeros n i = bit-zero (getD (replicate n 0) (i / 8) 0) (i % 8) (zero-at n (i / 8))
 
--- the set in bytes a .. a + n
+-- the set in the bytes from a on
+pub mem-drop : (s : List ℕ) (a i : ℕ) → mem (drop a s) i ≡ mem s (8 * a + i)
+unfolding mem
+mem-drop s a i =
+    let byte : (8 * a + i) / 8 ≡ a + i / 8 = omega arith in
+    let place : (8 * a + i) % 8 ≡ i % 8 = omega arith in
+    ap (λ (b : ℕ). bit b (i % 8)) (getD-drop a s (i / 8) 0) ∙ sym (ap₂ (λ (x y : ℕ). bit (getD s x 0) y) byte place)
+
+-- .. and in bytes a .. a + n
 pub mem-part : (s : List ℕ) (a n i : ℕ) → i < 8 * n → mem (take n (drop a s)) i ≡ mem s (8 * a + i)
 unfolding mem
 mem-part s a n i h =
-    let byte : (8 * a + i) / 8 ≡ a + i / 8 = omega arith in
-    let place : (8 * a + i) % 8 ≡ i % 8 = omega arith in
     let within : i / 8 < n = omega arith in
-    ap (λ (b : ℕ). bit b (i % 8)) (getD-take n (drop a s) (i / 8) 0 within ∙ getD-drop a s (i / 8) 0)
-    ∙ sym (ap₂ (λ (x y : ℕ). bit (getD s x 0) y) byte place)
+    ap (λ (b : ℕ). bit b (i % 8)) (getD-take n (drop a s) (i / 8) 0 within) ∙ mem-drop s a i
 
 -- tests that agree below n have the same tally
 pub tally-same : (p q : ℕ → Bool) (n : ℕ) → ((k : ℕ) → k < n → p k ≡ q k) → tally p n ≡ tally q n

@@ -1,4 +1,5 @@
 pub mod Laws
 mod Bytes
-mod Numbers
+mod LittleEndian
 mod Words
+mod RuledOut

@@ -10,12 +10,13 @@ use lib.Arith.{lt-one}
 use lib.Count.{ones, ones-step}
 use lib.Dec.{eqb}
 use lib.ListN.{length, getD, take, drop, length-drop, List·getD-eq-default}
-use lib.Pow.{shr-shr}
 use lib.Seq.{length-take-le, getD-take, getD-drop}
-use Rattle.bits.specs.Member.{bit, mem, tally, population, Counted, WordOf}
-use Rattle.bits.specs.Number.{number}
-use Rattle.bits.proofs.Laws.{bit-zero, mem-past, mem-part, tally-same, tally-add, tally-none, population-fits}
-use Rattle.bits.proofs.Numbers.{Small, number-bits, number-fits}
+use Rattle.bits.specs.Member.{bit, mem}
+use Rattle.bits.specs.Words.{inWord, WordOf}
+use Rattle.bits.specs.Counting.{tally, population, Counted}
+use Rattle.bits.specs.LittleEndian.{littleEndian}
+use Rattle.bits.proofs.Laws.{bit-zero, bit-shr, mem-past, mem-part, tally-same, tally-add, tally-none, population-fits}
+use Rattle.bits.proofs.LittleEndian.{AreBytes, little-endian-bits, little-endian-below}
 
 -- a number below 2 ^ k has as many bits as it has ones
 
@@ -40,7 +41,7 @@ tally-ones (suc k) x h =
     ap (tally (bit x)) e
     ∙ tally-add (bit x) 1 k
     ∙ ap₂ (λ (a b : ℕ). a + b)
-    (tally-same (λ j. bit x (1 + j)) (bit (x / 2)) k (λ j l. ap (λ (q : ℕ). eqb (q % 2) 1) (sym (shr-shr x 1 j))) ∙ tally-ones k (x / 2) half)
+    (tally-same (λ j. bit x (1 + j)) (bit (x / 2)) k (λ j l. sym (bit-shr x 1 j)) ∙ tally-ones k (x / 2) half)
     (lowest x)
     ∙ omega (arith, ones-step x)
 
@@ -52,22 +53,22 @@ module _ (s : List ℕ) (k n : ℕ) (few : n ≤ 8) (there : 8 * k + n ≤ lengt
   part-length : length part ≡ n
   part-length = length-take-le n (drop (8 * k) s) (omega (arith, length-drop (8 * k) s))
 
-  part-small : Small s → Small part
-  part-small small i = on (decLt i n)
+  part-bytes : AreBytes s → AreBytes part
+  part-bytes bytes i = on (decLt i n)
     where
       on : Dec (i < n) → getD part i 0 < 256
-      on (yes l) = omega (arith, getD-take n (drop (8 * k) s) i 0 l, getD-drop (8 * k) s i 0, small (8 * k + i))
+      on (yes l) = omega (arith, getD-take n (drop (8 * k) s) i 0 l, getD-drop (8 * k) s i 0, bytes (8 * k + i))
       on (no l) = let past : length part ≤ i = omega (arith, part-length) in omega (arith, List·getD-eq-default part 0 past)
 
-  part-bits : (j : ℕ) → j < 64 → Dec (j < 8 * n) → mem part j ≡ mem s (64 * k + j)
+  part-bits : (j : ℕ) → j < 64 → Dec (j < 8 * n) → mem part j ≡ inWord s k j
   part-bits j h (yes l) = let start : 8 * (8 * k) ≡ 64 * k = omega arith in mem-part s (8 * k) n j l ∙ ap (λ (i : ℕ). mem s (i + j)) start
   part-bits j h (no l) = mem-past part j (omega (arith, part-length)) ∙ sym (mem-past s (64 * k + j) (omega (arith, all (omega arith))))
 
-  pub word-of : Small s → (r : ℕ) → r ≡ number part → WordOf s k r
-  word-of small r e =
+  pub word-of : AreBytes s → (r : ℕ) → r ≡ littleEndian part → WordOf s k r
+  word-of bytes r e =
       record {
-        fits = omega (arith, number-fits part 8 (part-small small) (omega (arith, part-length)));
-        bits = λ j h. ap (λ (x : ℕ). bit x j) e ∙ number-bits part (part-small small) j ∙ part-bits j h (decLt j (8 * n));
+        fits = omega (arith, little-endian-below part 8 (part-bytes bytes) (omega (arith, part-length)));
+        bits = λ j h. ap (λ (x : ℕ). bit x j) e ∙ little-endian-bits part (part-bytes bytes) j ∙ part-bits j h (decLt j (8 * n));
       }
 
 -- past the end
@@ -75,11 +76,11 @@ pub word-past : (s : List ℕ) (k : ℕ) → length s < 8 * k → WordOf s k 0
 word-past s k h = record { fits = omega arith; bits = λ j l. bit-zero 0 j refl ∙ sym (mem-past s (64 * k + j) (omega arith)) }
 
 -- how many numbers of a word are in the set
-pub word-tally : (s : List ℕ) (k r : ℕ) → WordOf s k r → ones r ≡ tally (λ j. mem s (64 * k + j)) 64
-word-tally s k r w = sym (tally-ones 64 r (w .fits)) ∙ tally-same (bit r) (λ j. mem s (64 * k + j)) 64 (w .bits)
+pub word-tally : (s : List ℕ) (k r : ℕ) → WordOf s k r → ones r ≡ tally (inWord s k) 64
+word-tally s k r w = sym (tally-ones 64 r (w .fits)) ∙ tally-same (bit r) (inWord s k) 64 (w .bits)
 
 -- one word more
-pub tally-word : (s : List ℕ) (k : ℕ) → tally (mem s) (64 * (k + 1)) ≡ tally (λ j. mem s (64 * k + j)) 64 + tally (mem s) (64 * k)
+pub tally-word : (s : List ℕ) (k : ℕ) → tally (mem s) (64 * (k + 1)) ≡ tally (inWord s k) 64 + tally (mem s) (64 * k)
 tally-word s k = ap (tally (mem s)) (omega arith) ∙ tally-add (mem s) (64 * k) 64
 
 -- with the last word all are counted

@@ -1,2 +1,4 @@
 pub mod Member
-pub mod Number
+pub mod Words
+pub mod Counting
+pub mod LittleEndian

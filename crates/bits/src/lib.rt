@@ -1,9 +1,11 @@
 // A set of numbers in lent bytes: number i is bit i % 8 of byte i / 8. Contracts speak of membership, for every number.
 ghost use mathlib.Core.Path.{_≡_};
-ghost use Prim.Native.Nat.{_+_, _*_, _≤_};
+ghost use Prim.Native.Nat.{_≤_};
 ghost use lib.ListN.{length, replicate};
-ghost use Rattle.bits.specs.Member.{mem, tally, Counted, WordOf, PutIn, TakenOut};
-ghost use Rattle.bits.specs.Number.{number};
+ghost use Rattle.bits.specs.Member.{mem, PutIn, TakenOut};
+ghost use Rattle.bits.specs.Words.{inWord, WordOf};
+ghost use Rattle.bits.specs.Counting.{tally, Counted};
+ghost use Rattle.bits.specs.LittleEndian.{littleEndian};
 
 // Is i in the set? Nothing is past the end.
 pub fn test(s: &[u8], i: usize) -> bool
@@ -37,9 +39,9 @@ pub fn cut(s: &mut [u8], i: usize)
 }
 
 // At most eight bytes as one number, the first lowest.
-fn number_of(b: &[u8]) -> u64
+fn little_endian(b: &[u8]) -> u64
     requires { ⌜ length (now b) ≤ 8 ⌝ }
-    ensures { λ r. ⌜ r ≡ number (now (b .entry)) ⌝ }
+    ensures { λ r. ⌜ r ≡ littleEndian (now (b .entry)) ⌝ }
 {
     let mut x: u64 = 0;
     let mut i = b.len();
@@ -51,7 +53,7 @@ fn number_of(b: &[u8]) -> u64
     x
 }
 
-// Word k of the set, 64 numbers from 64 * k on. A last word of fewer than eight bytes is made of those; past the end it is 0.
+// Word k of the set, the 64 numbers from 64 * k on. A last word of fewer than eight bytes is made of those; past the end it is 0.
 pub fn word(s: &[u8], k: usize) -> u64
     ensures { λ r. ⌜ WordOf (now (s .entry)) k r ⌝ }
 {
@@ -62,15 +64,15 @@ pub fn word(s: &[u8], k: usize) -> u64
     let from = 8 * k;
     if k < last {
         let to = from + 8;
-        return number_of(&s[from..to]);
+        return little_endian(&s[from..to]);
     }
     let to = s.len();
-    number_of(&s[from..to])
+    little_endian(&s[from..to])
 }
 
 // How many numbers of word k are in the set.
 fn count_word(s: &[u8], k: usize) -> u64
-    ensures { λ r. ⌜ r ≡ tally (λ j. mem (now (s .entry)) (64 * k + j)) 64 ⌝ }
+    ensures { λ r. ⌜ r ≡ tally (inWord (now (s .entry)) k) 64 ⌝ }
 {
     u64::count_ones(word(s, k)) as u64
 }

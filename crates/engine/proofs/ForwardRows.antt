@@ -19,7 +19,8 @@ use Rattle.model.specs.Recording.{packetsAt}
 use Rattle.model.specs.Situation.{moveLimit, firstNumber, recordedAt}
 use Rattle.model.specs.Layers.{count}
 use Rattle.model.proofs.LayerLaws.{Given, length-layer, layer-suc}
-use Rattle.bits.specs.Member.{mem, tally, population, Counted}
+use Rattle.bits.specs.Member.{mem}
+use Rattle.bits.specs.Counting.{tally, population, Counted}
 use Rattle.bits.proofs.Laws.{tally-same, tally-none, mem-part}
 use Rattle.situation.specs.Rows.{heardAt, passedBy}
 use Rattle.situation.proofs.Cursors.{passed-cursor, heard-recorded}

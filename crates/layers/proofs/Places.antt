@@ -5,16 +5,8 @@ use native.Mathlib.Omega.{arith}
 use mathlib.Core.Path.{_≡_, sym, ap, ap₂, subst, _∙_}
 use mathlib.Core.List.{List, [], _++_, append-nil}
 use lib.ListN.{length, getD, take, drop, length-append, length-drop, take-append-drop, List·getD-append}
-use lib.Seq.{getD-drop, getD-append-add, take-all, drop-drop, drop-length, length-take-le}
+use lib.Seq.{getD-append-add, take-all, drop-drop, drop-length, length-take-le}
 use Rattle.bits.specs.Member.{bit, mem, PutIn}
-
--- the set in the bytes from a on
-pub mem-drop : (s : List ℕ) (a i : ℕ) → mem (drop a s) i ≡ mem s (8 * a + i)
-unfolding mem
-mem-drop s a i =
-    let byte : (8 * a + i) / 8 ≡ a + i / 8 = omega arith in
-    let place : (8 * a + i) % 8 ≡ i % 8 = omega arith in
-    ap (λ (b : ℕ). bit b (i % 8)) (getD-drop a s (i / 8) 0) ∙ sym (ap₂ (λ (x y : ℕ). bit (getD s x 0) y) byte place)
 
 -- all that is behind a place
 pub take-rest : (s : List ℕ) (a : ℕ) → take (length s - a) (drop a s) ≡ drop a s

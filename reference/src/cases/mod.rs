@@ -52,8 +52,8 @@ pub struct Cases {
     pub from_files: Numbers,
     pub from_writing: Numbers,
     pub from_back: Numbers,
-    /// Of the validations whose cost has two works or more, the second of which is counted, in
-    /// sets of more than a word: how often the last, shorter word has so many bytes.
+    /// How often a set was counted that has so many bytes behind its whole words, one or more.
+    /// The first work is always 1; a cost above it had a set counted.
     pub last_words: BTreeMap<usize, usize>,
 }
 
@@ -145,11 +145,11 @@ impl Cases {
         head(&mut self.input, kind, budget, lent, &files)?;
         let outcome = call.run(&ORDINARY);
         *self.from_files.entry(outcome.answer.number).or_default() += 1;
-        self.last_word(&call, outcome.answer);
+        self.note_last_word(&call, outcome.answer);
         self.answer(outcome.answer, outcome.scratch.iter().chain(&outcome.room))
     }
 
-    fn last_word(&mut self, call: &Call, answer: Answer) {
+    fn note_last_word(&mut self, call: &Call, answer: Answer) {
         let Call::Validate { table, .. } = call else { return };
         let size = table::read(table).map_or(0, |it| set::size(Space::of(&it).count()));
         if answer.number <= 1 && answer.second > 1 && size > set::WORD_BYTES {

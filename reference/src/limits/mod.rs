@@ -27,9 +27,9 @@ pub const SIZES: [(u8, u8, &[u8], u8, usize); 8] = [
     (16, 4, &[14, 15], 0, 69_632),
 ];
 
-/// The largest number that the clock of a table with two states is compared with. N is 70, 78 and
-/// so on to 126, so a set has 9 to 16 bytes: a word, and a last one of every length.
-const LAST_WORDS: [u8; 8] = [33, 37, 41, 45, 49, 53, 57, 61];
+/// What the one clock of a table with two states is compared with, so that a set of its situations
+/// has 9 to 16 bytes: a whole word, and a last one of every length.
+pub const LAST_WORD_BOUNDS: [u8; 8] = [33, 37, 41, 45, 49, 53, 57, 61];
 
 /// A table of that size: a kind from the unit, one to it, and two transitions a state.
 pub fn sized(states: u8, variables: u8, bounds: &[u8], airtime: u8) -> Table {
@@ -74,8 +74,8 @@ pub fn calls() -> Vec<Call> {
             judged(&mut calls, &table, &recording(rows));
         }
     }
-    // Long enough for the clock to take every value in both states.
-    for bound in LAST_WORDS {
+    // At 70 nearly every situation is possible: none has a clock of 0, and few others are left out.
+    for bound in LAST_WORD_BOUNDS {
         let table = encode_table(&sized(2, 0, &[bound], 0));
         for rows in [&[(70, 0)][..], &[(70, 1)], &[(1, 1), (35, 0), (70, 1)]] {
             judged(&mut calls, &table, &recording(rows));

@@ -4,7 +4,8 @@ use Prim.Native.Nat.{ℕ, _-_, _*_, _/_, _%_, _^_, _≤_}
 use native.Mathlib.Omega.{arith}
 use lib.ListN.{length}
 use borrow.Author.Needs.{needs}
-use Rattle.bits.specs.Member.{mem, tally}
+use Rattle.bits.specs.Member.{mem}
+use Rattle.bits.specs.Counting.{tally}
 use Rattle.bits.proofs.Words.{tally-word, counted}
 use Rattle.bits.proofs.count.Statement.{statement}
 use Rattle.bits.proofs.count.Tie as tie

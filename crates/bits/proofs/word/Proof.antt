@@ -16,42 +16,42 @@ mul-from c = search needs
 add-to : tie.Need-add-to
 add-to c = search needs
 
-sub-number-of : tie.Need-sub-number-of
-sub-number-of c = search needs
+sub-little-endian : tie.Need-sub-little-endian
+sub-little-endian c = search needs
 
-part-number-of-start : tie.Need-part-number-of-start
-part-number-of-start c = search needs
+part-little-endian-start : tie.Need-part-little-endian-start
+part-little-endian-start c = search needs
 
-part-number-of-end : tie.Need-part-number-of-end
-part-number-of-end c = search needs
+part-little-endian-end : tie.Need-part-little-endian-end
+part-little-endian-end c = search needs
 
-number-of-requires : tie.Need-number-of-requires
-number-of-requires c κs = search needs
+little-endian-requires : tie.Need-little-endian-requires
+little-endian-requires c κs = search needs
 
 returns-2 : tie.Need-returns-2
 returns-2 c =
     let k = c .before .before .before .before .before .args .k in
     word-of (c .before .before .before .before .before .args .s .now) k (8 * k + 8 - 8 * k) (omega arith) (omega arith) (λ l. absurd (omega arith))
-    (λ i. c .before .before .before .before .shared-slice-known .given i .fits) (c .number-of .result) (c .number-of .ensures)
+    (λ i. c .before .before .before .before .shared-slice-known .given i .fits) (c .little-endian .result) (c .little-endian .ensures)
 
-sub-number-of-2 : tie.Need-sub-number-of-2
-sub-number-of-2 c = search needs
+sub-little-endian-2 : tie.Need-sub-little-endian-2
+sub-little-endian-2 c = search needs
 
-part-number-of-start-2 : tie.Need-part-number-of-start-2
-part-number-of-start-2 c = search needs
+part-little-endian-start-2 : tie.Need-part-little-endian-start-2
+part-little-endian-start-2 c = search needs
 
-part-number-of-end-2 : tie.Need-part-number-of-end-2
-part-number-of-end-2 c = search needs
+part-little-endian-end-2 : tie.Need-part-little-endian-end-2
+part-little-endian-end-2 c = search needs
 
-number-of-requires-2 : tie.Need-number-of-requires-2
-number-of-requires-2 c κs = search needs
+little-endian-requires-2 : tie.Need-little-endian-requires-2
+little-endian-requires-2 c κs = search needs
 
 returns-3 : tie.Need-returns-3
 returns-3 c =
     let s = c .before .before .before .before .before .args .s .now in
     let k = c .before .before .before .before .before .args .k in
     word-of s k (length s - 8 * k) (omega arith) (omega arith) (λ l. omega arith)
-    (λ i. c .before .before .before .before .shared-slice-known .given i .fits) (c .number-of2 .result) (c .number-of2 .ensures)
+    (λ i. c .before .before .before .before .shared-slice-known .given i .fits) (c .little-endian2 .result) (c .little-endian2 .ensures)
 
 pub word-spec : {M : Type 1} → statement M
 word-spec =
@@ -60,13 +60,13 @@ word-spec =
     returns
     mul-from
     add-to
-    sub-number-of
-    part-number-of-start
-    part-number-of-end
-    number-of-requires
+    sub-little-endian
+    part-little-endian-start
+    part-little-endian-end
+    little-endian-requires
     returns-2
-    sub-number-of-2
-    part-number-of-start-2
-    part-number-of-end-2
-    number-of-requires-2
+    sub-little-endian-2
+    part-little-endian-start-2
+    part-little-endian-end-2
+    little-endian-requires-2
     returns-3)

@@ -5,8 +5,8 @@ use mathlib.Core.Path.{_≡_, sym, ap, _∙_}
 use mathlib.Core.List.{List}
 use borrow.Author.Needs.{needs}
 use Rattle.bits.specs.Member.{mem}
-use Rattle.bits.proofs.Laws.{mem-past}
-use Rattle.layers.proofs.Places.{mem-drop, take-rest}
+use Rattle.bits.proofs.Laws.{mem-past, mem-drop}
+use Rattle.layers.proofs.Places.{take-rest}
 use Rattle.layers.proofs.row.has.Statement.{statement}
 use Rattle.layers.proofs.row.has.Tie as tie
 

@@ -1,24 +1,24 @@
--- `bits::number_of` meets its contract: x is the number of the bytes from i on. Assumes nothing.
+-- `bits::little_endian` meets its contract: x is the number of the bytes from i on. Assumes nothing.
 use mathlib.Core.Path.{_≡_, ap, _∙_}
 use Prim.Native.Nat.{ℕ, _-_, _^_, _≤_, _<_}
 use native.Mathlib.Omega.{arith}
 use lib.ListN.{length, getD, drop}
 use borrow.Author.Needs.{needs}
-use Rattle.bits.specs.Number.{number}
-use Rattle.bits.proofs.Numbers.{number-none, number-room, number-more}
-use Rattle.bits.proofs.number_of.Statement.{statement}
-use Rattle.bits.proofs.number_of.Tie as tie
-use Rattle.bits.proofs.number_of.Reads as reads
-use Rattle.bits.proofs.number_of.Lts as lts
+use Rattle.bits.specs.LittleEndian.{littleEndian}
+use Rattle.bits.proofs.LittleEndian.{none-read, read-below, one-more-read}
+use Rattle.bits.proofs.little_endian.Statement.{statement}
+use Rattle.bits.proofs.little_endian.Tie as tie
+use Rattle.bits.proofs.little_endian.Reads as reads
+use Rattle.bits.proofs.little_endian.Lts as lts
 
 abbrev Inv-loop : tie.InvT-loop
-Inv-loop b x₀ i₀ x i = (i ≤ length b) × (x ≡ number (drop i b))
+Inv-loop b x₀ i₀ x i = (i ≤ length b) × (x ≡ littleEndian (drop i b))
 
 abbrev μ-loop : tie.MeasureT-loop
 μ-loop b x₀ i₀ x i = i
 
 loop-holds : tie.Need-loop-holds Inv-loop μ-loop
-loop-holds c = (omega arith, number-none (c .args .b .now))
+loop-holds c = (omega arith, none-read (c .args .b .now))
 
 sub-i : tie.Need-sub-i Inv-loop μ-loop
 sub-i c = search needs
@@ -31,7 +31,7 @@ bounds : (c : lts.After-shared-slice-known reads.Pre reads.Post Inv-loop μ-loop
     → (c .before .before .loop .x < 256 ^ 7) × (getD (c .before .before .before .args .b .now) (c .before .before .loop .i - 1) 0 < 256)
 bounds c =
     let at-loop = c .before .before in (
-      number-room (at-loop .before .args .b .now) (at-loop .loop .i) (at-loop .loop .x) (omega arith) (omega arith) (at-loop .loop .inv .1)
+      read-below (at-loop .before .args .b .now) (at-loop .loop .i) (at-loop .loop .x) (omega arith) (omega arith) (at-loop .loop .inv .1)
           (λ k. c .shared-slice-known .given k .fits) (at-loop .before .pre),
       c .shared-slice-known .given (at-loop .loop .i - 1) .fits,
     )
@@ -51,16 +51,16 @@ loop-less c = search needs
 loop-again : tie.Need-loop-again Inv-loop μ-loop
 loop-again c =
     let at-loop = c .before .before in
-    (omega arith, number-more (at-loop .before .args .b .now) (at-loop .loop .i) (at-loop .loop .x) (omega arith) (omega arith) (at-loop .loop .inv .1))
+    (omega arith, one-more-read (at-loop .before .args .b .now) (at-loop .loop .i) (at-loop .loop .x) (omega arith) (omega arith) (at-loop .loop .inv .1))
 
 returns : tie.Need-returns Inv-loop μ-loop
 returns c =
     let at-loop = c .before in
     let done : at-loop .loop .i ≡ 0 = omega arith in
-    at-loop .loop .inv .1 ∙ ap (λ (i : ℕ). number (drop i (at-loop .before .args .b .now))) done
+    at-loop .loop .inv .1 ∙ ap (λ (i : ℕ). littleEndian (drop i (at-loop .before .args .b .now))) done
 
-pub number-of-spec : {M : Type 1} → statement M
-number-of-spec =
+pub little-endian-spec : {M : Type 1} → statement M
+little-endian-spec =
     tie.close
     (tie.spec
     Inv-loop
