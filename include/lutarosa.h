@@ -1,7 +1,8 @@
 /* Lutarosa: can a unit have kept its protocol, from what a sniffer heard?
  *
- * Tables, recordings and witnesses are bytes in the formats of document 01. Any bytes may be handed in: what is wrong
- * with them is told by a number. A call always returns and keeps nothing of what it was lent.
+ * Tables, recordings and witnesses are bytes in the formats of document 01; the times of a witness rise strictly (R-3
+ * of document 02). Any bytes may be handed in: what is wrong with them is told by a number. A call always returns and
+ * keeps nothing of what it was lent.
  *
  * A slice is a pointer and a length in bytes. The pointer must not be null, even if the length is 0. A slice that a call
  * writes (scratch, room) must not overlap another slice of that call. While the call runs, nothing else may write its

@@ -55,7 +55,13 @@ impl<'a> Follower<'a> {
 
     /// Whether this row in good form keeps the rules of table and recording.
     fn follow(&mut self, row: &Row) -> bool {
-        self.accounts(row) && (row.mark == REMOVED || self.fires(row))
+        let time = u32::from(row.time);
+        let finds_air = time >= self.free_from;
+        if !self.accounts(row) || !finds_air || (row.mark != REMOVED && !self.fires(row)) {
+            return false;
+        }
+        self.free_from = time + self.table.airtime(row.kind) + 1;
+        true
     }
 
     fn accounts(&mut self, row: &Row) -> bool {
@@ -78,7 +84,7 @@ impl<'a> Follower<'a> {
         let Some(it) = self.table.transitions.get(usize::from(row.transition)) else {
             return false;
         };
-        if time < self.free_from || it.kind != row.kind || it.from != self.state {
+        if it.kind != row.kind || it.from != self.state {
             return false;
         }
         let clocks = self.last_reset.map(|reset| time - reset);
@@ -93,7 +99,6 @@ impl<'a> Follower<'a> {
                 *reset = time;
             }
         }
-        self.free_from = time + self.table.airtime(it.kind) + 1;
         true
     }
 }

@@ -17,12 +17,12 @@ pub mod desk;
 pub mod frame;
 pub mod generate;
 pub mod guard;
-pub mod instant;
 pub mod lent;
 pub mod limits;
 #[cfg(feature = "linked")]
 pub mod linked;
 pub mod moves;
+pub mod narrowed;
 pub mod papers;
 pub mod parts;
 pub mod recording;

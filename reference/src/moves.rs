@@ -34,6 +34,7 @@ struct Ready<'a> {
 }
 
 pub struct Moves<'a> {
+    table: &'a Table,
     space: &'a Space,
     /// The transitions from each state, in the order of their numbers.
     by_state: Vec<Vec<Ready<'a>>>,
@@ -53,7 +54,7 @@ impl<'a> Moves<'a> {
             by_state[usize::from(parts.from)].push(ready);
         }
         let known = vec![Known::default(); space.count()];
-        Moves { space, by_state, known, fired: Vec::new() }
+        Moves { table, space, by_state, known, fired: Vec::new() }
     }
 
     /// The situation that idling leaves, and the transitions that can fire, lowest first.
@@ -71,6 +72,15 @@ impl<'a> Moves<'a> {
         let start = known.fired_start as usize;
         let fired = &self.fired[start..start + usize::from(known.fired_count)];
         (usize::from(known.idle), fired)
+    }
+
+    /// The situation that removing a recorded row of this kind leaves, if it may be removed:
+    /// it is to the unit and finds the air free.
+    pub fn removed(&self, situation: usize, kind: u8) -> Option<usize> {
+        let it = self.space.situation(situation);
+        let airtime = self.table.airtime(kind);
+        (it.air == 0 && self.table.to_unit(kind))
+            .then(|| self.space.number(&self.space.removed(&it, airtime)))
     }
 
     /// Once for each situation, while looking up is the innermost step of the search.

@@ -12,6 +12,13 @@ pub const SMALL_MONITOR: [u8; 68] = [
     0x04, 0x01, 0x00, 0x03,
 ];
 
+/// The small monitor with one byte changed.
+pub fn small_monitor_with(place: usize, byte: u8) -> Vec<u8> {
+    let mut table = SMALL_MONITOR.to_vec();
+    table[place] = byte;
+    table
+}
+
 pub const DATA: u8 = 0;
 pub const RETRY: u8 = 1;
 pub const ACK: u8 = 2;

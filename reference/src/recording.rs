@@ -24,6 +24,16 @@ impl Recording {
     pub fn last_time(&self) -> usize {
         self.rows.last().map_or(0, |row| usize::from(row.time))
     }
+
+    /// Of a sound recording: the kind heard at each of the instants 1 to T, if any; instant t
+    /// stands at place t-1.
+    pub fn instants(&self) -> Vec<Option<u8>> {
+        let mut instants = vec![None; self.last_time()];
+        for row in &self.rows {
+            instants[usize::from(row.time) - 1] = Some(row.kind);
+        }
+        instants
+    }
 }
 
 /// Reads both files; the table's numbers come first.
@@ -85,6 +95,6 @@ fn check_rows(table: &Table, recording: &Recording) -> Result<(), Refusal> {
 }
 
 /// Definition 1: the next packet comes more than the airtime after the one before.
-fn overlaps(table: &Table, before: Heard, row: Heard) -> bool {
+pub fn overlaps(table: &Table, before: Heard, row: Heard) -> bool {
     u32::from(row.time) <= u32::from(before.time) + table.airtime(before.kind)
 }

@@ -3,13 +3,13 @@
 //! Layer t-1 of the lent bytes is the set of situations possible just before instant t.
 
 use crate::answer::Answer;
-use crate::instant::Instant;
 use crate::moves::{Fired, Moves};
 use crate::set;
 use crate::witness::{Row, Witness, ADDED, KEPT, NO_TRANSITION, REMOVED};
 
 pub struct Search<'a> {
-    pub instants: &'a [Instant],
+    /// The kind heard at each of the instants 1 to T, if any.
+    pub instants: &'a [Option<u8>],
     pub moves: Moves<'a>,
     /// One set more than there are instants.
     pub layers: &'a mut [u8],
@@ -33,7 +33,7 @@ impl Search<'_> {
         first_layer.fill(0);
         set::insert(first_layer, first);
         let mut cost = 0;
-        for (place, instant) in self.instants.iter().enumerate() {
+        for (place, heard) in self.instants.iter().enumerate() {
             let number = place as u64 + 1;
             let (now, next) = two_layers(self.layers, self.set_size, place);
             cost += set::count(now);
@@ -41,7 +41,7 @@ impl Search<'_> {
                 return Err(Answer::new(2, u64::from(budget), number));
             }
             next.fill(0);
-            advance(&mut self.moves, *instant, now, next);
+            advance(&mut self.moves, *heard, now, next);
             if set::is_empty(next) {
                 return Err(Answer::new(1, cost, number));
             }
@@ -51,9 +51,9 @@ impl Search<'_> {
 
     /// Leaves in each layer only the situations from which instant T can be passed.
     fn prune(&mut self) {
-        for (place, instant) in self.instants.iter().enumerate().rev() {
+        for (place, heard) in self.instants.iter().enumerate().rev() {
             let (now, next) = two_layers(self.layers, self.set_size, place);
-            keep_lasting(&self.moves, *instant, now, next);
+            keep_lasting(&self.moves, *heard, now, next);
         }
     }
 
@@ -61,14 +61,33 @@ impl Search<'_> {
     fn walk(&self, first: usize) -> Witness {
         let mut witness = Witness::default();
         let mut situation = first;
-        for (place, instant) in self.instants.iter().enumerate() {
-            let next = &self.layers[self.set_size * (place + 1)..][..self.set_size];
-            let (idle, fired) = self.moves.of(situation);
-            let choice = choose(*instant, idle, fired, next);
-            choice.write(place as u16 + 1, *instant, &mut witness.rows);
-            situation = choice.next(idle);
+        for place in 0..self.instants.len() {
+            let (row, after) = self.choose(place, situation);
+            witness.rows.extend(row);
+            situation = after;
         }
         witness
+    }
+
+    /// First keeping, then removing; first nothing, then adding; among transitions the lower
+    /// number. The row, if there is one, and the situation that is left.
+    fn choose(&self, place: usize, situation: usize) -> (Option<Row>, usize) {
+        let (time, heard) = (place as u16 + 1, self.instants[place]);
+        let next = &self.layers[self.set_size * (place + 1)..][..self.set_size];
+        let (idle, fired) = self.moves.of(situation);
+        if heard.is_none() && set::contains(next, idle) {
+            return (None, idle);
+        }
+        let allowed = |it: &&Fired| heard.is_none_or(|kind| it.kind == kind);
+        let lasts = |it: &&Fired| set::contains(next, usize::from(it.next));
+        if let Some(it) = fired.iter().filter(allowed).find(lasts) {
+            let mark = if heard.is_some() { KEPT } else { ADDED };
+            let row = Row { mark, time, kind: it.kind, transition: it.transition };
+            return (Some(row), usize::from(it.next));
+        }
+        let removed = heard.and_then(|kind| Some((kind, self.moves.removed(situation, kind)?)));
+        let (kind, after) = removed.expect("a pruned layer holds only situations that last");
+        (Some(Row { mark: REMOVED, time, kind, transition: NO_TRANSITION }), after)
     }
 }
 
@@ -77,84 +96,40 @@ fn two_layers(layers: &mut [u8], size: usize, place: usize) -> (&mut [u8], &mut 
     layers[size * place..size * (place + 2)].split_at_mut(size)
 }
 
-/// Where a row may be removed, every firing is allowed, as keeping it or as adding another
-/// kind, and so is idling: the same as where no row is. Only the marks differ.
-fn advance(moves: &mut Moves, instant: Instant, now: &[u8], next: &mut [u8]) {
-    match instant {
-        Instant::Quiet | Instant::ToUnit(_) => set::for_each(now, |situation| {
+/// Where nothing is heard, each situation idles or fires; where a row is, it fires on that row or
+/// the row is removed.
+fn advance(moves: &mut Moves, heard: Option<u8>, now: &[u8], next: &mut [u8]) {
+    match heard {
+        None => set::for_each(now, |situation| {
             let (idle, fired) = moves.meet(situation);
             set::insert(next, idle);
             for it in fired {
                 set::insert(next, usize::from(it.next));
             }
         }),
-        Instant::FromUnit(kind) => set::for_each(now, |situation| {
+        Some(kind) => set::for_each(now, |situation| {
             let (_, fired) = moves.meet(situation);
             for it in fired.iter().filter(|it| it.kind == kind) {
                 set::insert(next, usize::from(it.next));
+            }
+            if let Some(removed) = moves.removed(situation, kind) {
+                set::insert(next, removed);
             }
         }),
     }
 }
 
-fn keep_lasting(moves: &Moves, instant: Instant, now: &mut [u8], next: &[u8]) {
+fn keep_lasting(moves: &Moves, heard: Option<u8>, now: &mut [u8], next: &[u8]) {
     let lasts = |it: &Fired| set::contains(next, usize::from(it.next));
-    match instant {
-        Instant::Quiet | Instant::ToUnit(_) => set::retain(now, |situation| {
+    match heard {
+        None => set::retain(now, |situation| {
             let (idle, fired) = moves.of(situation);
             set::contains(next, idle) || fired.iter().any(lasts)
         }),
-        Instant::FromUnit(kind) => set::retain(now, |situation| {
+        Some(kind) => set::retain(now, |situation| {
             let (_, fired) = moves.of(situation);
             fired.iter().any(|it| it.kind == kind && lasts(it))
+                || moves.removed(situation, kind).is_some_and(|it| set::contains(next, it))
         }),
-    }
-}
-
-enum Choice {
-    Keep(Fired),
-    AddNothing,
-    Add(Fired),
-}
-
-/// First keeping, then adding nothing, then adding; among transitions the lower number.
-fn choose(instant: Instant, idle: usize, fired: &[Fired], next: &[u8]) -> Choice {
-    let lasts = |it: &&Fired| set::contains(next, usize::from(it.next));
-    let recorded = match instant {
-        Instant::Quiet => None,
-        Instant::ToUnit(kind) | Instant::FromUnit(kind) => Some(kind),
-    };
-    let keeps = |it: &&Fired| Some(it.kind) == recorded;
-    if let Some(kept) = fired.iter().filter(keeps).find(lasts) {
-        return Choice::Keep(*kept);
-    }
-    if set::contains(next, idle) {
-        return Choice::AddNothing;
-    }
-    let added = fired.iter().filter(|it| !keeps(it)).find(lasts);
-    Choice::Add(*added.expect("a pruned layer holds only situations that last"))
-}
-
-impl Choice {
-    fn next(&self, idle: usize) -> usize {
-        match self {
-            Choice::Keep(fired) | Choice::Add(fired) => usize::from(fired.next),
-            Choice::AddNothing => idle,
-        }
-    }
-
-    /// The rows of this instant: a recorded row that is not kept is removed.
-    fn write(&self, time: u16, instant: Instant, rows: &mut Vec<Row>) {
-        let row = |mark, it: &Fired| Row { mark, time, kind: it.kind, transition: it.transition };
-        if let Choice::Keep(fired) = self {
-            rows.push(row(KEPT, fired));
-            return;
-        }
-        if let Instant::ToUnit(kind) = instant {
-            rows.push(Row { mark: REMOVED, time, kind, transition: NO_TRANSITION });
-        }
-        if let Choice::Add(fired) = self {
-            rows.push(row(ADDED, fired));
-        }
     }
 }

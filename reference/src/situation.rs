@@ -84,6 +84,11 @@ impl Space {
         Situation { clocks: self.aged(it.clocks), air: it.air.saturating_sub(1), ..*it }
     }
 
+    /// What is left a tick after a packet of this airtime that the monitor did not get.
+    pub fn removed(&self, it: &Situation, airtime: u32) -> Situation {
+        Situation { air: airtime, ..self.idle(it) }
+    }
+
     /// What is left a tick after this transition fired on a packet of this airtime.
     pub fn fired(&self, it: &Situation, by: &Transition, airtime: u32) -> Situation {
         let reset = |clock: usize| by.reset >> clock & 1 == 1;

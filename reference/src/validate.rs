@@ -2,7 +2,6 @@
 
 use crate::answer::{settle, Answer, Refusal};
 use crate::frame::put;
-use crate::instant::instants;
 use crate::moves::Moves;
 use crate::recording;
 use crate::search::Search;
@@ -40,7 +39,7 @@ fn validate_read(
         return Err(Refusal::new(31, room_wanted));
     }
 
-    let instants = instants(&table, &recording);
+    let instants = recording.instants();
     let moves = Moves::new(&table, &space);
     let first = space.number(&space.first());
     let answer = match (Search { instants: &instants, moves, layers, set_size }).run(first, budget)

@@ -87,12 +87,5 @@ pub fn in_form(before: Option<&Row>, row: &Row) -> bool {
     let fields = row.mark <= ADDED
         && (1..=LAST_TIME).contains(&row.time)
         && (row.mark != REMOVED || row.transition == NO_TRANSITION);
-    fields && before.is_none_or(|before| may_follow(before, row))
-}
-
-/// Two rows share a time only as a removed row and then an added one of another kind.
-/// A third cannot join them, since it would follow an added row.
-fn may_follow(before: &Row, row: &Row) -> bool {
-    let replaces = before.mark == REMOVED && row.mark == ADDED && before.kind != row.kind;
-    row.time > before.time || (row.time == before.time && replaces)
+    fields && before.is_none_or(|before| row.time > before.time)
 }

@@ -1,5 +1,8 @@
 //! The comparison finds no difference where there is none, and finds each of these faults.
 
+mod before;
+
+use before::{BEFORE, NEEDS_NO_AIR, TAKES_NO_AIR};
 use lutarosa_reference::answer::Answer;
 use lutarosa_reference::call::{Engine, Validate, ORDINARY};
 use lutarosa_reference::check::check_witness;
@@ -176,6 +179,18 @@ fn checker() {
             };
         Engine { check, ..ORDINARY }
     });
+}
+
+#[test]
+fn air_of_removed_packets() {
+    for (name, engine) in [("rules before R-3", BEFORE), ("R-3 half made", NEEDS_NO_AIR)] {
+        finds_validate(name, engine.validate);
+        finds(name, Engine { check: engine.check, ..ORDINARY });
+    }
+    finds_validate("R-3 half made", TAKES_NO_AIR.validate);
+    finds("R-3 half made", Engine { check: TAKES_NO_AIR.check, ..ORDINARY });
+    let rewrite_witness = BEFORE.rewrite_witness;
+    finds("two rows at one time", Engine { rewrite_witness, ..ORDINARY });
 }
 
 #[test]

@@ -240,8 +240,8 @@ fn witness(count: u16, filler: u8, rows: &[(u8, u16, u8, u8)]) -> Parts {
 
 #[test]
 fn a_witness_comes_back_without_what_lies_beyond() {
-    let parts = witness(2, 0xEE, &[(REMOVED, 258, 9, 255), (ADDED, 258, 8, 7), (3, 0, 0, 0)]);
-    let bytes = [0, 13, 1, 0, 2, 1, 1, 2, 9, 255, 2, 1, 2, 8, 7];
+    let parts = witness(2, 0xEE, &[(REMOVED, 258, 9, 255), (ADDED, 259, 8, 7), (3, 0, 0, 0)]);
+    let bytes = [0, 13, 1, 0, 2, 1, 1, 2, 9, 255, 2, 1, 3, 8, 7];
     // The count, 4,608 marks, times of two bytes, kinds and transitions.
     let numbers = [
         (1, 2),
@@ -250,7 +250,7 @@ fn a_witness_comes_back_without_what_lies_beyond() {
         (4_610, 1),
         (4_611, 2),
         (4_612, 1),
-        (4_613, 2),
+        (4_613, 3),
         (13_826, 9),
         (13_827, 8),
         (18_434, 255),
@@ -273,7 +273,7 @@ fn numbers_42_and_43() {
         refused(&witness(2, 0, &[(KEPT, 3, 0, 0), row]), 43, 1);
     }
     // At one time, and before it.
-    for row in [(KEPT, 3, 1, 0), (ADDED, 3, 0, 0), (REMOVED, 3, 1, 255), (ADDED, 2, 1, 0)] {
+    for row in [(KEPT, 3, 1, 0), (ADDED, 3, 1, 0), (REMOVED, 3, 1, 255), (ADDED, 2, 1, 0)] {
         refused(&witness(2, 0, &[(REMOVED, 3, 0, 255), row]), 43, 1);
     }
 }
@@ -283,15 +283,14 @@ fn as_many_as_there_are_places() {
     let rows: Vec<_> = (1..=512).map(|number| (8 * number, DATA)).collect();
     let (it, back) = recording_back(&SMALL_MONITOR, &heard(512, 0, &rows), &mut [0; 1_541]);
     assert_eq!((it, back), (answer(0, 0, 0), heard(512, 0, &rows)));
-    // Two rows at each of the first 512 times, one at every other.
-    let at = |time| match time {
-        1..=512 => vec![(REMOVED, time, 0, 255), (ADDED, time, 1, 0)],
-        _ => vec![(KEPT, time, 0, 0)],
-    };
-    let rows: Vec<_> = (1..=4_096).flat_map(at).collect();
-    let Parts::Witness(parts) = witness(4_608, 0, &rows) else { unreachable!() };
-    let back: (_, WitnessParts) = witness_back(&parts, &mut [0; 23_045]);
+    // A row at every time; the count may be higher, but then some row has no time left.
+    let at = |time| if time <= 512 { (REMOVED, time, 0, 255) } else { (ADDED, time, 1, 0) };
+    let rows: Vec<_> = (1..=4_096).map(at).collect();
+    let Parts::Witness(parts) = witness(4_096, 0, &rows) else { unreachable!() };
+    let back: (_, WitnessParts) = witness_back(&parts, &mut [0; 20_485]);
     assert_eq!(back, (answer(0, 0, 0), parts));
+    let more = [&rows[..], &[(ADDED, 4_096, 1, 0); 512]].concat();
+    refused(&witness(4_608, 0, &more), 43, 4_096);
     let small_monitor = TableParts::of(&read(&SMALL_MONITOR).unwrap());
     assert_eq!(table_back(&small_monitor, &mut [0; 68]), (answer(0, 0, 0), small_monitor));
 }

@@ -57,16 +57,19 @@ fn form_of_one_row() {
 
 #[test]
 fn form_of_two_rows() {
-    bad_form(&[(KEPT, 2, 0, 0), (KEPT, 1, 0, 0)], 1);
-    bad_form(&[(KEPT, 2, 0, 0), (KEPT, 2, 1, 0)], 1);
-    bad_form(&[(KEPT, 2, 0, 0), (ADDED, 2, 1, 0)], 1);
-    bad_form(&[(REMOVED, 2, 0, 255), (KEPT, 2, 1, 0)], 1);
-    bad_form(&[(REMOVED, 2, 0, 255), (REMOVED, 2, 1, 255)], 1);
-    bad_form(&[(ADDED, 2, 1, 0), (REMOVED, 2, 0, 255)], 1);
-    bad_form(&[(REMOVED, 2, 0, 255), (ADDED, 2, 0, 0)], 1);
-    bad_form(&[(REMOVED, 2, 0, 255), (ADDED, 2, 1, 0), (ADDED, 2, 2, 0)], 2);
-    let pair = witness(&[(REMOVED, 2, 0, 255), (ADDED, 2, 1, 0), (KEPT, 3, 0, 0)]);
-    assert_eq!(read(&bytes_of(&pair)), Ok(pair));
+    let at =
+        |time, kind| [(KEPT, time, kind, 0), (REMOVED, time, kind, 255), (ADDED, time, kind, 0)];
+    for first in at(2, 0) {
+        for second in at(1, 0).into_iter().chain(at(2, 0)).chain(at(2, 1)) {
+            bad_form(&[first, second], 1);
+            bad_form(&[first, second, (KEPT, 3, 0, 0)], 1);
+            bad_form(&[(KEPT, 1, 0, 0), first, second], 2);
+        }
+        for second in at(3, 0) {
+            let pair = witness(&[first, second]);
+            assert_eq!(read(&bytes_of(&pair)), Ok(pair));
+        }
+    }
 }
 
 #[test]
@@ -94,28 +97,45 @@ fn accepted_witnesses() {
     assert_eq!(check(&[], &[]), answer(0, 0, 0));
     assert_eq!(check(&[(1, DATA)], &[DATA_KEPT]), answer(0, 0, 1));
     assert_eq!(check(&[(1, ACK)], &[(REMOVED, 1, ACK, 255)]), answer(0, 1, 1));
-    // Removed takes no air, and another kind is added at its time.
-    let swapped = [(REMOVED, 1, ACK, 255), (ADDED, 1, DATA, 0)];
-    assert_eq!(check(&[(1, ACK)], &swapped), answer(0, 2, 2));
     // Rows after the last recorded time are permitted, up to the last time there is.
     let beyond = [DATA_KEPT, (ADDED, 4, ACK, 1), (ADDED, 4_096, DATA, 0)];
     assert_eq!(check(&[(1, DATA)], &beyond), answer(0, 2, 3));
-    // A removed row may stand inside the air of an added one.
-    let inside = [(ADDED, 1, DATA, 0), (REMOVED, 2, ACK, 255), (KEPT, 3, ACK, 1)];
-    assert_eq!(check(&[(2, ACK), (3, ACK)], &inside), answer(0, 2, 3));
 }
 
-/// With ACK at airtime 2, what is removed at 1 leaves 2 free, and what is added does not.
+/// With ACK at airtime 2, what is removed at 1 takes 2 and 3 as well; with airtime 0 it does not.
 #[test]
-fn removed_rows_take_no_air() {
-    let table = monitor_with(&[(13, 2)]);
-    let heard = recording(&[(1, ACK)]);
-    let rows = [(REMOVED, 1, ACK, 255), (ADDED, 2, DATA, 0), (ADDED, 4, ACK, 1)];
-    let run = |rows: &[Parts]| check_witness(&table, &heard, &bytes_of(&witness(rows)));
-    assert_eq!(run(&rows), answer(0, 3, 3));
-    let after = |time| [rows[0], rows[1], rows[2], (ADDED, time, DATA, 0)];
-    assert_eq!(run(&after(6)), answer(43, 3, 0));
-    assert_eq!(run(&after(7)), answer(0, 4, 4));
+fn removed_rows_take_their_airtime() {
+    let added = |airtime: u8, time: u16| {
+        let rows = witness(&[(REMOVED, 1, ACK, 255), (ADDED, time, DATA, 0)]);
+        let table = monitor_with(&[(13, airtime)]);
+        check_witness(&table, &recording(&[(1, ACK)]), &bytes_of(&rows))
+    };
+    for (airtime, time) in [(2, 1), (2, 2), (2, 3), (0, 1), (15, 16)] {
+        assert_eq!(added(airtime, time), answer(43, 1, 0), "{airtime} {time}");
+    }
+    for (airtime, time) in [(2, 4), (2, 9), (0, 2), (15, 17)] {
+        assert_eq!(added(airtime, time), answer(0, 2, 2), "{airtime} {time}");
+    }
+}
+
+/// DATA at 1 takes 2 as well, so ACK cannot have been on the air there.
+#[test]
+fn removed_rows_find_the_air_free() {
+    let removed = |time: u16| {
+        let rows = [(ADDED, 1, DATA, 0), (REMOVED, time, ACK, 255), (KEPT, 4, ACK, 1)];
+        check(&[(time, ACK), (4, ACK)], &rows)
+    };
+    assert_eq!(removed(2), answer(43, 1, 0));
+    assert_eq!(removed(3), answer(0, 2, 3));
+}
+
+/// What is removed takes the air and leaves the monitor as it was: ACK at 4 is still in time.
+#[test]
+fn removed_rows_leave_the_monitor_as_it_was() {
+    let rows = [DATA_KEPT, (REMOVED, 3, ACK, 255), (KEPT, 4, ACK, 1)];
+    assert_eq!(check(&[(1, DATA), (3, ACK), (4, ACK)], &rows), answer(0, 1, 3));
+    let rows = [DATA_KEPT, (REMOVED, 3, ACK, 255), (KEPT, 5, ACK, 1)];
+    assert_eq!(check(&[(1, DATA), (3, ACK), (5, ACK)], &rows), answer(43, 2, 0));
 }
 
 #[test]

@@ -3,15 +3,15 @@ use Prim.Native.Nat.{ℕ, _+_, _<_, _≤_}
 use native.Mathlib.Omega.{arith}
 use mathlib.Core.Path.{_≡_, refl, sym}
 use mathlib.Core.List.{List, [], _∷_, map}
-use mathlib.Core.Bool.{Bool, true, false, not, cond, _&&_, _||_, false≢true}
+use mathlib.Core.Bool.{Bool, true, false, not, cond, _&&_, _||_}
 use mathlib.Core.Option.{none, some}
 use lib.ListN.{length, getD}
-use lib.Dec.{leb, ltb, eqb}
+use lib.Dec.{leb, eqb}
 use borrow.Author.Tests.{ltb-true, leb-true, eqb-true, eq-eqb, ne-eqb}
 use Rattle.model.specs.Monitor.{wait}
 use Rattle.model.specs.declared.Config.{Config}
 use Rattle.model.specs.Limits.{timeLimit}
-use Rattle.model.specs.Witness.{added, noTransition, added, isRemoved, inForm, follows, inPlace}
+use Rattle.model.specs.Witness.{added, noTransition, isRemoved, inForm, follows, inPlace}
 use Rattle.model.proofs.Basics.{and-left, and-right}
 use Rattle.witness.specs.declared.Entry.{Entry}
 use Rattle.witness.specs.Rows.{rowOf}
@@ -41,29 +41,21 @@ wait-two c ticks h = λ i. record { state = c .state; variables = c .variables; 
     two (x ∷ y ∷ []) e = refl
     two (x ∷ y ∷ z ∷ l) e = absurd (omega arith)
 
--- where a row is in place its time is at most the last, and not below that of the row before
-pub place-times : (p e : Entry) → inPlace (beforeOf p) (rowOf e) ≡ true → (p .time ≤ e .time) × (e .time ≤ timeLimit) × (1 ≤ e .time)
-unfolding inForm follows
+-- where a row is in place its time is at most the last, and above that of the row before
+pub place-times : (p e : Entry) → inPlace (beforeOf p) (rowOf e) ≡ true → (p .time < e .time) × (e .time ≤ timeLimit)
+unfolding inForm
 place-times p e h = go (eqb (p .time) 0) refl h
   where
     late : (m o l n : Bool) → m && o && l && n ≡ true → (o ≡ true) × (l ≡ true)
     late m o l n q = let r : m && o && l ≡ true = and-left (m && o && l) n q in (and-right m o (and-left (m && o) l r), and-right (m && o) l r)
 
-    form : inForm (rowOf e) ≡ true → (e .time ≤ timeLimit) × (1 ≤ e .time)
+    form : inForm (rowOf e) ≡ true → (1 ≤ e .time) × (e .time ≤ timeLimit)
     form q =
         let r = late (leb (e .mark) added) (leb 1 (e .time)) (leb (e .time) timeLimit) (not (isRemoved (rowOf e)) || eqb (e .transition) noTransition) q in
-        (leb-true (e .time) timeLimit (r .1), leb-true 1 (e .time) (r .0))
+        (leb-true 1 (e .time) (r .0), leb-true (e .time) timeLimit (r .1))
 
-    behind : follows (rowOf p) (rowOf e) ≡ true → p .time ≤ e .time
-    behind q = either (ltb (p .time) (e .time)) (eqb (p .time) (e .time)) (isRemoved (rowOf p)) (eqb (e .mark) added) (not (eqb (p .kind) (e .kind))) refl refl q
-      where
-        either : (a b x y z : Bool) → ltb (p .time) (e .time) ≡ a → eqb (p .time) (e .time) ≡ b → a || (b && x && y && z) ≡ true → p .time ≤ e .time
-        either true b x y z la lb q = let t : p .time < e .time = ltb-true (p .time) (e .time) la in omega arith
-        either false true x y z la lb q = let t : p .time ≡ e .time = eqb-true (p .time) (e .time) lb in omega arith
-        either false false x y z la lb q = absurd (false≢true q)
-
-    go : (t : Bool) → eqb (p .time) 0 ≡ t → inPlace (cond t none (some (rowOf p))) (rowOf e) ≡ true → (p .time ≤ e .time) × (e .time ≤ timeLimit) × (1 ≤ e .time)
-    go true z q = let t : p .time ≡ 0 = eqb-true (p .time) 0 z in let f = form q in (omega arith, f .0, f .1)
+    go : (t : Bool) → eqb (p .time) 0 ≡ t → inPlace (cond t none (some (rowOf p))) (rowOf e) ≡ true → (p .time < e .time) × (e .time ≤ timeLimit)
+    go true z q = let t : p .time ≡ 0 = eqb-true (p .time) 0 z in let f = form q in (omega (arith, f .0), f .1)
     go false z q =
         let f = form (and-left (inForm (rowOf e)) (follows (rowOf p) (rowOf e)) q) in
-        (behind (and-right (inForm (rowOf e)) (follows (rowOf p) (rowOf e)) q), f .0, f .1)
+        (ltb-true (p .time) (e .time) (and-right (inForm (rowOf e)) (follows (rowOf p) (rowOf e)) q), f .1)

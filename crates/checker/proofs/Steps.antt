@@ -1,5 +1,5 @@
 -- What a row comes to, by the tests that the code has made.
-use Prim.Native.Nat.{ℕ, _+_, _-_, _<_, _≤_}
+use Prim.Native.Nat.{ℕ, _+_, _-_, _≤_}
 use native.Mathlib.Numerals.{add-one}
 use native.Mathlib.Omega.{arith}
 use mathlib.Core.Path.{_≡_, refl, sym, ap, _∙_}
@@ -7,7 +7,9 @@ use mathlib.Core.List.{List, [], _∷_, map}
 use mathlib.Core.Bool.{Bool, true, false, _&&_}
 use mathlib.Core.Option.{Option, none, some}
 use lib.ListN.{length, getD, drop, length-map}
-use borrow.Author.Tests.{le-leb, lt-leb, eq-eqb, ne-eqb}
+use lib.Dec.{leb}
+use borrow.Author.Tests.{le-leb, eq-eqb, ne-eqb}
+use Rattle.model.specs.Limits.{timeLimit}
 use Rattle.model.specs.Trace.{Packet}
 use Rattle.model.specs.Monitor.{Monitor, wait, fires, airtime, toUnit}
 use Rattle.model.specs.declared.Config.{Config}
@@ -30,34 +32,30 @@ read-two [] ticks h = absurd (omega arith)
 read-two (x ∷ []) ticks h = absurd (omega arith)
 read-two (x ∷ y ∷ l) ticks h = (refl, refl)
 
-module _ (m : Monitor) (ps : List Packet) (s : Standing) (e : Entry) (left : List Packet) where
-  pub sent-late : e .time < s .free → none ≡ sends m (progressOf ps s) (rowOf e) left
-  unfolding sends
-  sent-late h = rw (lt-leb (s .free) (e .time) h)
-
-  pub sent-unfired : s .free ≤ e .time → fires m (e .transition) (e .kind) (wait (e .time - s .now) (s .config)) ≡ none → none ≡ sends m (progressOf ps s) (rowOf e) left
-  unfolding sends
-  sent-unfired h f = rw (le-leb (s .free) (e .time) h, f)
+pub sent-unfired : (m : Monitor) (ps : List Packet) (s : Standing) (e : Entry) (left : List Packet)
+    → fires m (e .transition) (e .kind) (wait (e .time - s .now) (s .config)) ≡ none → none ≡ sends m (progressOf ps s) (rowOf e) left
+unfolding sends
+sent-unfired m ps s e left f = rw f
 
 module _ (m : Monitor) (ps : List Packet) (s : Standing) (e : Entry) (next : ℕ) where
-  pub sent-fired : (d : Config) (air : ℕ) → Ready s e → s .free ≤ e .time → fires m (e .transition) (e .kind) (wait (e .time - s .now) (s .config)) ≡ some d →
-      air ≡ airtime m (e .kind) → air < 256 →
+  pub sent-fired : (d : Config) (free : ℕ) → Ready s e → fires m (e .transition) (e .kind) (wait (e .time - s .now) (s .config)) ≡ some d →
+      free ≡ e .time + airtime m (e .kind) + 1 → free ≤ timeLimit + 256 →
       Stepped ps (sends m (progressOf ps s) (rowOf e) (drop next ps))
-      (record { sound = true; to = record { before = e; next = next; now = e .time; free = e .time + air + 1; config = d } })
+      (record { sound = true; to = record { before = e; next = next; now = e .time; free = free; config = d } })
   unfolding sends
-  sent-fired d air ready h f g small =
+  sent-fired d free ready f g small =
       let b = ready .bounded in
       let two : length (d .clocks) ≡ 2 = fired-length m (e .transition) (e .kind) (wait (e .time - s .now) (s .config)) d f ∙ length-map (s .config .clocks) (λ x. x + (e .time - s .now)) ∙ b .clocks in
       let below = fired-below m (e .transition) (e .kind) (wait (e .time - s .now) (s .config)) d f in
       let read = read-two (s .config .clocks) (e .time - s .now) (b .clocks) in
       record {
-        is = rw (le-leb (s .free) (e .time) h, f, ← g, ne-eqb (e .time) 0 (λ q. omega (arith, ready .first)));
+        is = rw (f, ← g, ne-eqb (e .time) 0 (λ q. omega (arith, ready .behind)));
         bounded =
             λ q.
             record {
               fired = omega arith;
               last = ready .last;
-              free = omega (arith, ready .last);
+              free = small;
               clocks = two;
               first = omega (arith, below 0, read .0, b .first, b .fired, ready .behind);
               second = omega (arith, below 1, read .1, b .second, b .fired, ready .behind);
@@ -80,20 +78,20 @@ module _ (m : Monitor) (ps : List Packet) (s : Standing) (e : Entry) where
   unfolding removes
   not-removed next unit n u h = rw (n, u, h)
 
-  pub removed-step : Ready s e → isNext (drop (s .next) ps) (rowOf e) ≡ true → toUnit m (e .kind) ≡ true →
+  pub removed-step : (free : ℕ) → Ready s e → free ≡ e .time + airtime m (e .kind) + 1 → free ≤ timeLimit + 256 → isNext (drop (s .next) ps) (rowOf e) ≡ true → toUnit m (e .kind) ≡ true →
       Stepped ps (removes m p (rowOf e))
-      (record { sound = true; to = record { before = e; next = s .next + 1; now = s .now; free = s .free; config = s .config } })
+      (record { sound = true; to = record { before = e; next = s .next + 1; now = s .now; free = free; config = s .config } })
   unfolding removes
-  removed-step ready n u =
+  removed-step free ready g small n u =
       let b = ready .bounded in
       record {
-        is = rw (n, u, ne-eqb (e .time) 0 (λ q. omega (arith, ready .first)), others-drop (s .next) ps, add-one (s .next));
+        is = rw (n, u, ← g, ne-eqb (e .time) 0 (λ q. omega (arith, ready .behind)), others-drop (s .next) ps, add-one (s .next));
         bounded =
             λ q.
             record {
               fired = omega (arith, b .fired, ready .behind);
               last = ready .last;
-              free = b .free;
+              free = small;
               clocks = b .clocks;
               first = b .first;
               second = b .second;
@@ -108,27 +106,27 @@ module _ (m : Monitor) (ps : List Packet) (s : Standing) (e : Entry) where
   unfolding adds
   added-sent h = rw h
 
-  -- a row whose form and time are right goes by its mark
+  -- a row whose form and time are right, where the air is free, goes by its mark
 
-  pub not-accounted : (place early : Bool) → inPlace (beforeOf (s .before)) (rowOf e) ≡ place → noneBefore (drop (s .next) ps) (e .time) ≡ early → place && early ≡ false →
-      none ≡ account m p (rowOf e)
+  pub not-accounted : (place early free : Bool) → inPlace (beforeOf (s .before)) (rowOf e) ≡ place → noneBefore (drop (s .next) ps) (e .time) ≡ early →
+      leb (s .free) (e .time) ≡ free → place && early && free ≡ false → none ≡ account m p (rowOf e)
   unfolding account
-  not-accounted place early a b h = rw (a, b, h)
+  not-accounted place early free a b d h = rw (a, b, d, h)
 
-  module _ (a : inPlace (beforeOf (s .before)) (rowOf e) ≡ true) (b : noneBefore (drop (s .next) ps) (e .time) ≡ true) where
+  module _ (a : inPlace (beforeOf (s .before)) (rowOf e) ≡ true) (b : noneBefore (drop (s .next) ps) (e .time) ≡ true) (d : s .free ≤ e .time) where
     pub account-kept : e .mark ≡ 0 → keeps m p (rowOf e) ≡ account m p (rowOf e)
     unfolding account
-    account-kept k = rw (a, b, eq-eqb (e .mark) 0 k)
+    account-kept k = rw (a, b, le-leb (s .free) (e .time) d, eq-eqb (e .mark) 0 k)
 
     pub account-removed : e .mark ≡ 1 → removes m p (rowOf e) ≡ account m p (rowOf e)
     unfolding account
-    account-removed k = rw (a, b, ne-eqb (e .mark) 0 (λ q. omega arith), eq-eqb (e .mark) 1 k)
+    account-removed k = rw (a, b, le-leb (s .free) (e .time) d, ne-eqb (e .mark) 0 (λ q. omega arith), eq-eqb (e .mark) 1 k)
 
     pub account-added : (e .mark ≡ 0 → ⊥) → (e .mark ≡ 1 → ⊥) → adds m p (rowOf e) ≡ account m p (rowOf e)
     unfolding account
-    account-added n r = rw (a, b, ne-eqb (e .mark) 0 n, ne-eqb (e .mark) 1 r)
+    account-added n r = rw (a, b, le-leb (s .free) (e .time) d, ne-eqb (e .mark) 0 n, ne-eqb (e .mark) 1 r)
 
 pub ready-row : (s : Standing) (e : Entry) → Bounded s → inPlace (beforeOf (s .before)) (rowOf e) ≡ true → Ready s e
 ready-row s e b h =
     let t = place-times (s .before) e h in
-    record { bounded = b; behind = t .0; last = t .1; first = t .2 }
+    record { bounded = b; behind = t .0; last = t .1 }

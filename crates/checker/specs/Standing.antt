@@ -1,5 +1,5 @@
 -- What the code's small state stands for among the model's rows and progress.
-use Prim.Native.Nat.{_+_, _≤_}
+use Prim.Native.Nat.{_+_, _<_, _≤_}
 use mathlib.Core.Path.{_≡_}
 use mathlib.Core.List.{List}
 use mathlib.Core.Bool.{true, cond}
@@ -47,9 +47,8 @@ pub record Bounded (s : Standing) : Type 0 where
 -- a row that is in place behind a state in its bounds
 pub record Ready (s : Standing) (e : Entry) : Type 0 where
   pub bounded : Bounded s
-  pub behind : s .before .time ≤ e .time
+  pub behind : s .before .time < e .time
   pub last : e .time ≤ timeLimit
-  pub first : 1 ≤ e .time
 
 -- a step is the model's, and leaves the state in its bounds
 pub record Stepped (recording : List Packet) (next : Option Progress) (s : Step) : Type 0 where

@@ -21,10 +21,11 @@ ghost use mathlib.Core.Path.{_≡_};
 ghost use mathlib.Core.List.{List};
 ghost use mathlib.Core.Bool.{true, cond};
 ghost use mathlib.Core.Option.{none};
-ghost use Prim.Native.Nat.{_+_, _<_, _≤_};
+ghost use Prim.Native.Nat.{ℕ, _+_, _<_, _≤_};
 ghost use lib.Dec.{eqb};
 ghost use lib.ListN.{length, getD, drop};
-ghost use Rattle.model.specs.Monitor.{wait};
+ghost use Rattle.model.specs.Limits.{timeLimit};
+ghost use Rattle.model.specs.Monitor.{wait, airtime};
 ghost use Rattle.model.specs.Trace.{Packet};
 ghost use Rattle.model.specs.Recording.{recordingAnswer, packetsAt};
 ghost use Rattle.model.specs.Witness.{kept, inPlace, rowsAt, witnessFrame};
@@ -115,14 +116,19 @@ fn refused(s: Standing) -> Step
     }
 }
 
-// A kept or added row: the air is free, and its transition has its kind and fires.
+// The first time at which the air is free behind a row, which takes it for its airtime.
+fn free_after(table: &[u8], e: Entry) -> u16
+    requires { ⌜ e .time ≤ timeLimit ⌝ }
+    ensures { λ r. ⌜ ((offsets : List ℕ) → r ≡ e .time + airtime (monitorFrom (now (table .entry)) offsets) (e .kind) + 1) × (r ≤ timeLimit + 256) ⌝ }
+{
+    e.time + airtime_of(table, e.kind) as u16 + 1
+}
+
+// A kept or added row: its transition has its kind and fires.
 fn sent<'a>(table: &'a [u8], offsets: &'a [u16], s: Standing, e: Entry, next: u16) -> Step
     requires { ⌜ Ready s e ⌝ }
     ensures { λ r. ⌜ ((recording : List Packet) → Stepped recording (sends (monitorFrom (now (table .entry)) (now (offsets .entry))) (progressOf recording s) (rowOf e) (drop next recording)) r) ⌝ }
 {
-    if e.time < s.free {
-        return refused(s);
-    }
     let c = s.config;
     let then = fire(
         table,
@@ -135,7 +141,7 @@ fn sent<'a>(table: &'a [u8], offsets: &'a [u16], s: Standing, e: Entry, next: u1
         return refused(s);
     }
     let config = then.to;
-    let free = e.time + airtime_of(table, e.kind) as u16 + 1;
+    let free = free_after(table, e);
     Step {
         sound: true,
         to: Standing {
@@ -165,7 +171,7 @@ fn keep_row<'a>(
     sent(table, offsets, s, e, next + 1)
 }
 
-// A removed row is to the unit, and takes no air.
+// A removed row is to the unit, which missed it: the monitor stays where it was.
 fn remove_row<'a>(
     table: &'a [u8],
     offsets: &'a [u16],
@@ -185,13 +191,14 @@ fn remove_row<'a>(
     }
     let config = s.config;
     let following = next + 1;
+    let behind = free_after(table, e);
     Step {
         sound: true,
         to: Standing {
             before: e,
             next: following,
             now: s.now,
-            free: s.free,
+            free: behind,
             config,
         },
     }
@@ -208,7 +215,7 @@ fn add_row<'a>(table: &'a [u8], offsets: &'a [u16], recording: &[u8], s: Standin
     sent(table, offsets, s, e, next)
 }
 
-// The next row: its form, and the rule for its mark.
+// The next row: its form, the air, which it finds free, and the rule for its mark.
 fn accounted<'a>(
     table: &'a [u8],
     offsets: &'a [u16],
@@ -225,6 +232,9 @@ fn accounted<'a>(
         return refused(s);
     }
     if !none_before(recording, next, e.time) {
+        return refused(s);
+    }
+    if e.time < s.free {
         return refused(s);
     }
     if e.mark == KEPT {

@@ -243,17 +243,17 @@ module _ (table offsets recording : List ℕ) (g : Measures) (set : Setting tabl
       ap (λ (u : ℕ). rowsOf (monitorAt table) (packetsAt recording) (g .last + 1) (leastFrom (sizeOf table) moveLimit (stepOf table recording) u (g .last) n)) none-left
       ∙ ap (rowsOf (monitorAt table) (packetsAt recording) (g .last + 1)) (leastFrom-zero (sizeOf table) moveLimit (stepOf table recording) (g .last) n)
 
-  pub rows-fit : length (preferred (monitorAt table) (packetsAt recording)) ≤ g .last + length (packetsAt recording)
+  -- at most one row an instant
+  pub rows-fit : length (preferred (monitorAt table) (packetsAt recording)) ≤ g .last
   unfolding preferred
   rows-fit =
       omega (
         arith,
         set .end,
-        rows-short (monitorAt table) (packetsAt recording) (set .sound) (movesOf (monitorAt table) (packetsAt recording)),
+        rows-short (monitorAt table) (packetsAt recording) 1 (movesOf (monitorAt table) (packetsAt recording)),
         length-least (sizeOf table) moveLimit (stepOf table recording) (firstNumber (monitorAt table)) (endOf (packetsAt recording)),
       )
 
-  -- a witness has at most 4,096 + 512 rows
   pub rows-few : length (preferred (monitorAt table) (packetsAt recording)) ≤ witnessLimit
   rows-few = omega (arith, rows-fit)
 

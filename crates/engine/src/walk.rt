@@ -109,7 +109,7 @@ fn put_added<'a>(
     )
 }
 
-// The rows of move k at instant t.
+// The row of move k at instant t, if it has one.
 fn put_move<'a>(
     table: &'a [u8],
     offsets: &'a [u16],
@@ -125,11 +125,10 @@ fn put_move<'a>(
     if k < REST {
         return put_heard(room, r, KEPT, t, heard, k as u8);
     }
-    let next = put_heard(room, r, REMOVED, t, heard, NO_TRANSITION);
     if k == REST {
-        return next;
+        return put_heard(room, r, REMOVED, t, heard, NO_TRANSITION);
     }
-    put_added(table, offsets, room, next, t, k - FIRST_ADD)
+    put_added(table, offsets, room, r, t, k - FIRST_ADD)
 }
 
 // What stands before the rows.

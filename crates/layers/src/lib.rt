@@ -42,7 +42,7 @@ struct Tries {
     end: usize,
 }
 
-// No move leads anywhere but these: a taken air leaves only REST, and nothing is kept where nothing is recorded.
+// No move leads anywhere but these: a taken air leaves only REST, nothing is kept where no row is recorded, and nothing is added where one is.
 fn worth(table: &[u8], heard: Heard, s: Situation) -> Tries
     ensures { λ r. ⌜ ((o : List ℕ) (h : Shape) → Enough (arriveFrom (now (table .entry)) o h (heardOf heard) s) (r .kept) (r .end)) ⌝ }
 {
@@ -60,7 +60,7 @@ fn worth(table: &[u8], heard: Heard, s: Situation) -> Tries
         },
         Heard::Kind(_) => Tries {
             kept: count,
-            end: FIRST_ADD + count,
+            end: FIRST_ADD,
         },
     }
 }

@@ -11,9 +11,9 @@ use lib.ListN.{getD, getElem?}
 use lib.Dec.{eqb}
 use borrow.Author.Tests.{lt-ltb, eq-eqb}
 use Rattle.model.specs.Guard.{Guard, always, atMost, atLeast, variable, negation, conjunction, holds, largest}
-use Rattle.model.specs.Monitor.{Monitor, Transition, fires, after, enabled, reset, toUnit}
+use Rattle.model.specs.Monitor.{Monitor, Config, Transition, fires, after, enabled, reset, toUnit, airtime}
 use Rattle.model.specs.Size.{largestIn, largestBound, cap, size}
-use Rattle.model.specs.Situation.{TwoClocks, InRange, Move, keep, rest, add, configOf, capped, uncapped, firstBy, firstNumber, sent, triggerOf, moved, tick, stepBy, recordedAt, moveOf, moveLimit, number, stepNumber}
+use Rattle.model.specs.Situation.{TwoClocks, InRange, Move, keep, rest, add, configOf, withAir, capped, uncapped, firstBy, firstNumber, onAir, sent, missed, triggerOf, moved, tick, stepBy, recordedAt, moveOf, moveLimit, number, stepNumber}
 use Rattle.model.specs.Trace.{Packet}
 use Rattle.model.specs.declared.Situation.{Situation}
 use Rattle.model.specs.Sane.{Sane, Closed}
@@ -106,30 +106,37 @@ module _ {m : Monitor} (sane : Sane m) (s : Situation) (two : TwoClocks (s .cloc
           ap {B = Option Situation} (λ (c : List ℕ). some (record { state = u .state; variables = u .variables; clocks = c; air = u .air })) (reset-ticked m (t .resets) (s .clocks) two)
       on false = refl
 
+  alike-air : (k : ℕ) (o r : Option Config) → Alike m (Option·map (sending m k) o) (Option·map (sending m k) r) → Alike m (onAir m k (written m s) o) (onAir m k s r)
+  alike-air k o r = alike-cond m (eqb (s .air) 0) (Option·map (sending m k) o) (Option·map (sending m k) r)
+
   alike-sent : (j k : ℕ) → Alike m (sent m j k (written m s)) (sent m j k s)
   unfolding sent fires bind
-  alike-sent j k =
-      alike-cond m (eqb (s .air) 0) (Option·map (sending m k) (fires m j k (configOf (written m s)))) (Option·map (sending m k) (fires m j k (configOf s)))
-      (on (getElem? (m .transitions) j) (alike-fired j k))
+  alike-sent j k = alike-air k (fires m j k (configOf (written m s))) (fires m j k (configOf s)) (on (getElem? (m .transitions) j) (alike-fired j k))
     where
       on : (o : Option Transition) → ((t : Transition) → o ≡ some t → Alike m (Option·map (sending m k) (outcome m k (configOf (written m s)) t)) (Option·map (sending m k) (outcome m k (configOf s) t))) → Alike m (Option·map (sending m k) (bind o (outcome m k (configOf (written m s))))) (Option·map (sending m k) (bind o (outcome m k (configOf s))))
       on none h = refl
       on (some t) h = h t refl
 
-  alike-rest : Alike m (some (written m s)) (some s)
-  alike-rest = ap {B = Option Situation} (λ (c : List ℕ). some (record { state = s .state; variables = s .variables; clocks = c; air = s .air - 1 })) (ticked m (s .clocks) two)
+  -- the tick alone, whatever it leaves of the air
+  alike-rest : (air : ℕ) → Alike m (some (withAir (configOf (written m s)) air)) (some (withAir (configOf s) air))
+  alike-rest air = ap {B = Option Situation} (λ (c : List ℕ). some (record { state = s .state; variables = s .variables; clocks = c; air = air - 1 })) (ticked m (s .clocks) two)
+
+  alike-missed : (k : ℕ) → Alike m (missed m k (written m s)) (missed m k s)
+  unfolding missed
+  alike-missed k = alike-air k (cond (toUnit m k) (some (configOf (written m s))) none) (cond (toUnit m k) (some (configOf s)) none) (on (toUnit m k))
+    where
+      on : (b : Bool) → Alike m (Option·map (sending m k) (cond b (some (configOf (written m s))) none)) (Option·map (sending m k) (cond b (some (configOf s)) none))
+      on true = alike-rest (airtime m k + 1)
+      on false = refl
 
   alike-moved : (recorded : Option ℕ) (a : Move) → Alike m (moved m recorded (written m s) a) (moved m recorded s a)
   unfolding moved
   alike-moved none (keep j) = refl
-  alike-moved none rest = alike-rest
+  alike-moved none rest = alike-rest (s .air)
   alike-moved none (add j) = alike-bind m (triggerOf m j) (λ k. sent m j k (written m s)) (λ k. sent m j k s) (λ k. alike-sent j k)
   alike-moved (some r) (keep j) = alike-sent j r
-  alike-moved (some r) rest = alike-cond m (toUnit m r) (some (written m s)) (some s) alike-rest
-  alike-moved (some r) (add j) =
-      let other : ℕ → Bool = λ k. toUnit m r && not (eqb k r) in
-      alike-bind m (triggerOf m j) (λ k. cond (other k) (sent m j k (written m s)) none) (λ k. cond (other k) (sent m j k s) none)
-      (λ k. alike-cond m (other k) (sent m j k (written m s)) (sent m j k s) (alike-sent j k))
+  alike-moved (some r) rest = alike-missed r
+  alike-moved (some r) (add j) = refl
 
   pub capped-step : (recorded : Option ℕ) (a : Move) → stepBy m (capped m) recorded (written m s) a ≡ Option·map (written m) (stepBy m uncapped recorded s a)
   unfolding stepBy
@@ -139,9 +146,12 @@ module _ {m : Monitor} (sane : Sane m) (s : Situation) (two : TwoClocks (s .cloc
   unfolding reset
   step-two-clocks recorded a e =
       every-step m uncapped s (λ x. TwoClocks (x .clocks))
-      (of-two (λ c. TwoClocks (map (λ x. x + 1) c)) (λ x y. refl) (s .clocks) two)
+      waited (λ k. waited)
       (λ j k t q. of-two (λ c. TwoClocks (map (λ x. x + 1) (reset (t .resets) c))) (λ x y. refl) (s .clocks) two)
       recorded a e
+    where
+      waited : TwoClocks (map (λ x. x + 1) (s .clocks))
+      waited = of-two (λ c. TwoClocks (map (λ x. x + 1) c)) (λ x y. refl) (s .clocks) two
 
 -- lists of moves: the general form starts at any instant, from the number of a situation with real clocks
 

@@ -7,7 +7,7 @@ use mathlib.Core.Bool.{cond}
 use lib.Dec.{eqb}
 use Rattle.model.specs.Recording.{packetsAt}
 use Rattle.model.specs.Table.{monitorAt}
-use Rattle.model.specs.Witness.{Row, kept, removed, noTransition, inForm, follows}
+use Rattle.model.specs.Witness.{Row, kept, removed, noTransition, inForm}
 use Rattle.model.specs.Rules.{sends, removes, keeps, adds, account, broken, Permits}
 use Rattle.model.specs.Validation.{preferred}
 use Rattle.model.proofs.Examples.{run}
@@ -47,7 +47,7 @@ pub record NotTheMost : Type 0 where
   pub fewer : keptRows keepsFirst < keptRows keepsMost
 
 pub not-the-most : NotTheMost
-unfolding table recording keepsFirst keepsMost keptRows run row sends removes keeps adds account broken inForm follows
+unfolding table recording keepsFirst keepsMost keptRows run row sends removes keeps adds account broken inForm
 not-the-most =
     record {
       first = refl;

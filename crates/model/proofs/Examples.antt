@@ -12,7 +12,7 @@ use Rattle.model.specs.Monitor.{changed, reset, fires}
 use Rattle.model.specs.Size.{largestIn, greatest, cap, size}
 use Rattle.model.specs.Table.{guardIn, transitionIn, monitorOf, countsOf, kindRecord, kindRecords, apart, transitionFields, guardRecord, transitionRecord, transitionRecords, transitionAt, guardPlace, tableParts, tableScan, tableAnswer, monitorAt}
 use Rattle.model.specs.Recording.{clearOfBefore, recordedRow, recordedRows, recordingFrame, recordingScan, recordingAnswer, recordingParts, packetsOf, packetsAt, endOf}
-use Rattle.model.specs.Situation.{capped, sent, moved, stepBy, recordedAt, moveOf, number, situationOf, stepNumber}
+use Rattle.model.specs.Situation.{capped, sent, missed, moved, stepBy, recordedAt, moveOf, number, situationOf, stepNumber}
 use Rattle.model.specs.Layers.{count, firstFrom, spread, image, layer, total, lastInstant, cost, passing, leads, live, walk, leastMoves}
 use Rattle.model.specs.Numbers.{Values, values, verdictValues}
 use Rattle.model.specs.Witness.{rowsBytes, witnessBytes}
@@ -32,7 +32,7 @@ dirtyRoom : List ℕ
 dirtyRoom = replicate 90 9
 
 unfoldable pub run : (table recording : List ℕ) → ℕ → Run
-unfolding dirtyScratch dirtyRoom tab joined padded holds largest leafAt guardAt changed reset fires largestIn greatest cap size guardIn transitionIn monitorOf framed framedRows countsOf kindRecord kindRecords apart transitionFields guardRecord transitionRecord transitionRecords transitionAt guardPlace tableParts tableScan tableAnswer clearOfBefore recordedRow recordedRows recordingFrame recordingScan recordingAnswer recordingParts packetsOf endOf capped sent moved stepBy recordedAt moveOf number situationOf stepNumber count firstFrom spread image layer total lastInstant cost passing leads live walk leastMoves rowsBy rowsOf preferred verdict refusal validation bind rowsBytes witnessBytes scratchAfter roomAfter
+unfolding dirtyScratch dirtyRoom tab joined padded holds largest leafAt guardAt changed reset fires largestIn greatest cap size guardIn transitionIn monitorOf framed framedRows countsOf kindRecord kindRecords apart transitionFields guardRecord transitionRecord transitionRecords transitionAt guardPlace tableParts tableScan tableAnswer clearOfBefore recordedRow recordedRows recordingFrame recordingScan recordingAnswer recordingParts packetsOf endOf capped sent missed moved stepBy recordedAt moveOf number situationOf stepNumber count firstFrom spread image layer total lastInstant cost passing leads live walk leastMoves rowsBy rowsOf preferred verdict refusal validation bind rowsBytes witnessBytes scratchAfter roomAfter
 run table recording budget =
     record {
       answer = verdictValues (validation table recording budget (length dirtyScratch) (length dirtyRoom));
@@ -50,7 +50,7 @@ refused : Values → Run
 unfolding dirtyScratch dirtyRoom
 refused answer = record { answer = answer; scratch = dirtyScratch; room = dirtyRoom }
 
-pub table : List ℕ
+unfoldable pub table : List ℕ
 table =
     0x00 ∷ 0x42 ∷ 0x01 ∷ 0x03 ∷ 0x00 ∷ 0x01 ∷ 0x03 ∷ 0x05 ∷ 0x00 ∷ 0x01 ∷ 0x00 ∷ 0x01 ∷ 0x01 ∷ 0x00 ∷ 0x00 ∷ 0x01 ∷ 0x00
     ∷ 0x00 ∷ 0x00 ∷ 0x01 ∷ 0x01 ∷ 0x00 ∷ 0x01 ∷ 0x00 ∷ 0x02 ∷ 0x00 ∷ 0x00 ∷ 0x00 ∷ 0x03 ∷ 0x01 ∷ 0x00 ∷ 0x03 ∷ 0x01 ∷ 0x02
@@ -63,7 +63,7 @@ table =
 one : (t k : ℕ) → List ℕ
 one t k = 0 ∷ 6 ∷ 1 ∷ 0 ∷ 1 ∷ 0 ∷ t ∷ k ∷ []
 
-two : (t k u l : ℕ) → List ℕ
+unfoldable pub two : (t k u l : ℕ) → List ℕ
 two t k u l = 0 ∷ 9 ∷ 1 ∷ 0 ∷ 2 ∷ 0 ∷ t ∷ k ∷ 0 ∷ u ∷ l ∷ []
 
 pub p5 : List ℕ

@@ -1,20 +1,19 @@
 -- Demand 2 in the paper's words: a formed witness breaks no rule exactly when it explains the recording, and what explains it makes it possible.
-use Prim.Native.Nat.{ℕ, zero, suc, _+_, _-_, _<_, _≤_}
+use Prim.Native.Nat.{ℕ, zero, suc, _+_, _-_, _≤_}
 use native.Mathlib.Omega.{arith}
 use mathlib.Core.Path.{_≡_, refl, sym, ap, subst, _∙_}
 use mathlib.Core.List.{List, [], _∷_, List·Memᴰ, List·Memᴰ·head, List·Memᴰ·tail, List·Memᴰ·cases-cons, List·Memᴰ·not-nil}
 use mathlib.Core.Bool.{Bool, true, false, cond, not, _&&_, _||_, false≢true}
 use mathlib.Core.Option.{Option, none, some, Option·map}
 use mathlib.Core.Logic.{_↔_, _⊎_, inl, inr, ⊎-elim}
-use lib.Dec.{leb, ltb, eqb}
+use lib.Dec.{leb, eqb}
 use borrow.Author.Tests.{ltb-true, leb-true, eqb-true, le-leb, eq-eqb, ne-eqb}
 use Rattle.model.specs.Limits.{timeLimit}
 use Rattle.model.specs.Monitor.{Monitor, Config, start, wait, fires, toUnit, airtime}
 use Rattle.model.specs.Trace.{Packet, Spaced, PacketTrace, Carries, Possible}
 use Rattle.model.specs.Witness.{Row, kept, removed, added, noTransition, isRemoved, inForm, follows, inPlace, misformed, Formed, marked}
-use Rattle.model.specs.Rules.{Progress, begin, noneBefore, isNext, noneAt, others, sends, removes, keeps, adds, account, broken}
+use Rattle.model.specs.Rules.{Progress, begin, noneBefore, isNext, noneAt, others, behindRow, sends, removes, keeps, adds, account, broken}
 use Rattle.model.specs.Claims.{packetOf, heard, sentRows, packets, CarriedBy, Explains}
-use Rattle.model.proofs.SetLaws.{or-cases}
 use Rattle.model.proofs.Basics.{and-left, and-right, both-true}
 
 -- tests and options
@@ -43,16 +42,6 @@ form-limits r e =
     let h = and-first (leb (r .mark) 2) (leb 1 (r .time)) (leb (r .time) timeLimit) (not (isRemoved r) || eqb (r .transition) noTransition) e in
     (leb-true (r .mark) 2 (h .0), leb-true 1 (r .time) (h .1))
 
--- a row behind b is later, or b is removed and it has the same time
-follows-cases : (b r : Row) → follows b r ≡ true → (b .time < r .time) ⊎ ((b .time ≡ r .time) × (isRemoved b ≡ true))
-unfolding follows
-follows-cases b r e =
-    ⊎-elim (λ h. inl (ltb-true (b .time) (r .time) h)) (λ h. inr (same (and-first (eqb (b .time) (r .time)) (isRemoved b) (eqb (r .mark) added) (not (eqb (b .kind) (r .kind))) h)))
-    (or-cases (ltb (b .time) (r .time)) (eqb (b .time) (r .time) && isRemoved b && eqb (r .mark) added && not (eqb (b .kind) (r .kind))) e)
-  where
-    same : (eqb (b .time) (r .time) ≡ true) × (isRemoved b ≡ true) → (b .time ≡ r .time) × (isRemoved b ≡ true)
-    same h = (eqb-true (b .time) (r .time) (h .0), h .1)
-
 inPlace-form : (b : Option Row) (r : Row) → inPlace b r ≡ true → inForm r ≡ true
 inPlace-form none r e = e
 inPlace-form (some b) r e = and-left _ _ e
@@ -70,21 +59,20 @@ abbrev From : ℕ → List Row → Type 0
 From u [] = Unit {0}
 From u (r ∷ rs) = u ≤ r .time
 
-from-next : (u : ℕ) (b : Row) (i : ℕ) (rs : List Row) → u ≤ b .time → misformed (some b) i rs ≡ none → From u rs
-from-next u b i [] h e = tt
-from-next u b i (r ∷ rs) h e = ⊎-elim (λ l. omega arith) (λ l. omega arith) (follows-cases b r (and-right (inForm r) (follows b r) (misformed-cons (some b) i r rs e .0)))
+from-down : (u v : ℕ) (rows : List Row) → u ≤ v → From v rows → From u rows
+from-down u v [] h f = tt
+from-down u v (r ∷ rs) h f = omega arith
 
--- behind a row that is not removed, each row is later
-from-past : (b : Row) (i : ℕ) (rs : List Row) → isRemoved b ≡ false → misformed (some b) i rs ≡ none → From (suc (b .time)) rs
-from-past b i [] n e = tt
-from-past b i (r ∷ rs) n e =
-    ⊎-elim (λ l. l) (λ l. let z : false ≡ true = sym n ∙ l .1 in absurd (false≢true z)) (follows-cases b r (and-right (inForm r) (follows b r) (misformed-cons (some b) i r rs e .0)))
+-- behind a row, each row is later
+from-past : (b : Row) (i : ℕ) (rs : List Row) → misformed (some b) i rs ≡ none → From (suc (b .time)) rs
+from-past b i [] e = tt
+from-past b i (r ∷ rs) e = ltb-true (b .time) (r .time) (and-right (inForm r) (follows b r) (misformed-cons (some b) i r rs e .0))
 
--- times do not fall: neither do those of the recorded rows
+-- the recorded rows are not before u either
 heard-from : (u : ℕ) (b : Option Row) (i : ℕ) (rows : List Row) → misformed b i rows ≡ none → From u rows → noneBefore (heard rows) u ≡ true
 unfolding heard
 heard-from u b i [] e h = refl
-heard-from u b i (r ∷ rs) e h = go (eqb (r .mark) added) (heard-from u (some r) (suc i) rs e' (from-next u r (suc i) rs h e'))
+heard-from u b i (r ∷ rs) e h = go (eqb (r .mark) added) (heard-from u (some r) (suc i) rs e' (from-down u (suc (r .time)) rs (omega arith) (from-past r (suc i) rs e')))
   where
     e' : misformed (some r) (suc i) rs ≡ none
     e' = misformed-cons b i r rs e .1
@@ -122,40 +110,31 @@ clear-spaced m p (q ∷ qs) = (λ c. (omega arith, c .2), λ c. (omega arith, om
 record Continues (m : Monitor) (p : Progress) (rows : List Row) : Type 0 where
   accounts : heard rows ≡ p .left
   inbound : (r : Row) → List·Memᴰ r rows → r .mark ≡ removed → toUnit m (r .kind) ≡ true
-  clear : Clear m (p .free) (packets (sentRows rows))
+  clear : Clear m (p .free) (packets rows)
   carried : CarriedBy m (p .now) (p .config) (sentRows rows)
 
--- a sent row and what is behind it
-
-abbrev sentTo : Monitor → Row → List Packet → Config → Progress
-sentTo m r left c = record { before = some r; left = left; now = r .time; config = c; free = r .time + airtime m (r .kind) + 1 }
-
-abbrev removedTo : Progress → Row → Progress
-removedTo p r = record { before = some r; left = others (p .left); now = p .now; config = p .config; free = p .free }
+-- a row on the air and what is behind it
+clear-cons : (m : Monitor) (free : ℕ) (r : Row) (rs : List Row) → inForm r ≡ true → free ≤ r .time
+    → Clear m (r .time + airtime m (r .kind) + 1) (packets rs) → Clear m free (packetOf r ∷ packets rs)
+clear-cons m free r rs f h c = (form-limits r f .1, h, clear-spaced m (packetOf r) (packets rs) .0 c)
 
 module _ (m : Monitor) (p : Progress) (r : Row) (left : List Packet) where
-  sends-some : {q : Progress} → sends m p r left ≡ some q → (c : Config) × (p .free ≤ r .time) × (fires m (r .transition) (r .kind) (wait (r .time - p .now) (p .config)) ≡ some c) × (sentTo m r left c ≡ q)
+  sends-some : {q : Progress} → sends m p r left ≡ some q
+      → (c : Config) × (fires m (r .transition) (r .kind) (wait (r .time - p .now) (p .config)) ≡ some c) × (behindRow m r left (r .time) c ≡ q)
   unfolding sends
-  sends-some e =
-      let h = cond-some _ _ e in
-      let g = map-some (sentTo m r left) (fires m (r .transition) (r .kind) (wait (r .time - p .now) (p .config))) (h .1) in
-      (g .0, leb-true (p .free) (r .time) (h .0), g .1, g .2)
+  sends-some e = map-some (behindRow m r left (r .time)) (fires m (r .transition) (r .kind) (wait (r .time - p .now) (p .config))) e
 
-  some-sends : (c : Config) → p .free ≤ r .time → fires m (r .transition) (r .kind) (wait (r .time - p .now) (p .config)) ≡ some c → sends m p r left ≡ some (sentTo m r left c)
+  sent-continues : (rs : List Row) {q : Progress} → sends m p r left ≡ some q → Continues m q rs
+      → (heard rs ≡ left) × Clear m (r .time + airtime m (r .kind) + 1) (packets rs) × CarriedBy m (p .now) (p .config) (r ∷ sentRows rs)
+  sent-continues rs e c =
+      let g = sends-some e in
+      let d : Continues m (behindRow m r left (r .time) (g .0)) rs = subst (λ x. Continues m x rs) (sym (g .2)) c in
+      (d .accounts, d .clear, (g .0, g .1, d .carried))
+
+  some-sends : (c : Config) → fires m (r .transition) (r .kind) (wait (r .time - p .now) (p .config)) ≡ some c
+      → sends m p r left ≡ some (behindRow m r left (r .time) c)
   unfolding sends
-  some-sends c h e = rw (le-leb (p .free) (r .time) h, e)
-
-module _ (m : Monitor) (p : Progress) (r : Row) (left : List Packet) (rs : List Row) where
-  sent-continues : {q : Progress} → inForm r ≡ true → sends m p r left ≡ some q → Continues m q rs →
-      (heard rs ≡ left) × Clear m (p .free) (packetOf r ∷ packets (sentRows rs)) × CarriedBy m (p .now) (p .config) (r ∷ sentRows rs)
-  sent-continues f e c =
-      let g = sends-some m p r left e in
-      let d : Continues m (sentTo m r left (g .0)) rs = subst (λ x. Continues m x rs) (sym (g .3)) c in
-      (d .accounts, (form-limits r f .1, g .1, clear-spaced m (packetOf r) (packets (sentRows rs)) .0 (d .clear)), (g .0, g .2, d .carried))
-
-  continues-sent : heard rs ≡ left → ((s : Row) → List·Memᴰ s rs → s .mark ≡ removed → toUnit m (s .kind) ≡ true) →
-      Clear m (p .free) (packetOf r ∷ packets (sentRows rs)) → (d : CarriedBy m (p .now) (p .config) (r ∷ sentRows rs)) → Continues m (sentTo m r left (d .0)) rs
-  continues-sent a b c d = record { accounts = a; inbound = b; clear = clear-spaced m (packetOf r) (packets (sentRows rs)) .1 (c .2); carried = d .2 }
+  some-sends c e = rw e
 
 -- removed rows are to the unit: the first, and those behind it
 inbound-cons : (m : Monitor) (r : Row) (rs : List Row) → (r .mark ≡ removed → toUnit m (r .kind) ≡ true) →
@@ -167,15 +146,23 @@ inbound-cons m r rs now behind s i e = ⊎-elim (λ q. here q) (λ l. behind s l
 
 -- one row, forwards
 
+abbrev removedTo : Monitor → Progress → Row → Progress
+removedTo m p r = behindRow m r (others (p .left)) (p .now) (p .config)
+
 abbrev byMark : Monitor → Progress → Row → Option Progress
 byMark m p r = cond (eqb (r .mark) kept) (keeps m p r) (cond (isRemoved r) (removes m p r) (adds m p r))
 
 account-some : (m : Monitor) (p : Progress) (r : Row) {q : Progress} → account m p r ≡ some q →
-    (inPlace (p .before) r ≡ true) × (byMark m p r ≡ some q)
+    (inPlace (p .before) r ≡ true) × (p .free ≤ r .time) × (byMark m p r ≡ some q)
 unfolding account
 account-some m p r e =
-    let h = cond-some (inPlace (p .before) r && noneBefore (p .left) (r .time)) _ e in
-    (and-left (inPlace (p .before) r) _ (h .0), h .1)
+    let placed : Bool = inPlace (p .before) r in
+    let turn : Bool = noneBefore (p .left) (r .time) in
+    let h = cond-some (placed && turn && leb (p .free) (r .time)) _ e in (
+      and-left placed turn (and-left (placed && turn) _ (h .0)),
+      leb-true (p .free) (r .time) (and-right (placed && turn) _ (h .0)),
+      h .1,
+    )
 
 module _ (m : Monitor) (rs : List Row) where
   continues-cons : (mark t k j : ℕ) (p q : Progress) → account m p (marked mark t k j) ≡ some q → Continues m q rs → Continues m p (marked mark t k j ∷ rs)
@@ -183,35 +170,35 @@ module _ (m : Monitor) (rs : List Row) where
   continues-cons zero t k j p q e c =
       let r : Row = marked 0 t k j in
       let a = account-some m p r e in
-      let n = cond-some (isNext (p .left) r) (sends m p r (others (p .left))) (a .1) in
-      let f = sent-continues m p r (others (p .left)) rs (inPlace-form (p .before) r (a .0)) (n .1) c in
+      let n = cond-some (isNext (p .left) r) (sends m p r (others (p .left))) (a .2) in
+      let f = sent-continues m p r (others (p .left)) rs (n .1) c in
       record {
         accounts = ap (λ (l : List Packet). packetOf r ∷ l) (f .0) ∙ sym (next-cons (p .left) r (n .0));
         inbound = inbound-cons m r rs (λ z. absurd (omega arith)) (c .inbound);
-        clear = f .1;
+        clear = clear-cons m (p .free) r rs (inPlace-form (p .before) r (a .0)) (a .1) (f .1);
         carried = f .2;
       }
   continues-cons (suc zero) t k j p q e c =
       let r : Row = marked 1 t k j in
       let a = account-some m p r e in
-      let n = cond-some (isNext (p .left) r && toUnit m k) (some (removedTo p r)) (a .1) in
-      let same : removedTo p r ≡ q = cc in
-      let d : Continues m (removedTo p r) rs = subst (λ x. Continues m x rs) (sym same) c in
+      let n = cond-some (isNext (p .left) r && toUnit m k) (some (removedTo m p r)) (a .2) in
+      let same : removedTo m p r ≡ q = cc in
+      let d : Continues m (removedTo m p r) rs = subst (λ x. Continues m x rs) (sym same) c in
       record {
         accounts = ap (λ (l : List Packet). packetOf r ∷ l) (d .accounts) ∙ sym (next-cons (p .left) r (and-left _ _ (n .0)));
         inbound = inbound-cons m r rs (λ z. and-right (isNext (p .left) r) (toUnit m k) (n .0)) (d .inbound);
-        clear = d .clear;
+        clear = clear-cons m (p .free) r rs (inPlace-form (p .before) r (a .0)) (a .1) (d .clear);
         carried = d .carried;
       }
   continues-cons (suc (suc zero)) t k j p q e c =
       let r : Row = marked 2 t k j in
       let a = account-some m p r e in
-      let n = cond-some (noneAt (p .left) t) (sends m p r (p .left)) (a .1) in
-      let f = sent-continues m p r (p .left) rs (inPlace-form (p .before) r (a .0)) (n .1) c in
+      let n = cond-some (noneAt (p .left) t) (sends m p r (p .left)) (a .2) in
+      let f = sent-continues m p r (p .left) rs (n .1) c in
       record {
         accounts = f .0;
         inbound = inbound-cons m r rs (λ z. absurd (omega arith)) (c .inbound);
-        clear = f .1;
+        clear = clear-cons m (p .free) r rs (inPlace-form (p .before) r (a .0)) (a .1) (f .1);
         carried = f .2;
       }
   continues-cons (suc (suc (suc n))) t k j p q e c =
@@ -229,13 +216,15 @@ record Accounted (m : Monitor) (p : Progress) (r : Row) (rs : List Row) : Type 0
 
 module _ (m : Monitor) (p : Progress) (r : Row) (rs : List Row) (i : ℕ) where
   -- a row in form behind those that explain the recording so far: its mark's rule decides
-  account-ready : misformed (p .before) i (r ∷ rs) ≡ none → heard (r ∷ rs) ≡ p .left →
+  account-ready : misformed (p .before) i (r ∷ rs) ≡ none → heard (r ∷ rs) ≡ p .left → p .free ≤ r .time →
       account m p r ≡ byMark m p r
   unfolding account
-  account-ready e a =
-      cond-true (inPlace (p .before) r && noneBefore (p .left) (r .time)) (byMark m p r)
+  account-ready e a free =
+      cond-true (inPlace (p .before) r && noneBefore (p .left) (r .time) && leb (p .free) (r .time)) (byMark m p r)
+      (both-true (inPlace (p .before) r && noneBefore (p .left) (r .time)) _
       (both-true _ _ (misformed-cons (p .before) i r rs e .0)
       (subst (λ (l : List Packet). noneBefore l (r .time) ≡ true) a (heard-from (r .time) (p .before) i (r ∷ rs) e (omega arith))))
+      (le-leb (p .free) (r .time) free))
 
 cons-next : (left : List Packet) (r : Row) (l : List Packet) → packetOf r ∷ l ≡ left → (isNext left r ≡ true) × (l ≡ others left)
 cons-next left r l e =
@@ -250,30 +239,32 @@ module _ (m : Monitor) (rs : List Row) where
       let n = cons-next (p .left) r (heard rs) (c .accounts) in
       let d = c .carried in
       record {
-        next = sentTo m r (others (p .left)) (d .0);
-        accounted = account-ready m p r rs i e (c .accounts) ∙ (cond-true (isNext (p .left) r) _ (n .0) ∙ some-sends m p r (others (p .left)) (d .0) (c .clear .1) (d .1));
+        next = behindRow m r (others (p .left)) t (d .0);
+        accounted = account-ready m p r rs i e (c .accounts) (c .clear .1) ∙ (cond-true (isNext (p .left) r) _ (n .0) ∙ some-sends m p r (others (p .left)) (d .0) (d .1));
         last = refl;
-        continues = continues-sent m p r (others (p .left)) rs (n .1) (λ s l. c .inbound s (List·Memᴰ·tail l)) (c .clear) d;
+        continues = record { accounts = n .1; inbound = λ s l. c .inbound s (List·Memᴰ·tail l); clear = clear-spaced m (packetOf r) (packets rs) .1 (c .clear .2); carried = d .2 };
       }
   account-cons (suc zero) t k j p i e c =
       let r : Row = marked 1 t k j in
       let n = cons-next (p .left) r (heard rs) (c .accounts) in
       record {
-        next = removedTo p r;
-        accounted = account-ready m p r rs i e (c .accounts) ∙ cond-true (isNext (p .left) r && toUnit m k) _ (both-true _ _ (n .0) (c .inbound r (List·Memᴰ·head refl) refl));
+        next = removedTo m p r;
+        accounted =
+            account-ready m p r rs i e (c .accounts) (c .clear .1)
+            ∙ cond-true (isNext (p .left) r && toUnit m k) _ (both-true _ _ (n .0) (c .inbound r (List·Memᴰ·head refl) refl));
         last = refl;
-        continues = record { accounts = n .1; inbound = λ s l. c .inbound s (List·Memᴰ·tail l); clear = c .clear; carried = c .carried };
+        continues = record { accounts = n .1; inbound = λ s l. c .inbound s (List·Memᴰ·tail l); clear = clear-spaced m (packetOf r) (packets rs) .1 (c .clear .2); carried = c .carried };
       }
   account-cons (suc (suc zero)) t k j p i e c =
       let r : Row = marked 2 t k j in
       let d = c .carried in
       let f = misformed-cons (p .before) i r rs e .1 in
-      let n : noneAt (p .left) t ≡ true = subst (λ (l : List Packet). noneAt l t ≡ true) (c .accounts) (none-at (heard rs) t (heard-from (suc t) (some r) (suc i) rs f (from-past r (suc i) rs refl f))) in
+      let n : noneAt (p .left) t ≡ true = subst (λ (l : List Packet). noneAt l t ≡ true) (c .accounts) (none-at (heard rs) t (heard-from (suc t) (some r) (suc i) rs f (from-past r (suc i) rs f))) in
       record {
-        next = sentTo m r (p .left) (d .0);
-        accounted = account-ready m p r rs i e (c .accounts) ∙ (cond-true (noneAt (p .left) t) _ n ∙ some-sends m p r (p .left) (d .0) (c .clear .1) (d .1));
+        next = behindRow m r (p .left) t (d .0);
+        accounted = account-ready m p r rs i e (c .accounts) (c .clear .1) ∙ (cond-true (noneAt (p .left) t) _ n ∙ some-sends m p r (p .left) (d .0) (d .1));
         last = refl;
-        continues = continues-sent m p r (p .left) rs (c .accounts) (λ s l. c .inbound s (List·Memᴰ·tail l)) (c .clear) d;
+        continues = record { accounts = c .accounts; inbound = λ s l. c .inbound s (List·Memᴰ·tail l); clear = clear-spaced m (packetOf r) (packets rs) .1 (c .clear .2); carried = d .2 };
       }
   account-cons (suc (suc (suc n))) t k j p i e c =
       let r : Row = marked (suc (suc (suc n))) t k j in
@@ -313,14 +304,14 @@ continues-broken m p i j (r ∷ rs) e c =
 
 account-last : (m : Monitor) (p : Progress) (r : Row) {q : Progress} → account m p r ≡ some q → q .before ≡ some r
 unfolding keeps removes adds
-account-last m p r {q} e = go (eqb (r .mark) kept) (isRemoved r) (account-some m p r e .1)
+account-last m p r {q} e = go (eqb (r .mark) kept) (isRemoved r) (account-some m p r e .2)
   where
     sent-last : (left : List Packet) → sends m p r left ≡ some q → q .before ≡ some r
-    sent-last left h = ap (λ (x : Progress). x .before) (sym (sends-some m p r left h .3))
+    sent-last left h = ap (λ (x : Progress). x .before) (sym (sends-some m p r left h .2))
 
     go : (a b : Bool) → cond a (keeps m p r) (cond b (removes m p r) (adds m p r)) ≡ some q → q .before ≡ some r
     go true b h = sent-last (others (p .left)) (cond-some (isNext (p .left) r) (sends m p r (others (p .left))) h .1)
-    go false true h = let same = cond-some (isNext (p .left) r && toUnit m (r .kind)) (some (removedTo p r)) h in cc
+    go false true h = let same = cond-some (isNext (p .left) r && toUnit m (r .kind)) (some (removedTo m p r)) h in cc
     go false false h = sent-last (p .left) (cond-some (noneAt (p .left) (r .time)) (sends m p r (p .left)) h .1)
 
 -- each row's form is tested
@@ -341,12 +332,12 @@ explained m recording rows f = (onto, from)
     onto : broken m (begin recording) 0 rows ≡ none → Explains m recording rows
     onto e =
         let c = broken-continues m (begin recording) 0 rows e in
-        record { accounts = c .accounts; inbound = c .inbound; spaced = clear-trace m (packets (sentRows rows)) .0 (c .clear); carried = c .carried }
+        record { accounts = c .accounts; inbound = c .inbound; spaced = clear-trace m (packets rows) .0 (c .clear); carried = c .carried }
 
     from : Explains m recording rows → broken m (begin recording) 0 rows ≡ none
     from x =
         continues-broken m (begin recording) 0 0 rows f
-        (record { accounts = x .accounts; inbound = x .inbound; clear = clear-trace m (packets (sentRows rows)) .1 (x .spaced); carried = x .carried })
+        (record { accounts = x .accounts; inbound = x .inbound; clear = clear-trace m (packets rows) .1 (x .spaced); carried = x .carried })
 
 -- what explains the recording makes it possible
 
@@ -380,14 +371,84 @@ heard-cases (r ∷ rs) p l = ⊎-elim (here (isRemoved r) refl) (λ h. behind (i
     behind false (inl h) = inl (List·Memᴰ·tail h)
     behind t (inr h) = inr (h .0, List·Memᴰ·tail (h .1), h .2, h .3)
 
+-- the kept and added rows alone are a packet trace too
+
+clear-down : (m : Monitor) (u v : ℕ) (qs : List Packet) → u ≤ v → Clear m v qs → Clear m u qs
+clear-down m u v [] h c = tt
+clear-down m u v (q ∷ qs) h c = (c .0, omega (arith, c .1), c .2)
+
+sent-clear : (m : Monitor) (free : ℕ) (rows : List Row) → Clear m free (packets rows) → Clear m free (packets (sentRows rows))
+unfolding sentRows packets
+sent-clear m free [] c = tt
+sent-clear m free (r ∷ rs) c = go (isRemoved r) (sent-clear m taken rs (clear-spaced m (packetOf r) (packets rs) .1 (c .2)))
+  where
+    taken : ℕ
+    taken = r .time + airtime m (r .kind) + 1
+
+    go : (t : Bool) → Clear m taken (packets (sentRows rs)) → Clear m free (packets (cond t (sentRows rs) (r ∷ sentRows rs)))
+    go true d = clear-down m free taken (packets (sentRows rs)) (omega (arith, c .1)) d
+    go false d = (c .0, c .1, clear-spaced m (packetOf r) (packets (sentRows rs)) .0 d)
+
+-- a row is recorded or sent, and what is recorded or sent is a row
+
+abbrev HeardOrSent : Packet → List Row → Type 0
+HeardOrSent p rows = List·Memᴰ p (heard rows) ⊎ List·Memᴰ p (packets (sentRows rows))
+
+row-cases : (rows : List Row) (p : Packet) → List·Memᴰ p (packets rows) → HeardOrSent p rows
+unfolding heard sentRows packets
+row-cases [] p l = absurd (List·Memᴰ·not-nil l)
+row-cases (r ∷ rs) p l =
+    ⊎-elim (here (eqb (r .mark) added) (isRemoved r) refl refl) (λ h. behind (eqb (r .mark) added) (isRemoved r) (row-cases rs p h)) (List·Memᴰ·cases-cons l)
+  where
+    after : Bool → Bool → Type 0
+    after a b = List·Memᴰ p (cond a (heard rs) (packetOf r ∷ heard rs)) ⊎ List·Memᴰ p (packets (cond b (sentRows rs) (r ∷ sentRows rs)))
+
+    here : (a b : Bool) → eqb (r .mark) added ≡ a → isRemoved r ≡ b → p ≡ packetOf r → after a b
+    here true true e f h = let x : r .mark ≡ added = eqb-true (r .mark) added e in let y : r .mark ≡ removed = eqb-true (r .mark) removed f in absurd (omega arith)
+    here true false e f h = inr (List·Memᴰ·head h)
+    here false b e f h = inl (List·Memᴰ·head h)
+
+    behind : (a b : Bool) → HeardOrSent p rs → after a b
+    behind true b (inl h) = inl h
+    behind false b (inl h) = inl (List·Memᴰ·tail h)
+    behind a true (inr h) = inr h
+    behind a false (inr h) = inr (List·Memᴰ·tail h)
+
+heard-row : (rows : List Row) (p : Packet) → List·Memᴰ p (heard rows) → List·Memᴰ p (packets rows)
+unfolding heard packets
+heard-row [] p l = l
+heard-row (r ∷ rs) p l = go (eqb (r .mark) added) (heard-row rs p) l
+  where
+    go : (a : Bool) → (List·Memᴰ p (heard rs) → List·Memᴰ p (packets rs)) → List·Memᴰ p (cond a (heard rs) (packetOf r ∷ heard rs)) → List·Memᴰ p (packetOf r ∷ packets rs)
+    go true again h = List·Memᴰ·tail (again h)
+    go false again h = ⊎-elim (λ e. List·Memᴰ·head e) (λ i. List·Memᴰ·tail (again i)) (List·Memᴰ·cases-cons h)
+
+sent-row : (rows : List Row) (p : Packet) → List·Memᴰ p (packets (sentRows rows)) → List·Memᴰ p (packets rows)
+unfolding sentRows packets
+sent-row [] p l = l
+sent-row (r ∷ rs) p l = go (isRemoved r) (sent-row rs p) l
+  where
+    go : (a : Bool) → (List·Memᴰ p (packets (sentRows rs)) → List·Memᴰ p (packets rs)) → List·Memᴰ p (packets (cond a (sentRows rs) (r ∷ sentRows rs))) → List·Memᴰ p (packetOf r ∷ packets rs)
+    go true again h = List·Memᴰ·tail (again h)
+    go false again h = ⊎-elim (λ e. List·Memᴰ·head e) (λ i. List·Memᴰ·tail (again i)) (List·Memᴰ·cases-cons h)
+
 pub explains-possible : (m : Monitor) (recording : List Packet) (rows : List Row) → Explains m recording rows → Possible m recording
 explains-possible m recording rows x =
     record {
       trace = packets (sentRows rows);
-      spaced = x .spaced;
+      spaced = clear-trace m (packets (sentRows rows)) .0 (sent-clear m 0 rows (clear-trace m (packets rows) .1 (x .spaced)));
       mutation =
           λ p l away.
           ⊎-elim (λ h. absurd (away h)) (λ h. ap (toUnit m) (sym (h .3)) ∙ x .inbound (h .0) (h .1) (h .2))
           (heard-cases rows p (subst (λ (k : List Packet). List·Memᴰ p k) (sym (x .accounts)) l));
+      together =
+          record {
+            all = packets rows;
+            spaced = x .spaced;
+            entries =
+                λ p.
+                subst (λ (k : List Packet). List·Memᴰ p (packets rows) ↔ (List·Memᴰ p k ⊎ List·Memᴰ p (packets (sentRows rows)))) (x .accounts)
+                (row-cases rows p, ⊎-elim (heard-row rows p) (sent-row rows p));
+          };
       satisfied = carried-carries m 0 start (sentRows rows) (x .carried);
     }

@@ -1,5 +1,5 @@
 -- Demand 3: the verdict of the definitions is right in the paper's words.
-use Prim.Native.Nat.{ℕ, _+_, _*_, _<_, _≤_}
+use Prim.Native.Nat.{ℕ, _*_, _<_, _≤_}
 use native.Mathlib.Nat.{le-trans, not-le-of-lt}
 use native.Mathlib.Omega.{arith}
 use mathlib.Core.Path.{_≡_, refl, sym, ap, subst, _∙_}
@@ -88,11 +88,11 @@ module _ (m : Monitor) (recording : List Packet) (sane : Sane m) (sound : SaneRe
       same-moves sane recording (movesOf m recording) .0
       (least (size m) moveLimit (stepNumber m recording) (firstNumber m) (endOf recording) ks (led .0) e (led .1) .0)
 
-  short : length (preferred m recording) ≤ endOf recording + length recording
+  short : length (preferred m recording) ≤ endOf recording
   unfolding preferred
   short =
       let n = length-least (size m) moveLimit (stepNumber m recording) (firstNumber m) (endOf recording) in
-      let h = rows-short m recording sound (movesOf m recording) in
+      let h = rows-short m recording 1 (movesOf m recording) in
       omega arith
 
   -- every other permitted witness comes from moves that the least ones come before

@@ -23,4 +23,5 @@ pub mod VerdictLaws
 pub mod WalkLaws
 pub mod Examples
 pub mod Counterexample
+pub mod Overheard
 pub mod AnswerLaws

@@ -1,24 +1,24 @@
 -- The rows of moves. What a move and a tick make of a real situation, the rows of that move make of the checker's progress;
--- so moves that can be carried to T give permitted rows. These are at most one for each instant and one for each recorded row.
+-- so moves that can be carried to T give permitted rows. These are at most one for each instant.
 use Prim.Native.Nat.{ℕ, suc, _+_, _-_, _<_, _≤_}
 use native.Mathlib.Omega.{arith}
 use native.Mathlib.Decide.{ℕ-discrete}
 use mathlib.Core.Path.{_≡_, refl, sym, ap, subst, _∙_}
 use mathlib.Core.List.{List, [], _∷_, _++_, map, List·Memᴰ, List·Memᴰ·not-nil, List·Memᴰ·eq-of-singleton, List·Memᴰ·append-cases}
-use mathlib.Core.Bool.{Bool, true, false, cond, not, _&&_}
+use mathlib.Core.Bool.{Bool, true, false, cond, _&&_}
 use mathlib.Core.Option.{Option, none, some, Option·map, bind, Option·none-ne-some, Option·some-injective}
 use mathlib.Core.Logic.{⊎-elim}
 use lib.ListN.{length, length-append}
 use lib.Dec.{leb, eqb}
-use borrow.Author.Tests.{eqb-true, eqb-false, leb-true, leb-false, le-leb, lt-ltb, le-ltb, eq-eqb, ne-eqb}
+use borrow.Author.Tests.{leb-true, leb-false, le-leb, lt-ltb, eq-eqb, ne-eqb}
 use Rattle.model.specs.Limits.{timeLimit}
 use Rattle.model.specs.Monitor.{Monitor, Config, wait, fires, toUnit, airtime}
 use Rattle.model.specs.Trace.{Packet, PacketTrace, Spaced}
 use Rattle.model.specs.Recording.{endOf}
 use Rattle.model.specs.Witness.{Row, kept, removed, added, noTransition, marked, inForm, follows, inPlace}
-use Rattle.model.specs.Rules.{Progress, begin, noneBefore, isNext, noneAt, others, sends, keeps, removes, adds, account, broken}
+use Rattle.model.specs.Rules.{Progress, begin, noneBefore, isNext, noneAt, others, behindRow, sends, keeps, removes, adds, account, broken}
 use Rattle.model.specs.Order.{EndsBy}
-use Rattle.model.specs.Situation.{Move, keep, rest, add, moveOf, moved, sent, stepBy, tick, uncapped, firstBy, withAir, triggerOf, recordedAt}
+use Rattle.model.specs.Situation.{Move, keep, rest, add, moveOf, moved, onAir, sent, missed, stepBy, tick, uncapped, firstBy, withAir, triggerOf, recordedAt}
 use Rattle.model.specs.Validation.{rowsBy, HasRows, rowsOf, keptRow, removedRow, addedRow}
 use Rattle.model.specs.declared.Situation.{Situation}
 use Rattle.model.proofs.Basics.{both-true}
@@ -90,37 +90,31 @@ coming recording t (p ∷ ps) a = go (ℕ-discrete (p .time) (suc t))
         quiet (a .same (suc t) (omega arith) ∙ recorded-before (suc t) (p ∷ ps) (suc t) (l, a .rising .1) (omega arith))
         (record { rising = (l, a .rising .1); within = a .within; same = λ u g. a .same u (omega arith) })
 
--- few rows
+-- at most one row an instant
 
 kept-few : (t : ℕ) (o : Option ℕ) (j : ℕ) → length (keptRow t o j) ≤ 1
 kept-few t none j = omega arith
 kept-few t (some k) j = omega arith
 
+removed-few : (t : ℕ) (o : Option ℕ) → length (removedRow t o) ≤ 1
+removed-few t none = omega arith
+removed-few t (some k) = omega arith
+
 added-few : (t : ℕ) (o : Option ℕ) (j : ℕ) → length (addedRow t o j) ≤ 1
 added-few t none j = omega arith
 added-few t (some k) j = omega arith
 
-rows-by-few : (m : Monitor) (recorded : Option ℕ) (t : ℕ) (a : Move) → length (rowsBy m recorded t a) ≤ 1 + length (removedRow t recorded)
+rows-by-few : (m : Monitor) (recorded : Option ℕ) (t : ℕ) (a : Move) → length (rowsBy m recorded t a) ≤ 1
 unfolding rowsBy
-rows-by-few m recorded t (keep j) = omega (arith, kept-few t recorded j)
-rows-by-few m recorded t rest = omega arith
-rows-by-few m recorded t (add j) = simp length-append (omega (arith, added-few t (triggerOf m j) j))
+rows-by-few m recorded t (keep j) = kept-few t recorded j
+rows-by-few m recorded t rest = removed-few t recorded
+rows-by-few m recorded t (add j) = added-few t (triggerOf m j) j
 
-rows-few : (m : Monitor) (recording : List Packet) (t : ℕ) (left : List Packet) (ks : List ℕ) → Ahead recording t left
-    → length (rowsOf m recording (suc t) ks) ≤ length ks + length left
+pub rows-short : (m : Monitor) (recording : List Packet) (t : ℕ) (ks : List ℕ) → length (rowsOf m recording t ks) ≤ length ks
 unfolding rowsOf
-rows-few m recording t left [] a = omega arith
-rows-few m recording t left (k ∷ ks) a =
-    simp length-append (go (λ l b. rows-few m recording (suc t) l ks b) (coming recording t left a))
-  where
-    go : ((l : List Packet) → Ahead recording (suc t) l → length (rowsOf m recording (suc (suc t)) ks) ≤ length ks + length l)
-        → Coming recording t left
-        → length (rowsBy m (recordedAt recording (suc t)) (suc t) (moveOf k)) + length (rowsOf m recording (suc (suc t)) ks) ≤ suc (length ks) + length left
-    go again (quiet e b) = rw e (omega (arith, again left b, rows-by-few m none (suc t) (moveOf k)))
-    go again (heard h l e f b) = rw e (omega (arith, again l b, rows-by-few m (some h) (suc t) (moveOf k), ap length f))
-
-pub rows-short : (m : Monitor) (recording : List Packet) → SaneRecording m recording → (ks : List ℕ) → length (rowsOf m recording 1 ks) ≤ length ks + length recording
-rows-short m recording h ks = rows-few m recording 0 recording ks (ahead-first m recording (h .trace))
+rows-short m recording t [] = omega arith
+rows-short m recording t (k ∷ ks) =
+    simp length-append (omega (arith, rows-by-few m (recordedAt recording t) t (moveOf k), rows-short m recording (suc t) ks))
 
 -- a progress and the situation just before instant t + 1
 
@@ -142,21 +136,19 @@ pub tied-first : (m : Monitor) (recording : List Packet) → SaneRecording m rec
 tied-first m recording h = record { early = omega arith; past = tt; ahead = ahead-first m recording (h .trace) }
 
 -- waiting goes on: a tick later the clocks read one more
-tick-later : (t : ℕ) (p : Progress) → p .now ≤ t → tick uncapped (situationAt t p) ≡ situationAt (suc t) p
-tick-later t p h =
+tick-later : (t now : ℕ) (c : Config) (taken left : ℕ) → now ≤ t → taken - 1 ≡ left
+    → tick uncapped (withAir (wait (suc t - now) c) taken) ≡ withAir (wait (suc (suc t) - now) c) left
+tick-later t now c taken left h air =
     λ i. record {
-      state = p .config .state;
-      variables = p .config .variables;
-      clocks = clocks (p .config .clocks) i;
+      state = c .state;
+      variables = c .variables;
+      clocks = clocks (c .clocks) i;
       air = air i;
     }
   where
-    clocks : (l : List ℕ) → map (λ x. x + 1) (map (λ x. x + (suc t - p .now)) l) ≡ map (λ x. x + (suc (suc t) - p .now)) l
+    clocks : (l : List ℕ) → map (λ x. x + 1) (map (λ x. x + (suc t - now)) l) ≡ map (λ x. x + (suc (suc t) - now)) l
     clocks [] = refl
-    clocks (c ∷ l) = λ i. (let e : c + (suc t - p .now) + 1 ≡ c + (suc (suc t) - p .now) = omega arith in e i) ∷ clocks l i
-
-    air : p .free - suc t - 1 ≡ p .free - suc (suc t)
-    air = omega arith
+    clocks (x ∷ l) = λ i. (let e : x + (suc t - now) + 1 ≡ x + (suc (suc t) - now) = omega arith in e i) ∷ clocks l i
 
 module _ {A B C : Type 0} (f : A → C) (g : B → C) where
   map-cond : (b : Bool) (x : Option A) (y : Option B) → Option·map f x ≡ Option·map g y → Option·map f (cond b x none) ≡ Option·map g (cond b y none)
@@ -182,30 +174,28 @@ unfoldable pub accounts : Monitor → Progress → List Row → Option Progress
 accounts m p [] = some p
 accounts m p (r ∷ rs) = bind (account m p r) (λ q. accounts m q rs)
 
--- the progress after the next recorded row is removed at instant t
-abbrev without : Progress → ℕ → ℕ → Progress
-without p t k = record { before = some (marked removed t k noTransition); left = others (p .left); now = p .now; config = p .config; free = p .free }
-
--- the progress after a row is sent
-abbrev sending : Monitor → Row → List Packet → Config → Progress
-sending m r left c = record { before = some r; left = left; now = r .time; config = c; free = r .time + airtime m (r .kind) + 1 }
-
 pub sends-fires : (m : Monitor) (p : Progress) (r : Row) (left : List Packet) (q : Progress) → sends m p r left ≡ some q
-    → (c : Config) × (fires m (r .transition) (r .kind) (wait (r .time - p .now) (p .config)) ≡ some c) × (sending m r left c ≡ q)
+    → (c : Config) × (fires m (r .transition) (r .kind) (wait (r .time - p .now) (p .config)) ≡ some c) × (behindRow m r left (r .time) c ≡ q)
 unfolding sends
-sends-fires m p r left q e = go (fires m (r .transition) (r .kind) (wait (r .time - p .now) (p .config))) refl (cond-some (leb (p .free) (r .time)) _ q e .1)
+sends-fires m p r left q e = go (fires m (r .transition) (r .kind) (wait (r .time - p .now) (p .config))) refl e
   where
-    go : (o : Option Config) → fires m (r .transition) (r .kind) (wait (r .time - p .now) (p .config)) ≡ o → Option·map (sending m r left) o ≡ some q
-        → (c : Config) × (fires m (r .transition) (r .kind) (wait (r .time - p .now) (p .config)) ≡ some c) × (sending m r left c ≡ q)
+    go : (o : Option Config) → fires m (r .transition) (r .kind) (wait (r .time - p .now) (p .config)) ≡ o → Option·map (behindRow m r left (r .time)) o ≡ some q
+        → (c : Config) × (fires m (r .transition) (r .kind) (wait (r .time - p .now) (p .config)) ≡ some c) × (behindRow m r left (r .time) c ≡ q)
     go none f h = absurd (Option·none-ne-some q h)
-    go (some c) f h = (c, f, Option·some-injective (sending m r left c) q h)
+    go (some c) f h = (c, f, Option·some-injective (behindRow m r left (r .time) c) q h)
 
-module _ (m : Monitor) (t : ℕ) where
-  -- sending at instant t + 1
-  sent-sends : (p : Progress) (mark k j : ℕ) (left : List Packet)
-      → Option·map (tick uncapped) (sent m j k (situationAt t p)) ≡ Option·map (situationAt (suc t)) (sends m p (marked mark (suc t) k j) left)
+module _ (m : Monitor) (t : ℕ) (p : Progress) where
+  -- a packet on the air at instant t + 1
+  on-air : (k : ℕ) (o : Option Config) (x : Option Progress)
+      → Option·map (tick uncapped) (Option·map (λ c. withAir c (airtime m k + 1)) o) ≡ Option·map (situationAt (suc t)) x
+      → Option·map (tick uncapped) (onAir m k (situationAt t p) o) ≡ Option·map (situationAt (suc t)) (cond (leb (p .free) (suc t)) x none)
+  on-air k o x e = rw (air-free (p .free) t) (map-cond (tick uncapped) (situationAt (suc t)) (leb (p .free) (suc t)) _ x e)
+
+  sent-sends : (mark k j : ℕ) (left : List Packet)
+      → Option·map (tick uncapped) (sent m j k (situationAt t p))
+      ≡ Option·map (situationAt (suc t)) (cond (leb (p .free) (suc t)) (sends m p (marked mark (suc t) k j) left) none)
   unfolding sent sends
-  sent-sends p mark k j left = rw (air-free (p .free) t) (map-cond (tick uncapped) (situationAt (suc t)) (leb (p .free) (suc t)) _ _ (go (fires m j k _)))
+  sent-sends mark k j left = on-air k (fires m j k _) (sends m p (marked mark (suc t) k j) left) (go (fires m j k _))
     where
       clock : 1 ≡ suc (suc t) - suc t
       clock = omega arith
@@ -215,14 +205,34 @@ module _ (m : Monitor) (t : ℕ) where
 
       go : (o : Option Config)
           → Option·map (tick uncapped) (Option·map (λ c. withAir c (airtime m k + 1)) o)
-          ≡ Option·map (situationAt (suc t)) (Option·map (sending m (marked mark (suc t) k j) left) o)
+          ≡ Option·map (situationAt (suc t)) (Option·map (behindRow m (marked mark (suc t) k j) left (suc t)) o)
       go none = refl
       go (some c) = λ i. some (record { state = c .state; variables = c .variables; clocks = map (λ x. x + clock i) (c .clocks); air = air i })
 
-  sends-tied : (recording : List Packet) (p : Progress) (mark k j : ℕ) (left : List Packet) (q : Progress) → Ahead recording (suc t) left
-      → sends m p (marked mark (suc t) k j) left ≡ some q → Tied recording (suc t) q
-  sends-tied recording p mark k j left q a e =
-      subst (Tied recording (suc t)) (sends-fires m p (marked mark (suc t) k j) left q e .2) (record { early = omega arith; past = omega arith; ahead = a })
+  -- the progress after the next recorded row, of kind k, is removed
+  abbrev without : ℕ → Progress
+  without k = behindRow m (marked removed (suc t) k noTransition) (others (p .left)) (p .now) (p .config)
+
+  missed-removed : p .now ≤ t → (k : ℕ)
+      → Option·map (tick uncapped) (missed m k (situationAt t p))
+      ≡ Option·map (situationAt (suc t)) (cond (leb (p .free) (suc t)) (cond (toUnit m k) (some (without k)) none) none)
+  unfolding missed
+  missed-removed h k =
+      on-air k (cond (toUnit m k) (some (wait (suc t - p .now) (p .config))) none) (cond (toUnit m k) (some (without k)) none) (go (toUnit m k))
+    where
+      go : (b : Bool)
+          → Option·map (tick uncapped) (Option·map (λ c. withAir c (airtime m k + 1)) (cond b (some (wait (suc t - p .now) (p .config))) none))
+          ≡ Option·map (situationAt (suc t)) (cond b (some (without k)) none)
+      go true =
+          ap {B = Option Situation} some
+          (tick-later t (p .now) (p .config) (airtime m k + 1) (suc t + airtime m k + 1 - suc (suc t)) h (omega arith))
+      go false = refl
+
+  sends-tied : (recording : List Packet) (mark k j : ℕ) (left : List Packet) (q : Progress) → Ahead recording (suc t) left
+      → cond (leb (p .free) (suc t)) (sends m p (marked mark (suc t) k j) left) none ≡ some q → Tied recording (suc t) q
+  sends-tied recording mark k j left q a e =
+      subst (Tied recording (suc t)) (sends-fires m p (marked mark (suc t) k j) left q (cond-some (leb (p .free) (suc t)) _ q e .1) .2)
+      (record { early = omega arith; past = omega arith; ahead = a })
 
 -- a move at instant t + 1 and a tick lead to the situation of what the rows of that move come to
 pub record Instant (m : Monitor) (recording : List Packet) (t : ℕ) (p : Progress) (recorded : Option ℕ) (a : Move) : Type 0 where
@@ -254,18 +264,19 @@ module _ (m : Monitor) (recording : List Packet) (t : ℕ) (p : Progress) (limit
   formed = rw (le-leb 1 (suc t) (omega arith), le-leb (suc t) timeLimit limit)
 
   in-place : (mark k j : ℕ) → inForm (marked mark (suc t) k j) ≡ true → inPlace (p .before) (marked mark (suc t) k j) ≡ true
-  unfolding follows
   in-place mark k j f = go (p .before) (tied .past)
     where
       go : (o : Option Row) → Past t o → inPlace o (marked mark (suc t) k j) ≡ true
       go none h = f
       go (some r) h = both-true (inForm (marked mark (suc t) k j)) (follows r (marked mark (suc t) k j)) f (rw (lt-ltb (r .time) (suc t) (omega arith)))
 
-  -- a row in form at instant t + 1: the rule for its mark is left
+  -- a row in form at instant t + 1: the air and the rule for its mark are left
   account-by : (mark k j : ℕ) → inForm (marked mark (suc t) k j) ≡ true
       → account m p (marked mark (suc t) k j)
-      ≡ cond (eqb mark kept) (keeps m p (marked mark (suc t) k j))
-      (cond (eqb mark removed) (removes m p (marked mark (suc t) k j)) (adds m p (marked mark (suc t) k j)))
+      ≡ cond (leb (p .free) (suc t))
+      (cond (eqb mark kept) (keeps m p (marked mark (suc t) k j))
+      (cond (eqb mark removed) (removes m p (marked mark (suc t) k j)) (adds m p (marked mark (suc t) k j))))
+      none
   unfolding account
   account-by mark k j f = rw (in-place mark k j f, clear-of t t (p .left) (tied .ahead .rising) (omega arith))
 
@@ -275,7 +286,8 @@ module _ (m : Monitor) (recording : List Packet) (t : ℕ) (p : Progress) (limit
   instant-by recorded a o e s n = record { step = s ∙ ap (Option·map (situationAt (suc t))) (sym e); next = λ q h. n q (sym e ∙ h) }
 
   module _ (ahead : Ahead recording (suc t) (p .left)) where
-    account-added : (k j : ℕ) → account m p (marked added (suc t) k j) ≡ sends m p (marked added (suc t) k j) (p .left)
+    account-added : (k j : ℕ)
+        → account m p (marked added (suc t) k j) ≡ cond (leb (p .free) (suc t)) (sends m p (marked added (suc t) k j) (p .left)) none
     unfolding inForm adds
     account-added k j = account-by added k j formed ∙ rw (none-at (suc t) (p .left) (ahead .rising))
 
@@ -283,14 +295,14 @@ module _ (m : Monitor) (recording : List Packet) (t : ℕ) (p : Progress) (limit
     unfolding accounts rowsBy stepBy moved bind
     quiet-instant (keep j) f = absurd f
     quiet-instant rest f =
-        instant-by none rest (some p) refl (ap {B = Option Situation} some (tick-later t p (tied .early)))
+        instant-by none rest (some p) refl (ap {B = Option Situation} some (tick-later t (p .now) (p .config) (p .free - suc t) (p .free - suc (suc t)) (tied .early) (omega arith)))
         (λ q h. subst (Tied recording (suc t)) (Option·some-injective p q h)
         (record { early = omega (arith, tied .early); past = past-later t (p .before) (tied .past); ahead = ahead }))
     quiet-instant (add j) f =
-        instant-by none (add j) (sends m p (marked added (suc t) (f .0) j) (p .left))
+        instant-by none (add j) (cond (leb (p .free) (suc t)) (sends m p (marked added (suc t) (f .0) j) (p .left)) none)
         (rw (f .1) (one-row m p (marked added (suc t) (f .0) j) ∙ account-added (f .0) j))
         (rw (f .1) (sent-sends m t p added (f .0) j (p .left)))
-        (λ q h. sends-tied m t recording p added (f .0) j (p .left) q ahead h)
+        (λ q h. sends-tied m t p recording added (f .0) j (p .left) q ahead h)
 
   module _ (k : ℕ) (l : List Packet) (first : p .left ≡ record { time = suc t; kind = k } ∷ l) (a : Ahead recording (suc t) l) where
     is-next : (mark j : ℕ) → isNext (p .left) (marked mark (suc t) k j) ≡ true
@@ -300,56 +312,31 @@ module _ (m : Monitor) (recording : List Packet) (t : ℕ) (p : Progress) (limit
     ahead-others : Ahead recording (suc t) (others (p .left))
     ahead-others = subst (Ahead recording (suc t)) (sym (ap others first)) a
 
-    account-kept : (j : ℕ) → account m p (marked kept (suc t) k j) ≡ sends m p (marked kept (suc t) k j) (others (p .left))
+    account-kept : (j : ℕ)
+        → account m p (marked kept (suc t) k j) ≡ cond (leb (p .free) (suc t)) (sends m p (marked kept (suc t) k j) (others (p .left))) none
     unfolding inForm keeps
     account-kept j = account-by kept k j formed ∙ rw (is-next kept j)
 
-    account-removed : account m p (marked removed (suc t) k noTransition) ≡ cond (toUnit m k) (some (without p (suc t) k)) none
+    account-removed : account m p (marked removed (suc t) k noTransition)
+        ≡ cond (leb (p .free) (suc t)) (cond (toUnit m k) (some (without m t p k)) none) none
     unfolding inForm removes
     account-removed = account-by removed k noTransition formed ∙ rw (is-next removed noTransition)
 
-    -- an added row behind the removed one
-    abbrev swap : ℕ → ℕ → Option Progress
-    swap b j = sends m (without p (suc t) k) (marked added (suc t) b j) (others (p .left))
-
-    -- it is of another kind
-    account-swapped : (b j : ℕ) → account m (without p (suc t) k) (marked added (suc t) b j) ≡ cond (not (eqb b k)) (swap b j) none
-    unfolding account adds inForm follows
-    account-swapped b j = rw (formed, le-ltb (suc t) (suc t) (omega arith), eq-eqb (suc t) (suc t) refl) (go (eqb b k) refl)
-      where
-        go : (x : Bool) → eqb b k ≡ x
-            → cond (not (eqb k b) && noneBefore (others (p .left)) (suc t)) (cond (noneAt (others (p .left)) (suc t)) (swap b j) none) none ≡ cond (not x) (swap b j) none
-        go true e = rw (eq-eqb k b (sym (eqb-true b k e)))
-        go false e =
-            rw (ne-eqb k b (λ h. eqb-false b k e (sym h)), clear-of t (suc t) (others (p .left)) (ahead-others .rising) (omega arith), none-at (suc t) (others (p .left)) (ahead-others .rising))
-
-    accounts-swapped : (b j : ℕ)
-        → accounts m p (marked removed (suc t) k noTransition ∷ marked added (suc t) b j ∷ []) ≡ cond (toUnit m k && not (eqb b k)) (swap b j) none
-    unfolding accounts bind
-    accounts-swapped b j = rw account-removed (go (toUnit m k))
-      where
-        go : (u : Bool)
-            → bind (cond u (some (without p (suc t) k)) none) (λ q. accounts m q (marked added (suc t) b j ∷ [])) ≡ cond (u && not (eqb b k)) (swap b j) none
-        go true = one-row m (without p (suc t) k) (marked added (suc t) b j) ∙ account-swapped b j
-        go false = refl
-
     heard-instant : (b : Move) → HasRows m (some k) b → Instant m recording t p (some k) b
-    unfolding rowsBy stepBy moved bind
+    unfolding rowsBy stepBy moved
     heard-instant (keep j) f =
-        instant-by (some k) (keep j) (sends m p (marked kept (suc t) k j) (others (p .left))) (one-row m p (marked kept (suc t) k j) ∙ account-kept j)
+        instant-by (some k) (keep j) (cond (leb (p .free) (suc t)) (sends m p (marked kept (suc t) k j) (others (p .left))) none)
+        (one-row m p (marked kept (suc t) k j) ∙ account-kept j)
         (sent-sends m t p kept k j (others (p .left)))
-        (λ q h. sends-tied m t recording p kept k j (others (p .left)) q ahead-others h)
+        (λ q h. sends-tied m t p recording kept k j (others (p .left)) q ahead-others h)
     heard-instant rest f =
-        instant-by (some k) rest (cond (toUnit m k) (some (without p (suc t) k)) none) (one-row m p (marked removed (suc t) k noTransition) ∙ account-removed)
-        (map-cond (tick uncapped) (situationAt (suc t)) (toUnit m k) (some (situationAt t p)) (some (without p (suc t) k))
-        (ap {B = Option Situation} some (tick-later t p (tied .early))))
-        (λ q h. subst (Tied recording (suc t)) (Option·some-injective (without p (suc t) k) q (cond-some (toUnit m k) _ q h .1))
+        instant-by (some k) rest (cond (leb (p .free) (suc t)) (cond (toUnit m k) (some (without m t p k)) none) none)
+        (one-row m p (marked removed (suc t) k noTransition) ∙ account-removed)
+        (missed-removed m t p (tied .early) k)
+        (λ q h. subst (Tied recording (suc t))
+        (Option·some-injective (without m t p k) q (cond-some (toUnit m k) _ q (cond-some (leb (p .free) (suc t)) _ q h .1) .1))
         (record { early = omega (arith, tied .early); past = omega arith; ahead = ahead-others }))
-    heard-instant (add j) f =
-        instant-by (some k) (add j) (cond (toUnit m k && not (eqb (f .0) k)) (swap (f .0) j) none) (rw (f .1) (accounts-swapped (f .0) j))
-        (rw (f .1) (map-cond (tick uncapped) (situationAt (suc t)) (toUnit m k && not (eqb (f .0) k)) (sent m j (f .0) (situationAt t p)) (swap (f .0) j)
-        (sent-sends m t (without p (suc t) k) added (f .0) j (others (p .left)))))
-        (λ q h. sends-tied m t recording (without p (suc t) k) added (f .0) j (others (p .left)) q ahead-others (cond-some (toUnit m k && not (eqb (f .0) k)) _ q h .1))
+    heard-instant (add j) f = absurd f
 
   pub instant : (a : Move) → HasRows m (recordedAt recording (suc t)) a → Instant m recording t p (recordedAt recording (suc t)) a
   instant a = go (coming recording t (p .left) (tied .ahead))
@@ -361,18 +348,20 @@ module _ (m : Monitor) (recording : List Packet) (t : ℕ) (p : Progress) (limit
 -- from moves to rows
 
 -- an added row's transition has a trigger
-bound : (o : Option ℕ) (f : ℕ → Option Situation) (x : Situation) → Option·map (tick uncapped) (bind o f) ≡ some x → (a : ℕ) × (o ≡ some a)
+bound : (o : Option ℕ) (f : ℕ → Option Situation) (g : Situation → Situation) (x : Situation) → Option·map g (bind o f) ≡ some x → (a : ℕ) × (o ≡ some a)
 unfolding bind
-bound none f x e = absurd (Option·none-ne-some x e)
-bound (some a) f x e = (a, refl)
+bound none f g x e = absurd (Option·none-ne-some x e)
+bound (some a) f g x e = (a, refl)
 
-fits-step : (m : Monitor) (recorded : Option ℕ) (s : Situation) (a : Move) (x : Situation) → stepBy m uncapped recorded s a ≡ some x → HasRows m recorded a
+-- a move that leads somewhere has its rows
+pub fits-step : (m : Monitor) (write : List ℕ → List ℕ) (recorded : Option ℕ) (s : Situation) (a : Move) (x : Situation)
+    → stepBy m write recorded s a ≡ some x → HasRows m recorded a
 unfolding stepBy moved
-fits-step m none s (keep j) x e = Option·none-ne-some x e
-fits-step m (some k) s (keep j) x e = tt
-fits-step m recorded s rest x e = tt
-fits-step m none s (add j) x e = bound (triggerOf m j) _ x e
-fits-step m (some k) s (add j) x e = bound (triggerOf m j) _ x e
+fits-step m write none s (keep j) x e = Option·none-ne-some x e
+fits-step m write (some k) s (keep j) x e = tt
+fits-step m write recorded s rest x e = tt
+fits-step m write none s (add j) x e = bound (triggerOf m j) _ (tick write) x e
+fits-step m write (some k) s (add j) x e = Option·none-ne-some x e
 
 removed-time : (recorded : Option ℕ) (t : ℕ) (r : Row) → List·Memᴰ r (removedRow t recorded) → r .time ≡ t
 removed-time none t r h = absurd (List·Memᴰ·not-nil h)
@@ -383,7 +372,7 @@ unfolding rowsBy
 row-time m none t (keep j) r h = absurd (List·Memᴰ·not-nil h)
 row-time m (some k) t (keep j) r h = ap (λ x. x .time) (List·Memᴰ·eq-of-singleton h)
 row-time m recorded t rest r h = removed-time recorded t r h
-row-time m recorded t (add j) r h = ⊎-elim (removed-time recorded t r) (added-time (triggerOf m j)) (List·Memᴰ·append-cases (removedRow t recorded) h)
+row-time m recorded t (add j) r h = added-time (triggerOf m j) h
   where
     added-time : (o : Option ℕ) → List·Memᴰ r (addedRow t o j) → r .time ≡ t
     added-time none g = absurd (List·Memᴰ·not-nil g)
@@ -424,7 +413,7 @@ module _ (m : Monitor) (recording : List Packet) (sane : SaneRecording m recordi
   carried t p tied l a x e = go (accounts m p (rowsBy m (recordedAt recording (suc t)) (suc t) a)) refl
     where
       now : Instant m recording t p (recordedAt recording (suc t)) a
-      now = instant m recording t p (omega (arith, sane .last)) tied a (fits-step m (recordedAt recording (suc t)) (situationAt t p) a x e)
+      now = instant m recording t p (omega (arith, sane .last)) tied a (fits-step m uncapped (recordedAt recording (suc t)) (situationAt t p) a x e)
 
       go : (o : Option Progress) → accounts m p (rowsBy m (recordedAt recording (suc t)) (suc t) a) ≡ o
           → (q : Progress) × (accounts m p (rowsBy m (recordedAt recording (suc t)) (suc t) a) ≡ some q) × (x ≡ situationAt (suc t) q) × Tied recording (suc t) q

@@ -4,14 +4,14 @@ use native.Mathlib.Nat.{add-mul-mod-self-left, add-mul-div-left, mod-eq-of-lt, d
 use native.Mathlib.Omega.{arith}
 use mathlib.Core.Path.{_≡_, refl, sym, ap, ap₂, subst, _∙_}
 use mathlib.Core.List.{List, [], _∷_}
-use mathlib.Core.Bool.{Bool, true, false, cond, not, _&&_}
+use mathlib.Core.Bool.{Bool, true, false, cond}
 use mathlib.Core.Option.{Option, none, some, Option·map, bind}
 use lib.ListN.{getD, getElem?}
 use lib.Arith.{digits-lt}
 use lib.Dec.{eqb}
 use Rattle.model.specs.Monitor.{Monitor, Config, Transition, changed, fires, after, enabled, airtime, toUnit}
 use Rattle.model.specs.Size.{greatest, largestAirtime, cap, size}
-use Rattle.model.specs.Situation.{InRange, Move, keep, rest, add, configOf, withAir, capped, firstBy, firstNumber, sent, triggerOf, moved, tick, stepBy, number, situationOf}
+use Rattle.model.specs.Situation.{InRange, Move, keep, rest, add, configOf, withAir, capped, firstBy, firstNumber, onAir, sent, missed, triggerOf, moved, tick, stepBy, number, situationOf}
 use Rattle.model.specs.declared.Situation.{Situation}
 use Rattle.model.specs.Sane.{Sane}
 use Rattle.model.specs.Claims.{Numbered}
@@ -84,7 +84,7 @@ module _ {m : Monitor} (sane : Sane m) where
 abbrev pub outcome : Monitor → ℕ → Config → Transition → Option Config
 outcome m k c t = cond (enabled t k c) (some (after m t c)) none
 
--- the situation once it is sent, before the tick: the air is taken
+-- the situation once a packet is on the air, before the tick: the air is taken
 abbrev pub sending : Monitor → ℕ → Config → Situation
 sending m k c = withAir c (airtime m k + 1)
 
@@ -110,23 +110,33 @@ module _ {B : Type 0} (P : B → Type 0) where
   every-some : (o : Option B) {b : B} → Every P o → o ≡ some b → P b
   every-some o h e = subst (Every P) e h
 
--- before the tick, a step changes nothing, or fires one transition and takes the air: so what holds of both holds of its outcome
+-- before the tick, a step changes nothing, takes the air, or takes it and fires one transition: so what holds of these holds of its outcome
 module _
     (m : Monitor) (write : List ℕ → List ℕ) (s : Situation) (P : Situation → Type 0)
     (same : P (tick write s))
+    (taken : (k : ℕ) → P (tick write (sending m k (configOf s))))
     (fired : (j k : ℕ) (t : Transition) → getElem? (m .transitions) j ≡ some t → P (tick write (sending m k (after m t (configOf s)))))
   where
     abbrev Ticked : Situation → Type 0
     Ticked y = P (tick write y)
 
+    abbrev Sent : ℕ → Config → Type 0
+    Sent k c = Ticked (sending m k c)
+
+    every-air : (k : ℕ) (o : Option Config) → Every (Sent k) o → Every Ticked (onAir m k s o)
+    every-air k o h = every-cond Ticked (eqb (s .air) 0) (Option·map (sending m k) o) (every-map Ticked (sending m k) o h)
+
     every-sent : (j k : ℕ) → Every Ticked (sent m j k s)
     unfolding sent fires
     every-sent j k =
-        let Sent : Config → Type 0 = λ c. Ticked (sending m k c) in
-        every-cond Ticked (eqb (s .air) 0) (Option·map (sending m k) (fires m j k (configOf s)))
-        (every-map Ticked (sending m k) (fires m j k (configOf s))
-        (every-bind Sent (getElem? (m .transitions) j) (outcome m k (configOf s))
-        (λ t e. every-cond Sent (enabled t k (configOf s)) (some (after m t (configOf s))) (fired j k t e))))
+        every-air k (fires m j k (configOf s))
+        (every-bind (Sent k) (getElem? (m .transitions) j) (outcome m k (configOf s))
+        (λ t e. every-cond (Sent k) (enabled t k (configOf s)) (some (after m t (configOf s))) (fired j k t e)))
+
+    every-missed : (k : ℕ) → Every Ticked (missed m k s)
+    unfolding missed
+    every-missed k =
+        every-air k (cond (toUnit m k) (some (configOf s)) none) (every-cond (Sent k) (toUnit m k) (some (configOf s)) (taken k))
 
     every-moved : (recorded : Option ℕ) (a : Move) → Every Ticked (moved m recorded s a)
     unfolding moved
@@ -134,10 +144,8 @@ module _
     every-moved none rest = same
     every-moved none (add j) = every-bind Ticked (triggerOf m j) (λ k. sent m j k s) (λ k e. every-sent j k)
     every-moved (some r) (keep j) = every-sent j r
-    every-moved (some r) rest = every-cond Ticked (toUnit m r) (some s) same
-    every-moved (some r) (add j) =
-        every-bind Ticked (triggerOf m j) (λ k. cond (toUnit m r && not (eqb k r)) (sent m j k s) none)
-        (λ k e. every-cond Ticked (toUnit m r && not (eqb k r)) (sent m j k s) (every-sent j k))
+    every-moved (some r) rest = every-missed r
+    every-moved (some r) (add j) = tt
 
     pub every-step : (recorded : Option ℕ) (a : Move) {x : Situation} → stepBy m write recorded s a ≡ some x → P x
     unfolding stepBy
@@ -173,6 +181,7 @@ module _ {m : Monitor} (sane : Sane m) where
   step-in-range recorded a {s} r e =
       every-step m (capped m) s (InRange m)
       (in-range m _ _ _ _ (r .state) (r .variables) (omega arith))
+      (λ k. in-range m _ _ _ _ (r .state) (r .variables) (omega (arith, listed (m .airtimes) k)))
       (λ j k t q. in-range m _ _ _ _ (sane .transition j t q .target) (changed-below _ _ _ _) (omega (arith, listed (m .airtimes) k)))
       recorded a e
 

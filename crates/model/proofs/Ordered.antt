@@ -53,8 +53,7 @@ rowsBy-at m none t (keep j) = tt
 rowsBy-at m (some k) t (keep j) = (refl, tt)
 rowsBy-at m none t rest = tt
 rowsBy-at m (some k) t rest = (refl, tt)
-rowsBy-at m none t (add j) = added-at t (triggerOf m j) j
-rowsBy-at m (some k) t (add j) = (refl, added-at t (triggerOf m j) j)
+rowsBy-at m recorded t (add j) = added-at t (triggerOf m j) j
 
 module _ (m : Monitor) (recording : List Packet) (t k : ℕ) (ks : List ℕ) where
   rowsOn-rowsOf : (u : ℕ) → rowsOn u (rowsOf m recording t (k ∷ ks)) ≡ rowsOn u (rowsBy m (recordedAt recording t) t (moveOf k)) ++ rowsOn u (rowsOf m recording (suc t) ks)
@@ -100,7 +99,7 @@ choice-by m (some k) t (keep j) s x e = refl
 choice-by m none t rest s x e = refl
 choice-by m (some k) t rest s x e = refl
 choice-by m none t (add j) s x e = choice-added t j (triggerOf m j) _ e
-choice-by m (some k) t (add j) s x e = choice-added t j (triggerOf m j) _ e
+choice-by m (some k) t (add j) s x e = let z : _≡_ {A = ℕ} 0 1 = cc in absurd (omega arith)
 
 -- the number of a move
 abbrev MoveNumber : ℕ → Move → Type 0

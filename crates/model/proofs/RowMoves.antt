@@ -2,12 +2,12 @@
 use Prim.Native.Nat.{ℕ, zero, suc, _+_, _-_, _<_, _≤_}
 use native.Mathlib.Omega.{arith}
 use native.Mathlib.Decide.{ℕ-discrete}
-use mathlib.Core.Path.{_≡_, refl, sym, ap, ap₂, subst, _∙_}
+use mathlib.Core.Path.{_≡_, refl, sym, ap, subst, _∙_}
 use mathlib.Core.List.{List, [], _∷_, _++_, List·Memᴰ, List·Memᴰ·head, Memᴰ·append-right}
 use mathlib.Core.Bool.{Bool, true, false, cond, not, _&&_, _||_, false≢true}
 use mathlib.Core.Option.{Option, none, some, Option·map, bind, Option·none-ne-some, Option·some-ne-none, Option·some-injective}
 use lib.ListN.{length, getElem?}
-use lib.Dec.{leb, ltb, eqb}
+use lib.Dec.{leb, eqb}
 use borrow.Author.Tests.{eqb-true, eqb-false, leb-true, ltb-true, eq-eqb}
 use Rattle.model.specs.Limits.{timeLimit, transitionLimit}
 use Rattle.model.specs.Monitor.{Monitor, Config, Transition, after, wait, enabled, fires, toUnit}
@@ -53,21 +53,6 @@ in-form o r e =
     form none f = f
     form (some p) f = and-left (inForm r) (follows p r) f
 
--- the row behind another is later, or an added one at the time of a removed one
-data Behind (p r : Row) : Type 0 where
-  later : p .time < r .time → Behind p r
-  joined : p .time ≡ r .time → p .mark ≡ removed → r .mark ≡ added → Behind p r
-
-behind : (p r : Row) → follows p r ≡ true → Behind p r
-unfolding follows
-behind p r e = go (ltb (p .time) (r .time)) refl
-  where
-    go : (b : Bool) → ltb (p .time) (r .time) ≡ b → Behind p r
-    go true f = later (ltb-true (p .time) (r .time) f)
-    go false f =
-        let g = four-true (eqb (p .time) (r .time)) (isRemoved p) (eqb (r .mark) added) (not (eqb (p .kind) (r .kind))) (rw f at e) in
-        joined (eqb-true (p .time) (r .time) (g .0)) (eqb-true (p .mark) removed (g .1)) (eqb-true (r .mark) added (g .2))
-
 -- a kept or added row fires a transition with its kind
 record Sent (m : Monitor) (r : Row) (q : Progress) : Type 0 where
   before : q .before ≡ some r
@@ -98,12 +83,14 @@ data Accounted (m : Monitor) (p : Progress) (r : Row) (q : Progress) : Type 0 wh
 in-turn : (m : Monitor) (p : Progress) (r : Row) (q : Progress) → account m p r ≡ some q → (inPlace (p .before) r ≡ true) × (noneBefore (p .left) (r .time) ≡ true)
 unfolding account
 in-turn m p r q e =
-    let h = cond-some (inPlace (p .before) r && noneBefore (p .left) (r .time)) _ q e .0 in
-    (and-left (inPlace (p .before) r) (noneBefore (p .left) (r .time)) h, and-right (inPlace (p .before) r) (noneBefore (p .left) (r .time)) h)
+    let formed : Bool = inPlace (p .before) r in
+    let turn : Bool = noneBefore (p .left) (r .time) in
+    let h = and-left (formed && turn) (leb (p .free) (r .time)) (cond-some (formed && turn && leb (p .free) (r .time)) _ q e .0) in
+    (and-left formed turn h, and-right formed turn h)
 
 accounted : (m : Monitor) (p : Progress) (r : Row) (q : Progress) → account m p r ≡ some q → Accounted m p r q
 unfolding account keeps removes adds
-accounted m p r q e = go (eqb (r .mark) kept) refl (cond-some (inPlace (p .before) r && noneBefore (p .left) (r .time)) _ q e .1)
+accounted m p r q e = go (eqb (r .mark) kept) refl (cond-some (inPlace (p .before) r && noneBefore (p .left) (r .time) && leb (p .free) (r .time)) _ q e .1)
   where
     form : InForm r
     form = in-form (p .before) r (in-turn m p r q e .0)
@@ -146,18 +133,12 @@ abbrev StartsAfter : ℕ → List Row → Type 0
 StartsAfter t [] = Unit {0}
 StartsAfter t (r ∷ rs) = t < r .time
 
-next-row : (m : Monitor) (q : Progress) (r s : Row) (u : Progress) → q .before ≡ some r → account m q s ≡ some u → Behind r s
-next-row m q r s u b e = behind r s (and-right (inForm s) (follows r s) (subst (λ o. inPlace o s ≡ true) b (in-turn m q s u e .0)))
-
--- only a removed row has another one at its time behind it
-starts-after : (m : Monitor) (q : Progress) (r : Row) (i : ℕ) (rs : List Row) → q .before ≡ some r → (r .mark ≡ removed → ⊥) → broken m q i rs ≡ none
-    → StartsAfter (r .time) rs
-starts-after m q r i [] b n e = tt
-starts-after m q r i (s ∷ rs) b n e = let x = first-row m q i s rs e in go (next-row m q r s (x .0) b (x .1))
-  where
-    go : Behind r s → r .time < s .time
-    go (later l) = l
-    go (joined f g h) = absurd (n g)
+-- times rise
+starts-after : (m : Monitor) (q : Progress) (r : Row) (i : ℕ) (rs : List Row) → q .before ≡ some r → broken m q i rs ≡ none → StartsAfter (r .time) rs
+starts-after m q r i [] b e = tt
+starts-after m q r i (s ∷ rs) b e =
+    let x = first-row m q i s rs e in
+    ltb-true (r .time) (s .time) (and-right (inForm s) (follows r s) (subst (λ o. inPlace o s ≡ true) b (in-turn m q s (x .0) (x .1) .0)))
 
 trigger-number : (m : Monitor) → Sane m → (j k : ℕ) → triggerOf m j ≡ some k → j < transitionLimit
 trigger-number m table j k e = go (getElem? (m .transitions) j) refl e
@@ -216,7 +197,7 @@ module _ (m : Monitor) (recording : List Packet) (table : Sane m) (t : ℕ) (p :
   kept-first i r rs q k e f g h c u s =
       split-by (r ∷ rs) (some k) (r .transition) (keep (r .transition)) e (moveOf-keep (r .transition) small) (omega (arith, small)) tt q
       (one-row m p (marked kept (suc t) k (r .transition)) ∙ ap (account m p) same ∙ c) rs (ap (λ x. x ∷ rs) same) i u
-      (subst (λ x. StartsAfter x rs) f (starts-after m q r i rs (s .before) (omega arith) u))
+      (subst (λ x. StartsAfter x rs) f (starts-after m q r i rs (s .before) u))
     where
       small : r .transition < transitionLimit
       small = trigger-number m table (r .transition) (r .kind) (s .trigger)
@@ -231,49 +212,21 @@ module _ (m : Monitor) (recording : List Packet) (table : Sane m) (t : ℕ) (p :
       split-by (r ∷ rs) none (firstAdd + r .transition) (add (r .transition)) e (moveOf-add (r .transition))
       (omega (arith, trigger-number m table (r .transition) (r .kind) (s .trigger))) (r .kind, s .trigger) q
       (rw (s .trigger) (one-row m p (marked added (suc t) (r .kind) (r .transition)) ∙ ap (account m p) same ∙ c)) rs (rw (s .trigger) (ap (λ x. x ∷ rs) same)) i u
-      (subst (λ x. StartsAfter x rs) f (starts-after m q r i rs (s .before) (omega arith) u))
+      (subst (λ x. StartsAfter x rs) f (starts-after m q r i rs (s .before) u))
     where
       same : marked added (suc t) (r .kind) (r .transition) ≡ r
       same = as-marked r added (suc t) (r .kind) (r .transition) h f refl refl
 
   removed-first : (i : ℕ) (r : Row) (rs : List Row) (q : Progress) (k : ℕ) → recordedAt recording (suc t) ≡ some k → r .time ≡ suc t → r .kind ≡ k
-      → r .mark ≡ removed → account m p r ≡ some q → q .before ≡ some r → broken m q i rs ≡ none → Split m recording t p (r ∷ rs)
-  unfolding rowsBy accounts bind moveOf
-  removed-first i r rs q k e f g h c b = go rs
+      → r .mark ≡ removed → account m p r ≡ some q → broken m q i rs ≡ none → q .before ≡ some r → Split m recording t p (r ∷ rs)
+  unfolding rowsBy moveOf
+  removed-first i r rs q k e f g h c u b =
+      split-by (r ∷ rs) (some k) restMove rest e refl (omega arith) tt q
+      (one-row m p (marked removed (suc t) k noTransition) ∙ ap (account m p) same ∙ c) rs (ap (λ x. x ∷ rs) same) i u
+      (subst (λ x. StartsAfter x rs) f (starts-after m q r i rs b u))
     where
       same : marked removed (suc t) k noTransition ≡ r
       same = as-marked r removed (suc t) k noTransition h f g (in-form (p .before) r (in-turn m p r q c .0) .transition h)
-
-      alone : (l : List Row) → broken m q i l ≡ none → StartsAfter (suc t) l → Split m recording t p (r ∷ l)
-      alone l u a =
-          split-by (r ∷ l) (some k) restMove rest e refl (omega arith) tt q (one-row m p (marked removed (suc t) k noTransition) ∙ ap (account m p) same ∙ c)
-          l (ap (λ x. x ∷ l) same) i u a
-
-      swapped : (s : Row) (l : List Row) (v : Progress) → account m q s ≡ some v → broken m v (suc i) l ≡ none → s .time ≡ suc t → s .mark ≡ added
-          → Sent m s v → Split m recording t p (r ∷ s ∷ l)
-      swapped s l v d u a n x =
-          split-by (r ∷ s ∷ l) (some k) (firstAdd + s .transition) (add (s .transition)) e (moveOf-add (s .transition))
-          (omega (arith, trigger-number m table (s .transition) (s .kind) (x .trigger))) (s .kind, x .trigger) v
-          (rw (x .trigger)
-          (ap₂ (λ y z. accounts m p (y ∷ z ∷ [])) same alike ∙ rw c (one-row m q s ∙ d)))
-          l (rw (x .trigger) (ap₂ (λ y z. y ∷ z ∷ l) same alike)) (suc i) u
-          (subst (λ y. StartsAfter y l) a (starts-after m v s (suc i) l (x .before) (omega arith) u))
-        where
-          alike : marked added (suc t) (s .kind) (s .transition) ≡ s
-          alike = as-marked s added (suc t) (s .kind) (s .transition) n a refl refl
-
-      second : (s : Row) (l : List Row) (v : Progress) → broken m q i (s ∷ l) ≡ none → account m q s ≡ some v → broken m v (suc i) l ≡ none
-          → Behind r s → Accounted m q s v → Split m recording t p (r ∷ s ∷ l)
-      second s l v u d w (later a) y = alone (s ∷ l) u (omega arith)
-      second s l v u d w (joined x n o) (as-kept y z a) = absurd (omega arith)
-      second s l v u d w (joined x n o) (as-removed y z a) = absurd (omega arith)
-      second s l v u d w (joined x n o) (as-added y z a) = swapped s l v d w (omega arith) o a
-
-      go : (l : List Row) → broken m q i l ≡ none → Split m recording t p (r ∷ l)
-      go [] u = alone [] u tt
-      go (s ∷ l) u =
-          let x = first-row m q i s l u in
-          second s l (x .0) u (x .1) (x .2) (next-row m q r s (x .0) b (x .1)) (accounted m q s (x .0) (x .1))
 
   -- the kind of the next recorded row
   next-kind : (r : Row) (k : ℕ) (l : List Packet) → p .left ≡ record { time = suc t; kind = k } ∷ l → isNext (p .left) r ≡ true → r .kind ≡ k
@@ -285,7 +238,7 @@ module _ (m : Monitor) (recording : List Packet) (table : Sane m) (t : ℕ) (p :
   here i r rs q e c u (quiet f a) (as-removed g n b) = absurd (not-next (suc t) (p .left) r (a .rising) (omega arith) n)
   here i r rs q e c u (quiet f a) (as-added g n s) = added-first i r rs q f e g c u s
   here i r rs q e c u (heard k l f x a) (as-kept g n s) = kept-first i r rs q k f e (next-kind r k l x n) g c u s
-  here i r rs q e c u (heard k l f x a) (as-removed g n b) = removed-first i r rs q k f e (next-kind r k l x n) g c b u
+  here i r rs q e c u (heard k l f x a) (as-removed g n b) = removed-first i r rs q k f e (next-kind r k l x n) g c u b
   here i r rs q e c u (heard k l f x a) (as-added g n s) =
       absurd (false≢true (sym (ap not (eq-eqb (suc t) (r .time) (sym e))) ∙ subst (λ y. noneAt y (r .time) ≡ true) x n))
 

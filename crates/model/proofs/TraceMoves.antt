@@ -1,4 +1,4 @@
--- A trace that explains a recording gives moves, one for each instant: the transition's move where the trace has a packet, rest elsewhere.
+-- A trace that explains a recording gives moves, one for each instant: the transition's move where the trace has a packet, else rest, which removes what is recorded.
 use Prim.Native.Nat.{ℕ, zero, suc, _+_, _-_, _≤_, _<_}
 use native.Mathlib.Nat.{add-assoc, add-zero}
 use native.Mathlib.Omega.{arith}
@@ -7,16 +7,16 @@ use mathlib.Core.Path.{_≡_, refl, sym, ap, subst, _∙_}
 use mathlib.Core.List.{List, [], _∷_, map-map, map-id, List·Memᴰ, List·Memᴰ·head, List·Memᴰ·tail, List·Memᴰ·not-nil, List·Memᴰ·cases-cons, List·Memᴰ·eq-of-singleton}
 use mathlib.Core.Bool.{Bool, true, false, cond, _&&_}
 use mathlib.Core.Option.{Option, none, some, Option·map, bind, bind-eq-some-iff, Option·none-ne-some, Option·some-injective}
-use mathlib.Core.Logic.{⊎-elim}
+use mathlib.Core.Logic.{_↔_, _⊎_, inl, inr, ⊎-elim}
 use lib.ListN.{length, getElem?}
 use lib.Dec.{eqb}
-use borrow.Author.Tests.{eqb-true, eq-eqb, ne-eqb}
+use borrow.Author.Tests.{eqb-true, eq-eqb}
 use Rattle.model.specs.Limits.{transitionLimit}
 use Rattle.model.specs.Monitor.{Monitor, Config, Transition, start, wait, fires, enabled, after, toUnit, airtime}
 use Rattle.model.specs.Guard.{holds}
 use Rattle.model.specs.Trace.{Packet, Spaced, PacketTrace, Carries, Possible}
 use Rattle.model.specs.Recording.{endOf}
-use Rattle.model.specs.Situation.{configOf, withAir, uncapped, firstBy, sent, triggerOf, moved, tick, stepBy, recordedAt, moveLimit, moveOf, restMove, firstAdd}
+use Rattle.model.specs.Situation.{configOf, withAir, uncapped, firstBy, sent, missed, triggerOf, moved, tick, stepBy, recordedAt, moveLimit, moveOf, restMove, firstAdd}
 use Rattle.model.specs.declared.Situation.{Situation}
 use Rattle.model.proofs.Basics.{and-left, and-right, getElem-within}
 use Rattle.model.specs.Sane.{Sane, SaneRecording}
@@ -63,6 +63,11 @@ module _ (m : Monitor) where
   ahead-down n a [] h x = tt
   ahead-down n a (p ∷ r) h x = (omega arith, x .1)
 
+  -- .. and none at that instant
+  ahead-up : (n : ℕ) (tr : List Packet) → Ahead n tr → ((p : Packet) → List·Memᴰ p tr → p .time ≡ n → ⊥) → Ahead (suc n) tr
+  ahead-up n [] x lacks = tt
+  ahead-up n (p ∷ r) x lacks = let other : p .time ≡ n → ⊥ = lacks p (List·Memᴰ·head refl) in (omega (arith, x .0), x .1)
+
   pub spaced-ahead : (p : Packet) (r : List Packet) → Spaced m p r → Ahead (freeAfter p) r
   spaced-ahead p [] x = tt
   spaced-ahead p (q ∷ r) x = (omega arith, x .1)
@@ -72,6 +77,14 @@ module _ (m : Monitor) where
   ahead-time n (q ∷ r) x p i =
       ⊎-elim (λ e. omega (arith, ap (λ (a : Packet). a .time) e))
       (λ j. omega (arith, ahead-time (freeAfter q) r (spaced-ahead q r (x .1)) p j)) (List·Memᴰ·cases-cons i)
+
+  -- a packet later than the first is among the others, and one at the time of the first is the first
+
+  behind-first : (p : Packet) (r : List Packet) (q : Packet) → p .time < q .time → List·Memᴰ q (p ∷ r) → List·Memᴰ q r
+  behind-first p r q h i = ⊎-elim (λ e. absurd (omega (arith, ap (λ (a : Packet). a .time) e))) (λ j. j) (List·Memᴰ·cases-cons i)
+
+  only-first : (p : Packet) (r : List Packet) → Ahead (freeAfter p) r → (q : Packet) → q .time ≡ p .time → List·Memᴰ q (p ∷ r) → q ≡ p
+  only-first p r after q e i = ⊎-elim (λ h. h) (λ j. absurd (omega (arith, ahead-time (freeAfter p) r after q j))) (List·Memᴰ·cases-cons i)
 
   by-end : (q : Packet) (r : List Packet) → Spaced m q r → (p : Packet) → List·Memᴰ p (q ∷ r) → p .time ≤ endOf (q ∷ r)
   unfolding endOf
@@ -130,54 +143,64 @@ module _ (m : Monitor) where
     unfolding sent
     sent-free j k d free e = rw (eq-eqb (s .air) 0, e)
 
-    -- the move by which a packet of kind k goes by transition j: it keeps a recorded packet of that kind, and replaces one of another kind, which has to be to the unit
+    -- the move by which a packet of kind k goes by transition j: it keeps what is recorded, if anything is
     sends :
-        (j k : ℕ) → j < transitionLimit → triggerOf m j ≡ some k → (recorded : Option ℕ)
-        → ((a : ℕ) → recorded ≡ some a → (a ≡ k → ⊥) → toUnit m a ≡ true)
+        (j k : ℕ) → j < transitionLimit → triggerOf m j ≡ some k → (recorded : Option ℕ) → ((a : ℕ) → recorded ≡ some a → a ≡ k)
         → (n : ℕ) × (n < moveLimit) × (moved m recorded s (moveOf n) ≡ sent m j k s)
     unfolding moved bind
-    sends j k few trigger none others = (firstAdd + j, omega arith, rw (moveOf-add j, trigger))
-    sends j k few trigger (some a) others = split (ℕ-discrete a k)
-      where
-        split : Dec (a ≡ k) → (n : ℕ) × (n < moveLimit) × (moved m (some a) s (moveOf n) ≡ sent m j k s)
-        split (yes e) = (j, omega arith, rw (moveOf-keep j few, e))
-        split (no e) = (firstAdd + j, omega arith, rw (moveOf-add j, trigger, others a refl e, ne-eqb k a (λ q. e (sym q))))
+    sends j k few trigger none same = (firstAdd + j, omega arith, rw (moveOf-add j, trigger))
+    sends j k few trigger (some a) same = (j, omega arith, rw (moveOf-keep j few, same a refl))
 
-    rests : (recorded : Option ℕ) → ((a : ℕ) → recorded ≡ some a → toUnit m a ≡ true) → moved m recorded s (moveOf restMove) ≡ some s
+    rests : (recorded : Option ℕ) → ((a : ℕ) → recorded ≡ some a → ⊥) → moved m recorded s (moveOf restMove) ≡ some s
     unfolding moved
-    rests none others = rw moveOf-rest
-    rests (some a) others = rw (moveOf-rest, others a refl)
+    rests none quiet = rw moveOf-rest
+    rests (some a) quiet = absurd (quiet a refl)
+
+    -- a recorded packet to the unit can be removed where the air is free
+    misses : (k : ℕ) → s .air ≡ 0 → toUnit m k ≡ true → moved m (some k) s (moveOf restMove) ≡ some (withAir (configOf s) (airtime m k + 1))
+    unfolding moved missed
+    misses k free inbound = rw (moveOf-rest, eq-eqb (s .air) 0 free, inbound)
 
   module _ (recording : List Packet) where
-    -- the trace from instant t + 1 on, where the situation just before that instant is s: it finds the air free, carries the monitor, and recorded packets that it lacks are to the unit
-    record Tracks (t : ℕ) (s : Situation) (tr : List Packet) : Type 0 where
-      ahead : Ahead (suc t + s .air) tr
+    -- what is on the air from instant t + 1 on, where the situation just before that instant is s: it finds the air free, it is what is recorded and what the
+    -- trace has, the trace carries the monitor, and recorded packets that it lacks are to the unit
+    record Tracks (t : ℕ) (s : Situation) (all tr : List Packet) : Type 0 where
+      ahead : Ahead (suc t + s .air) all
+      entries : (p : Packet) → t < p .time → List·Memᴰ p all ↔ (List·Memᴰ p recording ⊎ List·Memᴰ p tr)
+      later : Ahead (suc t) tr
       carries : Carries m (suc t) (configOf s) tr
       mutation : (p : Packet) → List·Memᴰ p recording → t < p .time → (List·Memᴰ p tr → ⊥) → toUnit m (p .kind) ≡ true
 
-    -- one instant: a move and the trace after it
+    -- one instant: a move, and what is on the air and in the trace after it
     record Goes (t : ℕ) (s : Situation) : Type 0 where
       number : ℕ
       below : number < moveLimit
       next : Situation
       moves : stepBy m uncapped (recordedAt recording (suc t)) s (moveOf number) ≡ some next
+      all : List Packet
       trace : List Packet
-      tracks : Tracks (suc t) next trace
+      tracks : Tracks (suc t) next all trace
 
-    -- rest, where the trace has no packet at instant t + 1
-    goes-idle : (t : ℕ) (s : Situation) (tr : List Packet) → Ahead (suc (suc t)) tr → Tracks t s tr → Goes t s
+    -- rest, where nothing is on the air at instant t + 1
+    goes-idle : (t : ℕ) (s : Situation) (all tr : List Packet) → Ahead (suc (suc t)) all → Tracks t s all tr → Goes t s
     unfolding stepBy
-    goes-idle t s tr later x =
+    goes-idle t s all tr late x =
         record {
           number = restMove;
           below = omega arith;
           next = tick uncapped s;
-          moves = ap (Option·map (tick uncapped)) (rests s (recordedAt recording (suc t)) others);
+          moves =
+              ap (Option·map (tick uncapped))
+              (rests s (recordedAt recording (suc t))
+              (λ a e. none-now (record { time = suc t; kind = a }) (inl (recorded-member recording (suc t) a e)) refl));
+          all = all;
           trace = tr;
           tracks =
               record {
-                ahead = again tr later (x .ahead);
-                carries = carries-tick (suc t) (configOf s) tr later (x .carries);
+                ahead = again all late (x .ahead);
+                entries = λ p h. x .entries p (omega arith);
+                later = trace-late;
+                carries = carries-tick (suc t) (configOf s) tr trace-late (x .carries);
                 mutation = λ p i h lacks. x .mutation p i (omega arith) lacks;
               };
         }
@@ -186,32 +209,71 @@ module _ (m : Monitor) where
         again [] a b = tt
         again (q ∷ l) a b = (omega arith, a .1)
 
-        others : (a : ℕ) → recordedAt recording (suc t) ≡ some a → toUnit m a ≡ true
-        others a e =
-            let lost : Packet = record { time = suc t; kind = a } in
-            x .mutation lost (recorded-member recording (suc t) a e) (omega arith)
-            (λ i. omega (arith, ahead-time (suc (suc t)) tr later lost i))
+        none-now : (p : Packet) → List·Memᴰ p recording ⊎ List·Memᴰ p tr → p .time ≡ suc t → ⊥
+        none-now p i e = omega (arith, ahead-time (suc (suc t)) all late p (x .entries p (omega arith) .1 i))
 
-    module _ (sane : Sane m) where
-      -- the move of the packet's transition, where the trace has a packet at instant t + 1
-      goes-sending : (t : ℕ) (s : Situation) (p : Packet) (r : List Packet) → p .time ≡ suc t → Tracks t s (p ∷ r) → Goes t s
+        trace-late : Ahead (suc (suc t)) tr
+        trace-late = ahead-up (suc t) tr (x .later) (λ p i. none-now p (inr i))
+
+    module _ (sane : Sane m) (sound : PacketTrace m recording) where
+      -- removal, where the packet on the air at instant t + 1 is not in the trace
+      goes-missing : (t : ℕ) (s : Situation) (p : Packet) (r tr : List Packet) → p .time ≡ suc t → Ahead (suc (suc t)) tr → Tracks t s (p ∷ r) tr → Goes t s
       unfolding stepBy
-      goes-sending t s p r now x =
+      goes-missing t s p r tr now late x =
+          record {
+            number = restMove;
+            below = omega arith;
+            next = tick uncapped (withAir (configOf s) (airtime m (p .kind) + 1));
+            moves =
+                ap (Option·map (tick uncapped))
+                (ap (λ (o : Option ℕ). moved m o s (moveOf restMove)) heard
+                ∙ misses s (p .kind) (omega (arith, x .ahead .0)) (x .mutation p recorded (omega arith) lacks));
+            all = r;
+            trace = tr;
+            tracks =
+                record {
+                  ahead = ahead-down (freeAfter p) (suc (suc t) + (airtime m (p .kind) + 1 - 1)) r (omega arith) (spaced-ahead p r (x .ahead .1));
+                  entries =
+                      λ q h. (λ i. x .entries q (omega arith) .0 (List·Memᴰ·tail i), λ i. behind-first p r q (omega arith) (x .entries q (omega arith) .1 i));
+                  later = late;
+                  carries = carries-tick (suc t) (configOf s) tr late (x .carries);
+                  mutation = λ q i h. x .mutation q i (omega arith);
+                };
+          }
+        where
+          lacks : List·Memᴰ p tr → ⊥
+          lacks i = omega (arith, ahead-time (suc (suc t)) tr late p i)
+
+          recorded : List·Memᴰ p recording
+          recorded = ⊎-elim (λ i. i) (λ i. absurd (lacks i)) (x .entries p (omega arith) .0 (List·Memᴰ·head refl))
+
+          heard : recordedAt recording (suc t) ≡ some (p .kind)
+          heard = ap (recordedAt recording) (sym now) ∙ recorded-at recording sound p recorded
+
+      -- the move of the packet's transition, where the packet on the air at instant t + 1 is in the trace
+      goes-sending : (t : ℕ) (s : Situation) (p : Packet) (r tr : List Packet) → p .time ≡ suc t → Tracks t s (p ∷ r) (p ∷ tr) → Goes t s
+      unfolding stepBy
+      goes-sending t s p r tr now x =
           record {
             number = sending .0;
             below = sending .1;
             next = tick uncapped (withAir d (airtime m (p .kind) + 1));
             moves = ap (Option·map (tick uncapped)) (sending .2 ∙ sent-free s j (p .kind) d (omega (arith, x .ahead .0)) fired);
-            trace = r;
+            all = r;
+            trace = tr;
             tracks =
                 record {
                   ahead = ahead-down (freeAfter p) (suc (suc t) + (airtime m (p .kind) + 1 - 1)) r (omega arith) after;
+                  entries =
+                      λ q h. (
+                        λ i. ⊎-elim inl (λ l. inr (behind-first p tr q (omega arith) l)) (x .entries q (omega arith) .0 (List·Memᴰ·tail i)),
+                        λ i. behind-first p r q (omega arith) (x .entries q (omega arith) .1 (⊎-elim inl (λ l. inr (List·Memᴰ·tail l)) i)),
+                      );
+                  later = ahead-down (freeAfter p) (suc (suc t)) tr (omega arith) behind;
                   carries =
-                      subst (λ (n : ℕ). Carries m (suc n) (wait 1 d) r) now
-                      (carries-tick (p .time) d r (ahead-down _ _ r (omega arith) after) (x .carries .3));
-                  mutation =
-                      λ q i h lacks. x .mutation q i (omega arith)
-                      (λ l. ⊎-elim (λ e. omega (arith, ap (λ (b : Packet). b .time) e)) lacks (List·Memᴰ·cases-cons l));
+                      subst (λ (n : ℕ). Carries m (suc n) (wait 1 d) tr) now
+                      (carries-tick (p .time) d tr (ahead-down _ _ tr (omega arith) behind) (x .carries .3));
+                  mutation = λ q i h lacks. x .mutation q i (omega arith) (λ l. lacks (behind-first p tr q (omega arith) l));
                 };
           }
         where
@@ -239,31 +301,45 @@ module _ (m : Monitor) where
           after : Ahead (freeAfter p) r
           after = spaced-ahead p r (x .ahead .1)
 
-          others : (a : ℕ) → recordedAt recording (suc t) ≡ some a → (a ≡ p .kind → ⊥) → toUnit m a ≡ true
-          others a e other =
-              let lost : Packet = record { time = suc t; kind = a } in
-              x .mutation lost (recorded-member recording (suc t) a e) (omega arith)
-              (λ l.
-              ⊎-elim (λ h. other (ap (λ (b : Packet). b .kind) h))
-              (λ i. omega (arith, ahead-time (freeAfter p) r after lost i))
-              (List·Memᴰ·cases-cons l))
+          behind : Ahead (freeAfter p) tr
+          behind = spaced-ahead p tr (x .later .1)
+
+          same : (a : ℕ) → recordedAt recording (suc t) ≡ some a → a ≡ p .kind
+          same a e =
+              ap (λ (b : Packet). b .kind)
+              (only-first p r after (record { time = suc t; kind = a }) (sym now)
+              (x .entries (record { time = suc t; kind = a }) (omega arith) .1 (inl (recorded-member recording (suc t) a e))))
 
           sending : (n : ℕ) × (n < moveLimit) × (moved m (recordedAt recording (suc t)) s (moveOf n) ≡ sent m j (p .kind) s)
-          sending = sends s j (p .kind) few trigger (recordedAt recording (suc t)) others
+          sending = sends s j (p .kind) few trigger (recordedAt recording (suc t)) same
 
-      goes : (t : ℕ) (s : Situation) (tr : List Packet) → Tracks t s tr → Goes t s
-      goes t s [] x = goes-idle t s [] tt x
-      goes t s (p ∷ r) x = split (ℕ-discrete (p .time) (suc t))
+      -- a packet on the air at instant t + 1: the trace's first is that, or later
+      goes-busy : (t : ℕ) (s : Situation) (p : Packet) (r tr : List Packet) → p .time ≡ suc t → Tracks t s (p ∷ r) tr → Goes t s
+      goes-busy t s p r [] now x = goes-missing t s p r [] now tt x
+      goes-busy t s p r (q ∷ tr) now x = split (ℕ-discrete (q .time) (suc t))
+        where
+          split : Dec (q .time ≡ suc t) → Goes t s
+          split (yes e) =
+              let same : q ≡ p =
+              only-first p r (spaced-ahead p r (x .ahead .1)) q (e ∙ sym now) (x .entries q (omega arith) .1 (inr (List·Memᴰ·head refl))) in
+              goes-sending t s p r tr now (subst (λ (a : Packet). Tracks t s (p ∷ r) (a ∷ tr)) same x)
+          split (no e) = goes-missing t s p r (q ∷ tr) now (omega (arith, x .later .0), x .later .1) x
+
+      goes : (t : ℕ) (s : Situation) (all tr : List Packet) → Tracks t s all tr → Goes t s
+      goes t s [] tr x = goes-idle t s [] tr tt x
+      goes t s (p ∷ r) tr x = split (ℕ-discrete (p .time) (suc t))
         where
           split : Dec (p .time ≡ suc t) → Goes t s
-          split (yes e) = goes-sending t s p r e x
-          split (no e) = goes-idle t s (p ∷ r) (omega (arith, x .ahead .0), x .ahead .1) x
+          split (yes e) = goes-busy t s p r tr e x
+          split (no e) = goes-idle t s (p ∷ r) tr (omega (arith, x .ahead .0), x .ahead .1) x
 
-      runs : (n t : ℕ) (s : Situation) (tr : List Packet) → Tracks t s tr → (ks : List ℕ) × (z : Situation) × (length ks ≡ n) × Moves m recording t s ks z
-      runs zero t s tr x = ([], s, refl, refl)
-      runs (suc n) t s tr x =
-          let g : Goes t s = goes t s tr x in
-          let more = runs n (suc t) (g .next) (g .trace) (g .tracks) in
+      runs :
+          (n t : ℕ) (s : Situation) (all tr : List Packet) → Tracks t s all tr
+          → (ks : List ℕ) × (z : Situation) × (length ks ≡ n) × Moves m recording t s ks z
+      runs zero t s all tr x = ([], s, refl, refl)
+      runs (suc n) t s all tr x =
+          let g : Goes t s = goes t s all tr x in
+          let more = runs n (suc t) (g .next) (g .all) (g .trace) (g .tracks) in
           (g .number ∷ more .0, more .1, ap suc (more .2), (g .next, g .below, g .moves, more .3))
 
 -- where some trace explains the recording, moves lead through all its instants
@@ -271,9 +347,11 @@ pub possible-moves :
     (m : Monitor) (recording : List Packet) → Sane m → SaneRecording m recording → Possible m recording
     → (ks : List ℕ) × (z : Situation) × (length ks ≡ endOf recording) × Moves m recording 0 (firstBy uncapped) ks z
 possible-moves m recording sane recorded x =
-    runs m recording sane (endOf recording) 0 (firstBy uncapped) (x .trace)
+    runs m recording sane (recorded .trace) (endOf recording) 0 (firstBy uncapped) (x .together .all) (x .trace)
     (record {
-      ahead = trace-ahead m (x .trace) (x .spaced);
+      ahead = trace-ahead m (x .together .all) (x .together .spaced);
+      entries = λ p h. x .together .entries p;
+      later = trace-ahead m (x .trace) (x .spaced);
       carries = carries-tick m 0 start (x .trace) (trace-ahead m (x .trace) (x .spaced)) (x .satisfied);
       mutation = λ p i h lacks. x .mutation p i lacks;
     })

@@ -1,5 +1,5 @@
 -- The customer's demands 2 and 3, in the paper's words.
-use Prim.Native.Nat.{ℕ, _+_, _*_, _-_, _<_, _≤_}
+use Prim.Native.Nat.{ℕ, _*_, _-_, _<_, _≤_}
 use mathlib.Core.Path.{_≡_}
 use mathlib.Core.Logic.{_↔_}
 use mathlib.Core.List.{List, [], _∷_, List·Memᴰ}
@@ -45,12 +45,12 @@ CarriedBy m now c [] = Unit {0}
 CarriedBy m now c (r ∷ rs) =
     (d : Config) × (fires m (r .transition) (r .kind) (wait (r .time - now) c) ≡ some d) × CarriedBy m (r .time) d rs
 
--- "its rows account for the whole recording, every removed row was to the unit, kept and added rows are a packet trace, and the named transitions carry the
--- monitor along it"
+-- "its rows account for the whole recording, every removed row was to the unit", all rows, kept, removed and added together, are a packet trace (R-3), "and the
+-- named transitions carry the monitor along" the kept and added ones
 pub record Explains (m : Monitor) (recording : List Packet) (rows : List Row) : Type 0 where
   pub accounts : heard rows ≡ recording
   pub inbound : (r : Row) → List·Memᴰ r rows → r .mark ≡ removed → toUnit m (r .kind) ≡ true
-  pub spaced : PacketTrace m (packets (sentRows rows))
+  pub spaced : PacketTrace m (packets rows)
   pub carried : CarriedBy m 0 start (sentRows rows)
 
 -- Demand 3
@@ -110,6 +110,6 @@ pub record Judged (m : Monitor) (recording : List Packet) (budget : ℕ) (v : Ve
   pub rejected : costOf m recording ≤ budget → IsRejected v ↔ (Possible m recording → ⊥)
   pub valued : ValuesOf m recording budget v
   pub witnessed : IsAccepted v → Preferred m recording (preferred m recording)
-  pub short : length (preferred m recording) ≤ endOf recording + length recording
+  pub short : length (preferred m recording) ≤ endOf recording
   pub bounded : costOf m recording ≤ endOf recording * size m
   pub distinct : Numbered m

@@ -15,7 +15,7 @@ unfoldable pub rowsOn : ℕ → List Row → List Row
 rowsOn t [] = []
 rowsOn t (r ∷ rs) = cond (eqb (r .time) t) (r ∷ rowsOn t rs) (rowsOn t rs)
 
--- what a witness does at an instant: keeps by a transition, adds nothing (a recorded row is removed), adds by a transition (behind a removed row, if one is recorded)
+-- what a witness does at an instant: keeps by a transition, adds nothing (a recorded row is removed), adds by a transition
 pub data Choice : Type 0 where
   keeping : ℕ → Choice
   nothing : Choice
@@ -23,7 +23,7 @@ pub data Choice : Type 0 where
 
 unfoldable pub choice : List Row → Choice
 choice [] = nothing
-choice (r ∷ rs) = cond (eqb (r .mark) kept) (keeping (r .transition)) (cond (eqb (r .mark) added) (adding (r .transition)) (choice rs))
+choice (r ∷ rs) = cond (eqb (r .mark) kept) (keeping (r .transition)) (cond (eqb (r .mark) added) (adding (r .transition)) nothing)
 
 -- "first comes keep, then nothing added (a recorded row is removed), then an added row; among transitions, the lower number"
 abbrev pub Sooner : Choice → Choice → Type 0

@@ -52,21 +52,20 @@ abbrev pub others : List Packet → List Packet
 others [] = []
 others (p ∷ ps) = ps
 
--- "a kept or added row finds the air free, and its transition has its kind and fires"
+-- behind a row, which takes the air for its airtime
+abbrev pub behindRow : Monitor → Row → List Packet → (now : ℕ) → Config → Progress
+behindRow m r left now config =
+    record { before = some r; left = left; now = now; config = config; free = r .time + airtime m (r .kind) + 1 }
+
+-- of a kept or added row, "its transition has its kind and fires"
 unfoldable pub sends : Monitor → Progress → Row → List Packet → Option Progress
 sends m p r left =
-    cond (leb (p .free) (r .time))
-    (Option·map
-    (λ c. record { before = some r; left = left; now = r .time; config = c; free = r .time + airtime m (r .kind) + 1 })
-    (fires m (r .transition) (r .kind) (wait (r .time - p .now) (p .config))))
-    none
+    Option·map (behindRow m r left (r .time)) (fires m (r .transition) (r .kind) (wait (r .time - p .now) (p .config)))
 
--- "a removed row is to the unit". "A removed packet takes no air"
+-- "a removed row is to the unit". The monitor stays where it was
 unfoldable pub removes : Monitor → Progress → Row → Option Progress
 removes m p r =
-    cond (isNext (p .left) r && toUnit m (r .kind))
-    (some (record { before = some r; left = others (p .left); now = p .now; config = p .config; free = p .free }))
-    none
+    cond (isNext (p .left) r && toUnit m (r .kind)) (some (behindRow m r (others (p .left)) (p .now) (p .config))) none
 
 unfoldable pub keeps : Monitor → Progress → Row → Option Progress
 keeps m p r = cond (isNext (p .left) r) (sends m p r (others (p .left))) none
@@ -74,10 +73,10 @@ keeps m p r = cond (isNext (p .left) r) (sends m p r (others (p .left))) none
 unfoldable pub adds : Monitor → Progress → Row → Option Progress
 adds m p r = cond (noneAt (p .left) (r .time)) (sends m p r (p .left)) none
 
--- the next row: its form, and the rule for its mark. None where a rule is broken
+-- the next row: its form; it "finds the air free", a removed row too (R-3); and the rule for its mark. None where a rule is broken
 unfoldable pub account : Monitor → Progress → Row → Option Progress
 account m p r =
-    cond (inPlace (p .before) r && noneBefore (p .left) (r .time))
+    cond (inPlace (p .before) r && noneBefore (p .left) (r .time) && leb (p .free) (r .time))
     (cond (eqb (r .mark) kept) (keeps m p r) (cond (isRemoved r) (removes m p r) (adds m p r)))
     none
 

@@ -2,7 +2,7 @@
 use Prim.Native.Nat.{ℕ, _+_, _-_, _*_, _/_, _%_, _^_, _<_, _≤_, min}
 use mathlib.Core.Path.{_≡_}
 use mathlib.Core.List.{List, [], _∷_, map}
-use mathlib.Core.Bool.{true, false, cond, not, _&&_}
+use mathlib.Core.Bool.{true, false, cond}
 use mathlib.Core.Option.{Option, none, some, Option·map, bind}
 use lib.ListN.{getD, getElem?}
 use lib.Dec.{ltb, eqb}
@@ -33,28 +33,37 @@ TwoClocks c = c ≡ getD c 0 0 ∷ getD c 1 0 ∷ []
 abbrev pub firstBy : (List ℕ → List ℕ) → Situation
 firstBy write = record { state = 0; variables = 0; clocks = write (1 ∷ 1 ∷ []); air = 0 }
 
--- moves, in document 01's order of preference: keep by a transition; add nothing; add a row by a transition. Where a row is recorded, the last two remove it
+-- moves, in document 01's order of preference: keep by a transition; add nothing, which removes a recorded row; add a row by a transition
 pub data Move : Type 0 where
   keep : ℕ → Move
   rest : Move
   add : ℕ → Move
 
--- "A kept or added row finds the air free and fires one transition." A packet of airtime a leaves a taken after the tick
+-- a packet of kind k on the air, which brings the monitor to a configuration, if to any: it finds the air free, and of airtime a it leaves a taken after the tick
+abbrev pub onAir : Monitor → ℕ → Situation → Option Config → Option Situation
+onAir m k s o = cond (eqb (s .air) 0) (Option·map (λ c. withAir c (airtime m k + 1)) o) none
+
+-- "A kept or added row finds the air free and fires one transition"
 unfoldable pub sent : Monitor → ℕ → ℕ → Situation → Option Situation
-sent m j k s = cond (eqb (s .air) 0) (Option·map (λ c. withAir c (airtime m k + 1)) (fires m j k (configOf s))) none
+sent m j k s = onAir m k s (fires m j k (configOf s))
+
+-- a removed row is to the unit; "the channel was taken, though the unit missed it" (R-3)
+unfoldable pub missed : Monitor → ℕ → Situation → Option Situation
+missed m k s = onAir m k s (cond (toUnit m k) (some (configOf s)) none)
 
 -- the kind that an added row by transition j has
 abbrev pub triggerOf : Monitor → ℕ → Option ℕ
 triggerOf m j = Option·map (λ t. t .trigger) (getElem? (m .transitions) j)
 
--- "Where no row is recorded, a move is nothing or an added row; where one is, it is keeping it, or, if the row is to the unit, removing it and then adding nothing or a row of another kind"
+-- "Where no row is recorded, a move is nothing or an added row; where one is, it is keeping it, or, if the row is to the unit, removing it"; what is removed
+-- takes the air, so nothing is added at its instant
 unfoldable pub moved : Monitor → Option ℕ → Situation → Move → Option Situation
 moved m none s (keep j) = none
 moved m none s rest = some s
 moved m none s (add j) = bind (triggerOf m j) (λ a. sent m j a s)
 moved m (some k) s (keep j) = sent m j k s
-moved m (some k) s rest = cond (toUnit m k) (some s) none
-moved m (some k) s (add j) = bind (triggerOf m j) (λ a. cond (toUnit m k && not (eqb a k)) (sent m j a s) none)
+moved m (some k) s rest = missed m k s
+moved m (some k) s (add j) = none
 
 -- "The tick raises each clock by 1 and leaves the air as said above"
 abbrev pub tick : (List ℕ → List ℕ) → Situation → Situation

@@ -1,6 +1,7 @@
--- Packet traces (Definition 1), the traces that the monitor satisfies (Definition 2), and mutation traces (Definition 4).
+-- Packet traces (Definition 1), the traces that the monitor satisfies (Definition 2), mutation traces (Definition 4), and what was on the air (document 02, R-3).
 use Prim.Native.Nat.{ℕ, _-_, _≤_, _<_}
 use mathlib.Core.Path.{_≡_}
+use mathlib.Core.Logic.{_↔_, _⊎_}
 use mathlib.Core.List.{List, [], _∷_, List·Memᴰ}
 use mathlib.Core.Bool.{true}
 use mathlib.Core.Option.{some}
@@ -34,9 +35,17 @@ Satisfies m tr = Carries m 0 start tr
 abbrev pub Mutation : Monitor → List Packet → List Packet → Type 0
 Mutation m recording tr = (p : Packet) → List·Memᴰ p recording → (List·Memᴰ p tr → ⊥) → toUnit m (p .kind) ≡ true
 
--- some packet trace, of any length and at any positive times, is a mutation of the recording and satisfies the monitor
+-- "The sniffer heard a removed packet, so the channel was taken": the entries of the recording and of the trace together are those of one packet trace. "Two
+-- entries of the same time and kind are the same entry"
+pub record Together (m : Monitor) (recording tr : List Packet) : Type 0 where
+  pub all : List Packet
+  pub spaced : PacketTrace m all
+  pub entries : (p : Packet) → List·Memᴰ p all ↔ (List·Memᴰ p recording ⊎ List·Memᴰ p tr)
+
+-- some packet trace, of any length and at any positive times, is a mutation of the recording, on one air with it, and satisfies the monitor
 pub record Possible (m : Monitor) (recording : List Packet) : Type 0 where
   pub trace : List Packet
   pub spaced : PacketTrace m trace
   pub mutation : Mutation m recording trace
+  pub together : Together m recording trace
   pub satisfied : Satisfies m trace

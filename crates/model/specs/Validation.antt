@@ -40,14 +40,15 @@ addedRow t (some k) j = marked added t k j ∷ []
 unfoldable pub rowsBy : Monitor → Option ℕ → ℕ → Move → List Row
 rowsBy m recorded t (keep j) = keptRow t recorded j
 rowsBy m recorded t rest = removedRow t recorded
-rowsBy m recorded t (add j) = removedRow t recorded ++ addedRow t (triggerOf m j) j
+rowsBy m recorded t (add j) = addedRow t (triggerOf m j) j
 
--- a move has what its rows name: a recorded row to keep, a transition of the table to add by
+-- a move has what its rows name: a recorded row to keep, a transition of the table to add by where none is recorded
 abbrev pub HasRows : Monitor → Option ℕ → Move → Type 0
 HasRows m none (keep j) = ⊥
 HasRows m (some k) (keep j) = Unit {0}
 HasRows m recorded rest = Unit {0}
-HasRows m recorded (add j) = (a : ℕ) × (triggerOf m j ≡ some a)
+HasRows m none (add j) = (a : ℕ) × (triggerOf m j ≡ some a)
+HasRows m (some k) (add j) = ⊥
 
 -- the rows of a list of moves, the first at instant t
 unfoldable pub rowsOf : Monitor → List Packet → ℕ → List ℕ → List Row

@@ -47,9 +47,9 @@ isRemoved r = eqb (r .mark) removed
 unfoldable pub inForm : Row → Bool
 inForm r = leb (r .mark) added && leb 1 (r .time) && leb (r .time) timeLimit && (not (isRemoved r) || eqb (r .transition) noTransition)
 
--- "Times do not fall; at one time at most a removed row and then an added row, and these two differ in kind"
-unfoldable pub follows : Row → Row → Bool
-follows p r = ltb (p .time) (r .time) || (eqb (p .time) (r .time) && isRemoved p && eqb (r .mark) added && not (eqb (p .kind) (r .kind)))
+-- "witness times now rise strictly" (R-3)
+abbrev pub follows : Row → Row → Bool
+follows p r = ltb (p .time) (r .time)
 
 -- a row behind the one before it, if there is one
 abbrev pub inPlace : Option Row → Row → Bool

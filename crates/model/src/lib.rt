@@ -33,7 +33,7 @@ pub const ADDED: u8 = 2;
 
 pub const NO_TRANSITION: u8 = 255;
 
-// moves as numbers: below REST keep by that transition, REST adds nothing, from FIRST_ADD on add by a transition
+// moves as numbers: below REST keep by that transition, REST adds nothing and removes what is recorded, from FIRST_ADD on add by a transition
 pub const REST: usize = TRANSITION_LIMIT;
 
 pub const FIRST_ADD: usize = REST + 1;

@@ -13,7 +13,7 @@ use Rattle.model.specs.Bytes.{byteAt}
 use Rattle.model.specs.Guard.{holds}
 use Rattle.model.specs.Monitor.{Monitor, Transition, fires, airtime, toUnit, after}
 use Rattle.model.specs.Table.{transitionsAt}
-use Rattle.model.specs.Situation.{keep, rest, add, configOf, withAir, tick, sent, triggerOf, moved, stepBy, restMove, firstAdd, moveOf}
+use Rattle.model.specs.Situation.{keep, rest, add, configOf, withAir, tick, onAir, sent, missed, moved, stepBy, restMove, firstAdd, moveOf}
 use Rattle.model.specs.declared.Config.{Config}
 use Rattle.model.specs.declared.Situation.{Situation}
 use Rattle.model.proofs.Basics.{getElem-tab, getElem-tab-past}
@@ -23,7 +23,7 @@ use Rattle.monitor.specs.From.{firing, monitorFrom, transitionFrom}
 use Rattle.monitor.specs.declared.Fired.{Fired}
 use Rattle.situation.specs.declared.Shape.{Shape}
 use Rattle.situation.specs.declared.Next.{Next}
-use Rattle.situation.specs.Steps.{leading, nextOf, cappedBy, tickedBy, stepped, sentBy, triggerFrom, mayAdd}
+use Rattle.situation.specs.Steps.{leading, nextOf, cappedBy, tickedBy, stepped, sentBy, missedBy, triggerFrom}
 
 pub next-leading : (s : Situation) (o : Option Situation) → nextOf (leading s o) ≡ o
 next-leading s none = refl
@@ -54,6 +54,16 @@ when-unfired : (c : Config) (o : Option Config) → firing c o .fired ≡ false 
 when-unfired c none e = refl
 when-unfired c (some d) e = cc
 
+-- the packet takes the air for its airtime, once the tick is past
+on-air : (h : Shape) (m : Monitor) (k : ℕ) (s : Situation) → s .air ≡ 0 → (o : Option Config)
+    → leading s (Option·map (tick (cappedBy h)) (onAir m k s o)) ≡ leading s (Option·map (λ c. tickedBy h c (airtime m k)) o)
+on-air h m k s free o =
+    ap (λ (b : Bool). leading s (Option·map (tick (cappedBy h)) (cond b (Option·map (λ c. withAir c (airtime m k + 1)) o) none))) (eq-eqb (s .air) 0 free) ∙ on o
+  where
+    on : (p : Option Config) → leading s (Option·map (tick (cappedBy h)) (Option·map (λ c. withAir c (airtime m k + 1)) p)) ≡ leading s (Option·map (λ c. tickedBy h c (airtime m k)) p)
+    on none = refl
+    on (some c) = ap (λ (air : ℕ). there (tickedBy h c air)) (omega arith)
+
 module _ (h : Shape) (m : Monitor) (j k : ℕ) (s : Situation) where
   sent-taken : (s .air ≡ 0 → ⊥) → sent m j k s ≡ none
   unfolding sent
@@ -63,17 +73,9 @@ module _ (h : Shape) (m : Monitor) (j k : ℕ) (s : Situation) where
   unfolding sentBy
   sent-nowhere e = ap (λ (o : Option Situation). leading s (Option·map (tick (cappedBy h)) o)) (sym (sent-taken e))
 
-  -- the row takes the air for its airtime, once the tick is past
   sent-free : s .air ≡ 0 → (o : Option Config) → fires m j k (configOf s) ≡ o → sentBy h m j k s ≡ leading s (Option·map (λ c. tickedBy h c (airtime m k)) o)
   unfolding sentBy sent
-  sent-free free o e =
-      ap (λ (b : Bool). leading s (Option·map (tick (cappedBy h)) (cond b (Option·map (λ c. withAir c (airtime m k + 1)) (fires m j k (configOf s))) none))) (eq-eqb (s .air) 0 free)
-      ∙ ap (λ (p : Option Config). leading s (Option·map (tick (cappedBy h)) (Option·map (λ c. withAir c (airtime m k + 1)) p))) e
-      ∙ on o
-    where
-      on : (p : Option Config) → leading s (Option·map (tick (cappedBy h)) (Option·map (λ c. withAir c (airtime m k + 1)) p)) ≡ leading s (Option·map (λ c. tickedBy h c (airtime m k)) p)
-      on none = refl
-      on (some c) = ap (λ (air : ℕ). there (tickedBy h c air)) (omega arith)
+  sent-free free o e = ap (λ (p : Option Config). leading s (Option·map (tick (cappedBy h)) (onAir m k s p))) e ∙ on-air h m k s free o
 
   module _ (free : s .air ≡ 0) (c : Config) (same : c ≡ configOf s) (f : Fired) (answer : f ≡ firing c (fires m j k c)) where
     pub sent-fired : f .fired ≡ true → there (tickedBy h (f .to) (airtime m k)) ≡ sentBy h m j k s
@@ -115,66 +117,69 @@ module _ (h : Shape) (m : Monitor) (s : Situation) where
   unfolding stepped stepBy moved
   rested-nothing = refl
 
-  pub rested-removed : (k : ℕ) → toUnit m k ≡ true → there (tick (cappedBy h) s) ≡ stepped h m (some k) s rest
-  unfolding stepped stepBy moved
-  rested-removed k e = simp e
+-- a removed row
 
-  pub rested-not : (k : ℕ) → toUnit m k ≡ false → nowhere s ≡ stepped h m (some k) s rest
-  unfolding stepped stepBy moved
-  rested-not k e = simp e
+module _ (h : Shape) (m : Monitor) (k : ℕ) (s : Situation) where
+  pub missed-taken : (s .air ≡ 0 → ⊥) → nowhere s ≡ missedBy h m k s
+  unfolding missedBy missed
+  missed-taken e = simp (ne-eqb (s .air) 0 e)
+
+  missed-free : s .air ≡ 0 → (unit : Bool) → toUnit m k ≡ unit → missedBy h m k s ≡ leading s (Option·map (λ c. tickedBy h c (airtime m k)) (cond unit (some (configOf s)) none))
+  unfolding missedBy missed
+  missed-free free unit e =
+      ap (λ (b : Bool). leading s (Option·map (tick (cappedBy h)) (onAir m k s (cond b (some (configOf s)) none)))) e
+      ∙ on-air h m k s free (cond unit (some (configOf s)) none)
+
+  pub missed-not : s .air ≡ 0 → toUnit m k ≡ false → nowhere s ≡ missedBy h m k s
+  missed-not free e = sym (missed-free free false e)
+
+  pub missed-row : s .air ≡ 0 → toUnit m k ≡ true → there (tickedBy h (configOf s) (airtime m k)) ≡ missedBy h m k s
+  missed-row free e = sym (missed-free free true e)
+
+  pub removed-row : missedBy h m k s ≡ stepped h m (some k) s rest
+  unfolding missedBy stepped stepBy moved
+  removed-row = refl
 
 -- an added row
 
-abbrev addedOf : Monitor → Option ℕ → Situation → ℕ → ℕ → Option Situation
-addedOf m recorded s j a = cond (mayAdd m recorded a) (sent m j a s) none
+module _ (h : Shape) (m : Monitor) (s : Situation) (j : ℕ) where
+  pub added-heard : (k : ℕ) → nowhere s ≡ stepped h m (some k) s (add j)
+  unfolding stepped stepBy moved
+  added-heard k = refl
 
-added-any : (m : Monitor) (s : Situation) (j : ℕ) (recorded : Option ℕ) → moved m recorded s (add j) ≡ bind (triggerOf m j) (addedOf m recorded s j)
-unfolding moved
-added-any m s j none = refl
-added-any m s j (some k) = refl
-
-module _ (h : Shape) (m : Monitor) (recorded : Option ℕ) (s : Situation) (j : ℕ) where
   -- a transition from another state is as none
-  same-source : (o : Option Transition) → getElem? (m .transitions) j ≡ o → bind (Option·map (λ t. t .trigger) o) (addedOf m recorded s j) ≡ bind (bind o (λ t. cond (eqb (t .source) (s .state)) (some (t .trigger)) none)) (addedOf m recorded s j)
+  same-source : (o : Option Transition) → getElem? (m .transitions) j ≡ o → bind (Option·map (λ t. t .trigger) o) (λ a. sent m j a s) ≡ bind (bind o (λ t. cond (eqb (t .source) (s .state)) (some (t .trigger)) none)) (λ a. sent m j a s)
   unfolding bind
   same-source none e = refl
   same-source (some t) e = on (eqb (t .source) (s .state)) refl
     where
-      on : (b : Bool) → eqb (t .source) (s .state) ≡ b → addedOf m recorded s j (t .trigger) ≡ bind (cond b (some (t .trigger)) none) (addedOf m recorded s j)
+      on : (b : Bool) → eqb (t .source) (s .state) ≡ b → sent m j (t .trigger) s ≡ bind (cond b (some (t .trigger)) none) (λ a. sent m j a s)
       on true q = refl
-      on false q =
-          ap (λ (o : Option Situation). cond (mayAdd m recorded (t .trigger)) o none) (sent-elsewhere h m j (t .trigger) s t e q)
-          ∙ neither (mayAdd m recorded (t .trigger))
+      on false q = sent-elsewhere h m j (t .trigger) s t e q
 
   abbrev Added : Option ℕ → Next
-  Added o = leading s (Option·map (tick (cappedBy h)) (bind o (addedOf m recorded s j)))
+  Added o = leading s (Option·map (tick (cappedBy h)) (bind o (λ a. sent m j a s)))
 
-  added-by : stepped h m recorded s (add j) ≡ Added (triggerFrom m (s .state) j)
-  unfolding stepped stepBy triggerFrom
-  added-by = ap (λ (o : Option Situation). leading s (Option·map (tick (cappedBy h)) o)) (added-any m s j recorded ∙ same-source (getElem? (m .transitions) j) refl)
+  added-by : stepped h m none s (add j) ≡ Added (triggerFrom m (s .state) j)
+  unfolding stepped stepBy moved triggerFrom
+  added-by = ap (λ (o : Option Situation). leading s (Option·map (tick (cappedBy h)) o)) (same-source (getElem? (m .transitions) j) refl)
 
-  added-taken : (s .air ≡ 0 → ⊥) → nowhere s ≡ stepped h m recorded s (add j)
+  added-taken : (s .air ≡ 0 → ⊥) → (recorded : Option ℕ) → nowhere s ≡ stepped h m recorded s (add j)
   unfolding bind
-  added-taken e = sym (added-by ∙ on (triggerFrom m (s .state) j))
+  added-taken e (some k) = added-heard k
+  added-taken e none = sym (added-by ∙ on (triggerFrom m (s .state) j))
     where
       on : (o : Option ℕ) → Added o ≡ nowhere s
       on none = refl
-      on (some a) =
-          ap (λ (o : Option Situation). leading s (Option·map (tick (cappedBy h)) (cond (mayAdd m recorded a) o none))) (sent-taken h m j a s e)
-          ∙ ap (λ (o : Option Situation). leading s (Option·map (tick (cappedBy h)) o)) (neither (mayAdd m recorded a))
+      on (some a) = ap (λ (o : Option Situation). leading s (Option·map (tick (cappedBy h)) o)) (sent-taken h m j a s e)
 
-  pub added-none : triggerFrom m (s .state) j ≡ none → nowhere s ≡ stepped h m recorded s (add j)
+  pub added-none : triggerFrom m (s .state) j ≡ none → nowhere s ≡ stepped h m none s (add j)
   unfolding bind
   added-none e = sym (added-by ∙ ap Added e)
 
-  module _ (a : ℕ) (fired : triggerFrom m (s .state) j ≡ some a) where
-    pub added-row : mayAdd m recorded a ≡ true → sentBy h m j a s ≡ stepped h m recorded s (add j)
-    unfolding bind sentBy
-    added-row e = sym (added-by ∙ ap Added fired ∙ ap (λ (b : Bool). leading s (Option·map (tick (cappedBy h)) (cond b (sent m j a s) none))) e)
-
-    pub added-not : mayAdd m recorded a ≡ false → nowhere s ≡ stepped h m recorded s (add j)
-    unfolding bind
-    added-not e = sym (added-by ∙ ap Added fired ∙ ap (λ (b : Bool). leading s (Option·map (tick (cappedBy h)) (cond b (sent m j a s) none))) e)
+  pub added-row : (a : ℕ) → triggerFrom m (s .state) j ≡ some a → sentBy h m j a s ≡ stepped h m none s (add j)
+  unfolding bind sentBy
+  added-row a e = sym (added-by ∙ ap Added e)
 
 -- the kind on which a transition of a table's bytes fires from a state
 
@@ -194,20 +199,6 @@ module _ (b offsets : List ℕ) (state j : ℕ) where
     pub trigger-elsewhere : (byteAt b at ≡ state → ⊥) → none ≡ triggerFrom (monitorFrom b offsets) state j
     trigger-elsewhere e = ap (λ (x : Bool). cond x (some (byteAt b (at + 2))) none) (sym (ne-eqb (byteAt b at) state e)) ∙ trigger-at
 
-pub may-not : (m : Monitor) (k a : ℕ) → a ≡ k → false ≡ mayAdd m (some k) a
-may-not m k a e = rw (eq-eqb a k e) (on (toUnit m k))
-  where
-    on : (x : Bool) → false ≡ x && false
-    on true = refl
-    on false = refl
-
-pub may-other : (m : Monitor) (k a : ℕ) → (a ≡ k → ⊥) → toUnit m k ≡ mayAdd m (some k) a
-may-other m k a e = rw (ne-eqb a k e) (on (toUnit m k))
-  where
-    on : (x : Bool) → x ≡ x && true
-    on true = refl
-    on false = refl
-
 -- moves by number
 
 pub move-rest : (k : ℕ) → k ≡ restMove → moveOf k ≡ rest
@@ -222,4 +213,4 @@ taken-nowhere h m recorded s k row e = on (decLt k restMove)
   where
     on : Dec (k < restMove) → nowhere s ≡ stepped h m recorded s (moveOf k)
     on (yes l) = kept-taken h m s k e recorded ∙ ap (stepped h m recorded s) (sym (moveOf-keep k l))
-    on (no l) = added-taken h m recorded s (k - firstAdd) e ∙ ap (stepped h m recorded s) (sym (move-add k (omega arith) row))
+    on (no l) = added-taken h m s (k - firstAdd) e recorded ∙ ap (stepped h m recorded s) (sym (move-add k (omega arith) row))

@@ -4,13 +4,12 @@ use native.Mathlib.Decide.{decLt}
 use native.Mathlib.Omega.{arith}
 use mathlib.Core.Path.{_≡_, refl}
 use mathlib.Core.List.{List}
-use mathlib.Core.Bool.{not, _&&_}
 use mathlib.Core.Option.{Option, none, some, bind}
 use lib.ListN.{getD, getElem?}
 use lib.Dec.{eqb}
 use borrow.Author.Tests.{ne-eqb}
 use Rattle.model.specs.Limits.{transitionLimit}
-use Rattle.model.specs.Monitor.{Monitor, fires, toUnit}
+use Rattle.model.specs.Monitor.{Monitor, fires}
 use Rattle.model.specs.Table.{transitionsAt}
 use Rattle.model.specs.Situation.{Move, keep, add, sent, moved, stepBy, restMove, firstAdd, moveOf, triggerOf}
 use Rattle.model.specs.declared.Situation.{Situation}
@@ -49,19 +48,20 @@ module _ (table offsets : List ℕ) (h : Shape) (s : Situation) (k : ℕ) where
   no-transition none e l = no-keep l
   no-transition (some a) e l = nowhere (some a) (keep k) (moveOf-keep k l) (unsent k a (no-such e))
 
-  -- a row that the table has no transition for
-  pub no-addition : (heard : Option ℕ) → firstAdd + transitionsAt table ≤ k → arriveFrom table offsets h heard s k ≡ none
+  -- nothing is added where a row is recorded
+  pub no-addition-there : (a : ℕ) → firstAdd ≤ k → arriveFrom table offsets h (some a) s k ≡ none
+  unfolding moved
+  no-addition-there a e = nowhere (some a) (add (k - firstAdd)) (move-add k (omega arith) (λ q. omega arith)) refl
+
+  -- nor a row that the table has no transition for
+  pub no-addition : firstAdd + transitionsAt table ≤ k → arriveFrom table offsets h none s k ≡ none
   unfolding moved bind monitorFrom
-  no-addition heard e = nowhere heard (add (k - firstAdd)) (move-add k (omega arith) (λ q. omega arith)) (unadded heard)
+  no-addition e = nowhere none (add (k - firstAdd)) (move-add k (omega arith) (λ q. omega arith)) (rw absent)
     where
       absent : getElem? (m .transitions) (k - firstAdd) ≡ none
       absent = getElem-tab-past (λ j. transitionFrom table (getD offsets j 0)) (transitionsAt table) (k - firstAdd) (omega arith)
 
-      unadded : (a : Option ℕ) → moved m a s (add (k - firstAdd)) ≡ none
-      unadded none = rw absent
-      unadded (some a) = rw absent
-
-  -- while the air is taken only nothing can be added
+  -- while the air is taken no row is kept or added
   pub air-taken : (heard : Option ℕ) → 0 < s .air → (k ≡ restMove → ⊥) → arriveFrom table offsets h heard s k ≡ none
   unfolding moved bind sent
   air-taken heard taken other = on (decLt k restMove)
@@ -76,8 +76,7 @@ module _ (table offsets : List ℕ) (h : Shape) (s : Situation) (k : ℕ) where
       added-by : (a t : Option ℕ) → triggerOf m (k - firstAdd) ≡ t → moved m a s (add (k - firstAdd)) ≡ none
       added-by none none e = rw e
       added-by none (some b) e = rw e (unsendable (k - firstAdd) b)
-      added-by (some a) none e = rw e
-      added-by (some a) (some b) e = rw (e, unsendable (k - firstAdd) b) (neither (toUnit m a && not (eqb b a)))
+      added-by (some a) t e = refl
 
       on : Dec (k < restMove) → arriveFrom table offsets h heard s k ≡ none
       on (yes l) = nowhere heard (keep k) (moveOf-keep k l) (kept heard)

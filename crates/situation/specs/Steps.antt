@@ -1,12 +1,12 @@
 -- One step on situations by a shape.
 use Prim.Native.Nat.{ℕ, _+_, _-_, min}
 use mathlib.Core.List.{List, [], _∷_, map}
-use mathlib.Core.Bool.{Bool, true, false, cond, not, _&&_}
+use mathlib.Core.Bool.{true, false, cond}
 use mathlib.Core.Option.{Option, none, some, Option·map, bind}
 use lib.ListN.{getD, getElem?}
 use lib.Dec.{eqb}
-use Rattle.model.specs.Monitor.{Monitor, toUnit}
-use Rattle.model.specs.Situation.{Move, tick, sent, stepBy}
+use Rattle.model.specs.Monitor.{Monitor}
+use Rattle.model.specs.Situation.{Move, tick, sent, missed, stepBy}
 use Rattle.model.specs.declared.Config.{Config}
 use Rattle.model.specs.declared.Situation.{Situation}
 use Rattle.situation.specs.declared.Shape.{Shape}
@@ -39,14 +39,13 @@ tickedBy h c air =
 unfoldable pub stepped : Shape → Monitor → Option ℕ → Situation → Move → Next
 stepped h m recorded s a = leading s (stepBy m (cappedBy h) recorded s a)
 
--- its parts: a sent row and then the tick; the kind on which a transition fires from a state; whether a row of a kind may be added
+-- its parts: a sent or a removed row, and then the tick; the kind on which a transition fires from a state
 
 unfoldable pub sentBy : Shape → Monitor → (j k : ℕ) → Situation → Next
 sentBy h m j k s = leading s (Option·map (tick (cappedBy h)) (sent m j k s))
 
+unfoldable pub missedBy : Shape → Monitor → (k : ℕ) → Situation → Next
+missedBy h m k s = leading s (Option·map (tick (cappedBy h)) (missed m k s))
+
 unfoldable pub triggerFrom : Monitor → (state j : ℕ) → Option ℕ
 triggerFrom m state j = bind (getElem? (m .transitions) j) (λ t. cond (eqb (t .source) state) (some (t .trigger)) none)
-
-abbrev pub mayAdd : Monitor → Option ℕ → ℕ → Bool
-mayAdd m none a = true
-mayAdd m (some k) a = toUnit m k && not (eqb a k)

@@ -21,7 +21,7 @@ ghost use Rattle.model.specs.Situation.{keep, rest, add, configOf, tick, moveOf
 ghost use Rattle.monitor.specs.From.{monitorFrom};
 ghost use Rattle.situation.specs.Rows.{heardOf};
 ghost use Rattle.situation.specs.Stepping.{arrivalOf, arriveFrom};
-ghost use Rattle.situation.specs.Steps.{leading, cappedBy, tickedBy, sentBy, triggerKind, triggerFrom, mayAdd, stepped};
+ghost use Rattle.situation.specs.Steps.{leading, cappedBy, tickedBy, sentBy, missedBy, triggerKind, triggerFrom, stepped};
 
 // The kind on which a transition fires, where it does.
 enum Trigger {
@@ -116,19 +116,19 @@ fn trigger_from<'a>(table: &'a [u8], offsets: &'a [u16], state: u8, j: usize) ->
     Trigger::Absent
 }
 
-// A row of a kind may be added: what is recorded there, if anything, is of another kind and can be removed.
-fn may_add(table: &[u8], heard: Heard, kind: u8) -> bool
-    ensures { λ r. ⌜ ((offsets : List ℕ) → r ≡ mayAdd (monitorFrom (now (table .entry)) offsets) (heardOf heard) kind) ⌝ }
+// A recorded row of a kind is removed, where it is to the unit and the air is free. It takes the air; the unit missed it.
+fn missed(table: &[u8], h: Shape, kind: u8, s: Situation) -> Next
+    ensures { λ r. ⌜ ((offsets : List ℕ) → r ≡ missedBy h (monitorFrom (now (table .entry)) offsets) kind s) ⌝ }
 {
-    match heard {
-        Heard::Nothing => true,
-        Heard::Kind(removed) => {
-            if kind == removed {
-                return false;
-            }
-            to_unit(table, removed)
-        }
+    if 0 < s.air {
+        return nowhere(s);
     }
+    if !to_unit(table, kind) {
+        return nowhere(s);
+    }
+    let air = airtime_of(table, kind);
+    let to = ticked(h, config_of(s), air);
+    Next { leads: true, to }
 }
 
 fn kept<'a>(
@@ -156,18 +156,11 @@ fn rested(table: &[u8], h: Shape, heard: Heard, s: Situation) -> Next
             leads: true,
             to: still(h, s),
         },
-        Heard::Kind(kind) => {
-            if to_unit(table, kind) {
-                return Next {
-                    leads: true,
-                    to: still(h, s),
-                };
-            }
-            nowhere(s)
-        }
+        Heard::Kind(kind) => missed(table, h, kind, s),
     }
 }
 
+// A row is added by transition j, where none is recorded.
 fn added<'a>(
     table: &'a [u8],
     offsets: &'a [u16],
@@ -179,17 +172,17 @@ fn added<'a>(
     requires { ⌜ s .air ≡ 0 ⌝ }
     ensures { λ r. ⌜ r ≡ stepped h (monitorFrom (now (table .entry)) (now (offsets .entry))) (heardOf heard) s (add j) ⌝ }
 {
+    if let Heard::Kind(_) = heard {
+        return nowhere(s);
+    }
     let trigger = trigger_from(table, offsets, s.state, j);
     let Trigger::Kind(kind) = trigger else {
         return nowhere(s);
     };
-    if may_add(table, heard, kind) {
-        return sent(table, offsets, h, j, kind, s);
-    }
-    nowhere(s)
+    sent(table, offsets, h, j, kind, s)
 }
 
-// The step by move k: below REST keep by that transition, REST adds nothing, from FIRST_ADD on add by transition k - FIRST_ADD.
+// The step by move k: below REST keep by that transition, REST adds nothing and removes what is recorded, from FIRST_ADD on add by transition k - FIRST_ADD.
 pub fn next<'a>(
     table: &'a [u8],
     offsets: &'a [u16],

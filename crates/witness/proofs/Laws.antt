@@ -3,11 +3,11 @@ use Prim.Native.Nat.{ℕ, zero, suc, _+_, _-_, _<_, _≤_}
 use native.Mathlib.Omega.{arith}
 use mathlib.Core.Path.{_≡_, refl, sym, ap, subst, _∙_}
 use mathlib.Core.List.{List, [], _∷_, _++_, append-nil}
-use mathlib.Core.Bool.{Bool, true, false, not, false≢true}
+use mathlib.Core.Bool.{Bool, true, false, false≢true}
 use mathlib.Core.Option.{Option, none, some}
 use lib.Dec.{eqb}
 use lib.Seq.{append-snoc}
-use borrow.Author.Tests.{lt-ltb, le-ltb, le-leb, lt-leb, eq-eqb, ne-eqb}
+use borrow.Author.Tests.{le-leb, lt-leb, eq-eqb, ne-eqb}
 use Rattle.model.specs.Limits.{timeLimit, witnessLimit}
 use Rattle.model.specs.Answers.{Writes}
 use Rattle.model.specs.Bytes.{wordAt, tab, padded}
@@ -51,31 +51,6 @@ module _ (r : Row) where
         pub form-removed : r .mark ≡ 1 → eqb (r .transition) noTransition ≡ inForm r
         unfolding inForm
         form-removed h = rw (le-leb (r .mark) 2 mark, le-leb 1 (r .time) early, le-leb (r .time) timeLimit late, eq-eqb (r .mark) 1 h)
-
--- a row behind another
-
-module _ (p r : Row) where
-  pub follows-later : p .time < r .time → true ≡ follows p r
-  unfolding follows
-  follows-later h = rw (lt-ltb (p .time) (r .time) h)
-
-  pub follows-earlier : r .time < p .time → false ≡ follows p r
-  unfolding follows
-  follows-earlier h = rw (le-ltb (p .time) (r .time) (omega arith), ne-eqb (p .time) (r .time) (λ e. omega (arith, e)))
-
-  module _ (same : p .time ≡ r .time) where
-    pub follows-fired : (p .mark ≡ 1 → ⊥) → false ≡ follows p r
-    unfolding follows
-    follows-fired h = rw (le-ltb (p .time) (r .time) (omega arith), eq-eqb (p .time) (r .time) same, ne-eqb (p .mark) 1 h)
-
-    module _ (removed : p .mark ≡ 1) where
-      pub follows-heard : (r .mark ≡ 2 → ⊥) → false ≡ follows p r
-      unfolding follows
-      follows-heard h = rw (le-ltb (p .time) (r .time) (omega arith), eq-eqb (p .time) (r .time) same, eq-eqb (p .mark) 1 removed, ne-eqb (r .mark) 2 h)
-
-      pub follows-added : r .mark ≡ 2 → not (eqb (p .kind) (r .kind)) ≡ follows p r
-      unfolding follows
-      follows-added h = rw (le-ltb (p .time) (r .time) (omega arith), eq-eqb (p .time) (r .time) same, eq-eqb (p .mark) 1 removed, eq-eqb (r .mark) 2 h)
 
 -- row i by the row before it, if there is one
 

@@ -87,23 +87,11 @@ pub fn in_form(e: Entry) -> bool
     e.transition == NO_TRANSITION
 }
 
-// A row behind the one before it.
+// A row behind the one before it: times rise strictly.
 pub fn in_order(before: Entry, e: Entry) -> bool
     ensures { λ t. ⌜ t ≡ follows (rowOf before) (rowOf e) ⌝ }
 {
-    if before.time < e.time {
-        return true;
-    }
-    if before.time != e.time {
-        return false;
-    }
-    if before.mark != REMOVED {
-        return false;
-    }
-    if e.mark != ADDED {
-        return false;
-    }
-    before.kind != e.kind
+    before.time < e.time
 }
 
 // Row i by itself and behind the row before it.

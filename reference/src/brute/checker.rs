@@ -1,6 +1,7 @@
 //! The rules of a witness against a table and a recording, each stated of a row by itself.
 
 use super::monitor::Monitor;
+use super::trace::{is_packet_trace, Trace};
 use crate::answer::Answer;
 use crate::recording::Recording;
 use crate::table::Table;
@@ -27,22 +28,21 @@ fn breaks(table: &Table, recording: &Recording, rows: &[Row]) -> bool {
     };
     breaks_form(row, before)
         || breaks_account(table, recording, row, before)
+        || !is_packet_trace(table, &entries(rows))
         || (row.mark != REMOVED && breaks_run(table, row, before))
 }
 
 fn breaks_form(row: &Row, before: &[Row]) -> bool {
-    let same_time: Vec<&Row> = before.iter().filter(|it| it.time == row.time).collect();
-    let joins_well = match same_time.as_slice() {
-        [] => true,
-        [one] => one.mark == REMOVED && row.mark == ADDED && one.kind != row.kind,
-        _ => false,
-    };
     row.mark > 2
         || row.time < 1
         || row.time > 4_096
         || (row.mark == REMOVED && row.transition != NO_TRANSITION)
-        || before.iter().any(|it| it.time > row.time)
-        || !joins_well
+        || before.iter().any(|it| it.time >= row.time)
+}
+
+/// Kept, removed and added rows together.
+fn entries(rows: &[Row]) -> Trace {
+    rows.iter().map(|row| (u32::from(row.time), row.kind)).collect()
 }
 
 /// Every kept or removed row so far accounted for the next recorded one.
@@ -57,17 +57,12 @@ fn breaks_account(table: &Table, recording: &Recording, row: &Row, before: &[Row
         || (row.mark == ADDED && left.iter().any(|it| it.time == row.time))
 }
 
-/// Replays the rows before with real clocks; the air and the firing must be right.
+/// Replays the rows before and then this one with real clocks; each must fire.
 fn breaks_run(table: &Table, row: &Row, before: &[Row]) -> bool {
     let mut monitor = Some(Monitor::start());
-    for sent in before.iter().filter(|it| it.mark != REMOVED) {
+    for sent in before.iter().filter(|it| it.mark != REMOVED).chain([row]) {
         let packet = (u32::from(sent.time), sent.kind);
         monitor = monitor.and_then(|it| it.fire(table, sent.transition, packet));
-        let airtime = table.kinds[usize::from(sent.kind)].airtime;
-        if u32::from(row.time) <= u32::from(sent.time) + u32::from(airtime) {
-            return true;
-        }
     }
-    let packet = (u32::from(row.time), row.kind);
-    monitor.and_then(|it| it.fire(table, row.transition, packet)).is_none()
+    monitor.is_none()
 }

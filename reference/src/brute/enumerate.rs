@@ -2,7 +2,7 @@
 //! witness that tells of it.
 
 use super::monitor::Monitor;
-use super::trace::{is_mutation, is_packet_trace, traces, Trace};
+use super::trace::{is_mutation, is_packet_trace, shares_the_air, traces, Trace};
 use crate::recording::{Heard, Recording};
 use crate::table::Table;
 use crate::witness::{Row, Witness, ADDED, KEPT, NO_TRANSITION, REMOVED};
@@ -30,7 +30,23 @@ pub fn first_dead_instant(table: &Table, recording: &Recording) -> Option<u64> {
     })
 }
 
+/// Whether some trace would be a satisfying mutation trace if removed packets took no air.
+pub fn ruled_out(table: &Table, recording: &Recording) -> bool {
+    let mut traces = mutations(table, recording, recording.last_time() as u32)
+        .filter(|trace| !shares_the_air(table, recording, trace));
+    traces.any(|trace| Monitor::satisfies(table, &trace))
+}
+
 fn mutation_traces<'a>(
+    table: &'a Table,
+    recording: &'a Recording,
+    last: u32,
+) -> impl Iterator<Item = Trace> + 'a {
+    mutations(table, recording, last).filter(|trace| shares_the_air(table, recording, trace))
+}
+
+/// Packet traces that lack no recorded packet but ones to the unit, whatever air those take.
+fn mutations<'a>(
     table: &'a Table,
     recording: &'a Recording,
     last: u32,
@@ -41,7 +57,6 @@ fn mutation_traces<'a>(
 }
 
 /// Recorded rows are kept if the trace has them and removed if not; its others are added.
-/// At one time the removed row comes first.
 fn witness(recording: &Recording, trace: &Trace, run: &[u8]) -> Witness {
     let mut rows: Vec<Row> = Vec::new();
     for Heard { time, kind } in recording.rows.iter().copied() {
@@ -55,7 +70,6 @@ fn witness(recording: &Recording, trace: &Trace, run: &[u8]) -> Witness {
         let mark = if recorded { KEPT } else { ADDED };
         rows.push(Row { mark, time, kind, transition });
     }
-    // The sort is stable and the removed rows were put in first.
     rows.sort_by_key(|row| row.time);
     Witness { rows }
 }

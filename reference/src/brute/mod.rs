@@ -11,9 +11,9 @@ mod trace;
 mod works;
 
 pub use checker::expected_check;
-pub use enumerate::{first_dead_instant, witnesses};
+pub use enumerate::{first_dead_instant, ruled_out, witnesses};
 pub use monitor::Monitor;
 pub use permitted::permitted_by_checker;
 pub use preference::preference;
-pub use trace::{is_mutation, is_packet_trace, traces, Trace};
+pub use trace::{is_mutation, is_packet_trace, shares_the_air, traces, Trace};
 pub use works::works;

@@ -10,8 +10,9 @@ pub type Trace = Vec<(u32, u8)>;
 ///
 /// Packets after the last recorded time T need no looking at. Cut a mutation trace that the
 /// monitor satisfies after T: its front is still a packet trace, since Definition 1 speaks of
-/// neighbours; it lacks no more recorded packets, since none is later than T; and the monitor
-/// satisfies the front of whatever it satisfies, since there are no final states.
+/// neighbours, and so are the entries of the front and of the recording together; it lacks no
+/// more recorded packets, since none is later than T; and the monitor satisfies the front of
+/// whatever it satisfies, since there are no final states.
 pub fn traces(last: u32, kinds: u8) -> impl Iterator<Item = Trace> {
     let choices = u64::from(kinds) + 1;
     (0..choices.pow(last)).map(move |code| {
@@ -43,4 +44,14 @@ pub fn is_mutation(table: &Table, recording: &Recording, trace: &Trace) -> bool 
         trace.contains(&(u32::from(row.time), row.kind))
             || table.kinds[usize::from(row.kind)].direction == 1
     })
+}
+
+/// The entries of the recording and of the trace together are those of one packet trace: what was
+/// heard was on the air, whether the unit got it or not.
+pub fn shares_the_air(table: &Table, recording: &Recording, trace: &Trace) -> bool {
+    let mut together = trace.clone();
+    together.extend(recording.rows.iter().map(|row| (u32::from(row.time), row.kind)));
+    together.sort();
+    together.dedup();
+    is_packet_trace(table, &together)
 }

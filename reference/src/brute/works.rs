@@ -35,25 +35,26 @@ fn cap(table: &Table, (monitor, free_from): &Real, time: u32) -> (u8, u8, Vec<u3
     (monitor.state, monitor.variables, clocks.collect(), air)
 }
 
-/// What each move of this instant leaves.
+/// What each move of this instant leaves: nothing is on the air, or a packet that finds it free.
 fn moves(table: &Table, recording: &Recording, real: &Real, time: u32) -> Vec<Real> {
     let row = recording.rows.iter().find(|row| u32::from(row.time) == time);
-    let removable = row.is_some_and(|row| table.kinds[usize::from(row.kind)].direction == 1);
     let mut after = Vec::new();
-    if row.is_none() || removable {
+    if row.is_none() {
         after.push(*real);
     }
     let (monitor, free_from) = real;
     if *free_from > time {
         return after;
     }
+    let air_after = |kind: u8| time + u32::from(table.kinds[usize::from(kind)].airtime) + 1;
+    if let Some(row) = row.filter(|row| table.kinds[usize::from(row.kind)].direction == 1) {
+        after.push((*monitor, air_after(row.kind)));
+    }
     for (number, it) in table.transitions.iter().enumerate() {
-        let keeps = row.is_some_and(|row| row.kind == it.kind);
-        let adds = row.is_none_or(|row| removable && row.kind != it.kind);
+        let keeps_or_adds = row.is_none_or(|row| row.kind == it.kind);
         let fired = monitor.fire(table, number as u8, (time, it.kind));
-        if let (true, Some(next)) = (keeps || adds, fired) {
-            let airtime = table.kinds[usize::from(it.kind)].airtime;
-            after.push((next, time + u32::from(airtime) + 1));
+        if let (true, Some(next)) = (keeps_or_adds, fired) {
+            after.push((next, air_after(it.kind)));
         }
     }
     after

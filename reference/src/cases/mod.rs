@@ -19,6 +19,7 @@ use crate::call::{Call, ORDINARY};
 use crate::desk;
 use crate::generate::{calls, writings, Rng};
 use crate::limits;
+use crate::narrowed::NARROWED;
 use crate::papers::{PAPERS, SMALL_MONITOR};
 use crate::set;
 use crate::situation::Space;
@@ -26,7 +27,7 @@ use crate::table;
 use crate::writing::{Parts, Writing};
 
 /// As many random calls as this, of which few are long.
-const CALLS: usize = 6_000;
+const CALLS: usize = 8_000;
 const LONG: usize = 3_000;
 const MOST_LONG: usize = 60;
 /// What the batch program lends at most.
@@ -82,11 +83,12 @@ fn fits(call: &Call) -> bool {
 impl Cases {
     fn all_from_files(&mut self, seed: u64) -> io::Result<()> {
         for paper in PAPERS {
-            let (table, recording) = (SMALL_MONITOR.to_vec(), paper.recording());
-            self.desk(&[&table[..], &recording[..], &paper.budget.to_be_bytes()[..]].concat())?;
-            let lent = (vec![0; 100], vec![0; 90]);
-            let (budget, scratch, room) = (paper.budget, lent.0, lent.1);
-            self.call(Call::Validate { table, recording, budget, scratch, room })?;
+            self.validate(SMALL_MONITOR.to_vec(), paper.recording(), paper.budget)?;
+        }
+        for it in NARROWED {
+            let (table, recording) = (it.table(), it.recording());
+            self.validate(table.clone(), recording.clone(), 10_000)?;
+            self.call(Call::Check { table, recording, witness: it.witness.to_vec() })?;
         }
         for input in [vec![], vec![0; 3], vec![0; 4], vec![1; 8_192], vec![1; 8_193]] {
             self.desk(&input)?;
@@ -128,6 +130,13 @@ impl Cases {
 
     fn enough_written(&self) -> bool {
         often(&self.from_writing, &WRITTEN) && often(&self.from_back, &WRITTEN)
+    }
+
+    /// Through the desk too, and with enough lent for the recordings of the papers.
+    fn validate(&mut self, table: Vec<u8>, recording: Vec<u8>, budget: u32) -> io::Result<()> {
+        self.desk(&[&table[..], &recording[..], &budget.to_be_bytes()[..]].concat())?;
+        let (scratch, room) = (vec![0; 100], vec![0; 90]);
+        self.call(Call::Validate { table, recording, budget, scratch, room })
     }
 
     /// The call with the pattern in what it lends, and its answer.

@@ -1,7 +1,9 @@
 //! Random calls: for one table and recording, each public function several times.
 
 use super::buffers::{dirty, length_near};
+use super::crossed::busy_air;
 use super::encode::{encode_recording, encode_table, encode_witness};
+use super::learn::learn;
 use super::recordings::{any_rows, overheard, spoil_rows};
 use super::rng::Rng;
 use super::spoil::{any_bytes, spoil_bytes};
@@ -13,7 +15,6 @@ use crate::call::Call;
 use crate::recording::{Recording, LAST_TIME};
 use crate::situation::Space;
 use crate::table::Table;
-use crate::validate::validate;
 use crate::witness::Witness;
 
 /// Situations times instants that a random validation may look at: as a rule, and at times.
@@ -24,6 +25,8 @@ const RARE_WORK: usize = 2_000_000;
 struct Base {
     table: Table,
     recording: Recording,
+    /// A witness that would be permitted if removed packets took no air.
+    crossed: Option<Witness>,
     table_bytes: Vec<u8>,
     recording_bytes: Vec<u8>,
 }
@@ -56,6 +59,32 @@ fn wild_calls(rng: &mut Rng) -> Vec<Call> {
 }
 
 fn base(rng: &mut Rng) -> Base {
+    let (table, recording, crossed) = match rng.one_in(3) {
+        true => {
+            let last = if rng.one_in(8) { rng.between(5, 300) } else { rng.between(5, 40) };
+            let (table, recording, witness) = busy_air(rng, last as u16);
+            (table, recording, Some(witness))
+        }
+        false => {
+            let (table, recording) = any(rng);
+            (table, recording, None)
+        }
+    };
+    let mut base = Base {
+        table_bytes: encode_table(&table),
+        recording_bytes: encode_recording(&recording),
+        table,
+        recording,
+        crossed,
+    };
+    if rng.one_in(3) {
+        spoil(rng, &mut base);
+    }
+    base
+}
+
+/// A table of any size and a recording of it.
+fn any(rng: &mut Rng) -> (Table, Recording) {
     let table = match rng.below(40) {
         0..=15 => sound_table(rng, &Shape::TINY),
         16..=31 => sound_table(rng, &Shape::MIDDLE),
@@ -68,16 +97,7 @@ fn base(rng: &mut Rng) -> Base {
         true => any_rows(rng, &table, last),
         false => overheard(rng, &table, last),
     };
-    let mut base = Base {
-        table_bytes: encode_table(&table),
-        recording_bytes: encode_recording(&recording),
-        table,
-        recording,
-    };
-    if rng.one_in(3) {
-        spoil(rng, &mut base);
-    }
-    base
+    (table, recording)
 }
 
 fn last_time(rng: &mut Rng, table: &Table) -> u16 {
@@ -116,41 +136,20 @@ fn spoil(rng: &mut Rng, base: &mut Base) {
 /// Adds validations with budgets around the cost and rooms around what is wanted, and gives
 /// the preferred witness if there is one.
 fn validations(rng: &mut Rng, base: &Base, calls: &mut Vec<Call>) -> Option<Vec<u8>> {
-    let (scratch_wanted, room_wanted) = wanted(&base.table_bytes, &base.recording_bytes);
-    let mut scratch = vec![0; scratch_wanted];
-    let mut room = vec![0; room_wanted];
-    let learnt = run(base, u32::MAX, &mut scratch, &mut room);
-    let costly = scratch_wanted > 1_000_000;
-    for budget in budgets(rng, learnt, if costly { 1 } else { 4 }) {
-        let scratch_length = length_near(rng, scratch_wanted);
-        let room_length = length_near(rng, room_wanted);
-        calls.push(Call::Validate {
-            table: base.table_bytes.clone(),
-            recording: base.recording_bytes.clone(),
-            budget,
-            scratch: dirty(rng, scratch_length),
-            room: dirty(rng, room_length),
+    let learnt = learn(&base.table_bytes, &base.recording_bytes);
+    let costly = learnt.scratch > 1_000_000;
+    let budgets = budgets(rng, learnt.answer, if costly { 1 } else { 4 });
+    for (place, budget) in budgets.into_iter().enumerate() {
+        // The first of several shows the verdict.
+        let enough = place == 0 && !costly;
+        let [scratch, room] = [learnt.scratch, learnt.room].map(|wanted| {
+            let length = if enough { wanted } else { length_near(rng, wanted) };
+            dirty(rng, length)
         });
+        let (table, recording) = (base.table_bytes.clone(), base.recording_bytes.clone());
+        calls.push(Call::Validate { table, recording, budget, scratch, room });
     }
-    room.truncate(5 + 5 * learnt.third as usize);
-    (learnt.number == 0).then_some(room)
-}
-
-fn run(base: &Base, budget: u32, scratch: &mut [u8], room: &mut [u8]) -> Answer {
-    validate(&base.table_bytes, &base.recording_bytes, budget, scratch, room)
-}
-
-/// Bytes of scratch and room that these files want, found by lending too few; some, if the
-/// files are refused before that.
-fn wanted(table: &[u8], recording: &[u8]) -> (usize, usize) {
-    let short = validate(table, recording, 0, &mut [], &mut []);
-    if short.number != 30 {
-        return (50, 50);
-    }
-    let scratch_wanted = short.second as usize;
-    let mut scratch = vec![0; scratch_wanted];
-    let short = validate(table, recording, 0, &mut scratch, &mut []);
-    (scratch_wanted, short.second as usize)
+    learnt.preferred
 }
 
 fn budgets(rng: &mut Rng, learnt: Answer, most: usize) -> Vec<u32> {
@@ -158,14 +157,13 @@ fn budgets(rng: &mut Rng, learnt: Answer, most: usize) -> Vec<u32> {
         return vec![rng.draw() as u32];
     }
     let cost = learnt.second as u32;
-    let mut budgets = Vec::new();
-    for _ in 0..most {
-        budgets.push(match rng.below(8) {
-            0 => u32::MAX,
-            1 | 2 => cost,
-            3 => cost + 1,
-            4 | 5 => cost.saturating_sub(1),
-            6 => 0,
+    let mut budgets = vec![u32::MAX];
+    for _ in 1..most {
+        budgets.push(match rng.below(7) {
+            0 | 1 => cost,
+            2 => cost + 1,
+            3 | 4 => cost.saturating_sub(1),
+            5 => 0,
             _ => rng.below(cost as usize + 1) as u32,
         });
     }
@@ -175,7 +173,8 @@ fn budgets(rng: &mut Rng, learnt: Answer, most: usize) -> Vec<u32> {
 fn checks(rng: &mut Rng, base: &Base, preferred: Option<Vec<u8>>, calls: &mut Vec<Call>) {
     let guess = guessed(rng, &base.table, &base.recording);
     let spoilt = spoil_witness(rng, &guess);
-    let mut witnesses = vec![encode_witness(&guess), encode_witness(&spoilt)];
+    let told = [Some(guess), Some(spoilt), base.crossed.clone()];
+    let mut witnesses: Vec<Vec<u8>> = told.iter().flatten().map(encode_witness).collect();
     if let Some(preferred) = preferred {
         witnesses.push(spoil_bytes(rng, &preferred));
         if let Ok(parts) = crate::witness::read(&preferred) {

@@ -2,7 +2,9 @@
 
 mod buffers;
 mod calls;
+mod crossed;
 mod encode;
+mod learn;
 mod parts;
 mod recordings;
 mod rng;
@@ -13,6 +15,7 @@ mod witnesses;
 
 pub use buffers::{dirty, length_near};
 pub use calls::calls;
+pub use crossed::{busy_air, cross};
 pub use encode::{encode_recording, encode_table, encode_witness};
 pub use parts::writings;
 pub use recordings::{any_rows, overheard, spoil_rows};

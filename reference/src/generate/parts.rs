@@ -1,6 +1,7 @@
 //! Random parts of all kinds, most of which no reading gives, to be written.
 
 use super::buffers::length_near;
+use super::crossed::cross;
 use super::encode::encode_table;
 use super::recordings::{any_rows, spoil_rows};
 use super::rng::Rng;
@@ -23,11 +24,11 @@ pub fn writings(rng: &mut Rng) -> Vec<Writing> {
     let table = sound_table(rng, &shape);
     let last = rng.between(0, 30) as u16;
     let heard = any_rows(rng, &table, last);
-    let guess = guessed(rng, &table, &heard);
-    let parts = [table_parts(rng, &table), recording_parts(rng, &table, &heard), {
-        let rows = if rng.one_in(2) { guess } else { spoil_witness(rng, &guess) }.rows;
-        Parts::Witness(row_parts(rng, rows, witness::FILE.most_rows, any_row))
-    }];
+    let parts = [
+        table_parts(rng, &table),
+        recording_parts(rng, &table, &heard),
+        witness_parts(rng, &table, &heard),
+    ];
     parts.into_iter().map(|parts| writing(rng, parts)).collect()
 }
 
@@ -98,6 +99,17 @@ fn recording_parts(rng: &mut Rng, table: &Table, heard: &recording::Recording) -
         false => spoil_rows(rng, table, heard).rows,
     };
     Parts::Recording(bytes, row_parts(rng, rows, recording::FILE.most_rows, any_heard))
+}
+
+/// In form as often as not; at times rows share a time.
+fn witness_parts(rng: &mut Rng, table: &Table, heard: &recording::Recording) -> Parts {
+    let guess = guessed(rng, table, heard);
+    let told = match rng.below(4) {
+        0 => cross(rng, table, heard, &guess).map_or(guess, |(_, crossed)| crossed),
+        1 => spoil_witness(rng, &guess),
+        _ => guess,
+    };
+    Parts::Witness(row_parts(rng, told.rows, witness::FILE.most_rows, any_row))
 }
 
 fn any_heard(rng: &mut Rng) -> Heard {

@@ -2,7 +2,7 @@
 
 use super::rng::Rng;
 use crate::brute::Monitor;
-use crate::recording::{Heard, Recording, FILE, LAST_TIME};
+use crate::recording::{overlaps, Heard, Recording, FILE, LAST_TIME};
 use crate::table::Table;
 
 /// What a sniffer may hear of a monitor that keeps to its table: some packets are lost, and
@@ -10,28 +10,40 @@ use crate::table::Table;
 /// so that a rejection comes late. Sound always.
 pub fn overheard(rng: &mut Rng, table: &Table, last: u16) -> Recording {
     let mut recording = Recording::default();
-    let mut monitor = Monitor::start();
-    let mut free_from = 0;
-    let pace = rng.between(1, 4);
     let loss = rng.between(2, 6);
+    for packet in some_run(rng, table, last) {
+        if !rng.one_in(loss) {
+            hear(&mut recording, table, packet);
+        }
+    }
     let odd_time = if rng.one_in(3) { rng.between(1, 1 + usize::from(last)) } else { 0 };
     for time in 1..=last {
         let kind = rng.below(table.kinds.len()) as u8;
         if usize::from(time) == odd_time || (table.to_unit(kind) && rng.one_in(12)) {
             hear(&mut recording, table, Heard { time, kind });
         }
-        if u32::from(time) < free_from || !rng.one_in(pace) {
+    }
+    recording
+}
+
+/// The packets of a monitor that keeps to its table. It waits now and then, but not so long that
+/// nothing can follow.
+fn some_run(rng: &mut Rng, table: &Table, last: u16) -> Vec<Heard> {
+    let mut sent: Vec<Heard> = Vec::new();
+    let mut monitor = Monitor::start();
+    let pace = rng.between(1, 4);
+    for time in 1..=last {
+        let taken = sent.last().is_some_and(|it| overlaps(table, *it, Heard { time, kind: 0 }));
+        let can_wait = |rng: &mut Rng| some_firing(rng, table, &monitor, time + 1).is_some();
+        if taken || (!rng.one_in(pace) && can_wait(rng)) {
             continue;
         }
         if let Some((kind, after)) = some_firing(rng, table, &monitor, time) {
             monitor = after;
-            free_from = u32::from(time) + table.airtime(kind) + 1;
-            if !rng.one_in(loss) {
-                hear(&mut recording, table, Heard { time, kind });
-            }
+            sent.push(Heard { time, kind });
         }
     }
-    recording
+    sent
 }
 
 fn some_firing(rng: &mut Rng, table: &Table, it: &Monitor, time: u16) -> Option<(u8, Monitor)> {
@@ -45,14 +57,18 @@ fn some_firing(rng: &mut Rng, table: &Table, it: &Monitor, time: u16) -> Option<
     })
 }
 
-/// Adds the row if the recording stays sound with it.
-fn hear(recording: &mut Recording, table: &Table, row: Heard) {
-    let fits = recording.rows.last().is_none_or(|before| {
-        u32::from(row.time) > u32::from(before.time) + table.airtime(before.kind)
-    });
-    if fits && recording.rows.len() < FILE.most_rows {
-        recording.rows.push(row);
+/// Adds the row at its place if the recording stays sound with it, and says so.
+pub fn hear(recording: &mut Recording, table: &Table, row: Heard) -> bool {
+    let rows = &mut recording.rows;
+    let place = rows.partition_point(|it| it.time < row.time);
+    let (before, after) = rows.split_at(place);
+    let fits = rows.len() < FILE.most_rows
+        && before.last().is_none_or(|it| !overlaps(table, *it, row))
+        && after.first().is_none_or(|it| !overlaps(table, row, *it));
+    if fits {
+        rows.insert(place, row);
     }
+    fits
 }
 
 /// Any sound rows of the table's kinds up to this time.

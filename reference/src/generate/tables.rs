@@ -72,6 +72,32 @@ pub fn sound_table(rng: &mut Rng, shape: &Shape) -> Table {
     }
 }
 
+/// A protocol: the states wait for their packets in a ring, each for some ticks once the one before
+/// is off the air, and at times there is another way. So there are few places for a lost packet.
+pub fn protocol(rng: &mut Rng) -> Table {
+    let directions = [0, 1, rng.below(2) as u8];
+    let kinds = directions.map(|direction| Kind { direction, airtime: rng.between(0, 3) as u8 });
+    let states = rng.between(2, 4);
+    let mut transitions = Vec::new();
+    let mut airtime = 0;
+    for step in 0..states + rng.below(5) {
+        let kind = rng.below(kinds.len());
+        let low = airtime + rng.between(1, 3) as u8;
+        let high = low + rng.below(8) as u8;
+        airtime = kinds[kind].airtime;
+        transitions.push(Transition {
+            from: (step % states) as u8,
+            to: ((step + 1) % states) as u8,
+            kind: kind as u8,
+            reset: 1,
+            guard: vec![5, 2, 0, low, 1, 0, high],
+            ..Transition::default()
+        });
+    }
+    let (states, kinds) = (states as u8, kinds.to_vec());
+    Table { states, variables: 0, clocks: 1, kinds, transitions }
+}
+
 /// Sound but for N, which may be above its limit.
 pub fn any_table(rng: &mut Rng, shape: &Shape) -> Table {
     let count = |rng: &mut Rng, low, most| if shape.full { most } else { rng.between(low, most) };

@@ -2,63 +2,84 @@
 
 use super::rng::Rng;
 use crate::brute::Monitor;
-use crate::recording::{Recording, LAST_TIME};
+use crate::recording::{overlaps, Heard, Recording, LAST_TIME};
 use crate::table::Table;
 use crate::witness::{Row, Witness, ADDED, FILE, KEPT, NO_TRANSITION, REMOVED};
 
 /// A guess made row by row, and a few rows after T: permitted unless it runs into a row
 /// that can neither be kept nor removed; then it removes that row all the same.
 pub fn guessed(rng: &mut Rng, table: &Table, recording: &Recording) -> Witness {
-    let mut witness = Witness::default();
-    let mut monitor = Monitor::start();
-    let mut free_from = 0;
+    let mut guess = Guess::new(table);
+    let instants = recording.instants();
     let beyond = if rng.one_in(3) { rng.below(6) } else { 0 };
-    let last = (recording.last_time() + beyond).min(usize::from(LAST_TIME));
+    let last = (instants.len() + beyond).min(usize::from(LAST_TIME));
     let eagerness = rng.between(1, 6);
     for time in 1..=last as u16 {
-        let recorded = recording.rows.iter().find(|row| row.time == time).map(|row| row.kind);
-        let mut choices = firings(table, &monitor, time, free_from);
-        let want_kept = !rng.one_in(5);
-        let mark = match recorded {
-            Some(kind) if want_kept && choices.iter().any(|(_, it, _)| *it == kind) => {
-                choices.retain(|(_, it, _)| *it == kind);
-                KEPT
+        let heard = instants.get(usize::from(time) - 1).copied().flatten();
+        let mut firings = guess.firings(time);
+        firings.retain(|(_, kind, _)| heard.is_none_or(|heard| heard == *kind));
+        match heard {
+            Some(kind) if firings.is_empty() || rng.one_in(5) => guess.remove(time, kind),
+            Some(_) => guess.fire(KEPT, time, rng.pick(&firings)),
+            None => {
+                let next = recording.rows.iter().find(|row| row.time > time);
+                let meets =
+                    |kind| next.is_some_and(|it| overlaps(table, Heard { time, kind }, *it));
+                firings.retain(|(_, kind, _)| !meets(*kind));
+                if !firings.is_empty() && rng.one_in(eagerness) {
+                    guess.fire(ADDED, time, rng.pick(&firings));
+                }
             }
-            Some(kind) => {
-                choices.retain(|(_, it, _)| *it != kind);
-                let transition = NO_TRANSITION;
-                witness.rows.push(Row { mark: REMOVED, time, kind, transition });
-                ADDED
-            }
-            None => ADDED,
-        };
-        if choices.is_empty() || (mark == ADDED && !rng.one_in(eagerness)) {
-            continue;
         }
-        let (transition, kind, after) = rng.pick(&choices);
-        witness.rows.push(Row { mark, time, kind, transition });
-        monitor = after;
-        free_from = u32::from(time) + table.airtime(kind) + 1;
     }
-    witness
+    guess.witness
 }
 
+/// A witness in the making.
+struct Guess<'a> {
+    table: &'a Table,
+    witness: Witness,
+    monitor: Monitor,
+    free_from: u32,
+}
+
+/// Transition, kind and what it leaves.
 type Firing = (u8, u8, Monitor);
 
-/// Transition, kind and what it leaves, for each that can fire now.
-fn firings(table: &Table, monitor: &Monitor, time: u16, free_from: u32) -> Vec<Firing> {
-    let time = u32::from(time);
-    if time < free_from {
-        return Vec::new();
+impl<'a> Guess<'a> {
+    fn new(table: &'a Table) -> Self {
+        Guess { table, witness: Witness::default(), monitor: Monitor::start(), free_from: 0 }
     }
-    let numbered = table.transitions.iter().enumerate();
-    numbered
-        .filter_map(|(number, it)| {
-            let number = number as u8;
-            let after = monitor.fire(table, number, (time, it.kind))?;
-            Some((number, it.kind, after))
-        })
-        .collect()
+
+    /// Each that can happen now.
+    fn firings(&self, time: u16) -> Vec<Firing> {
+        let time = u32::from(time);
+        if time < self.free_from {
+            return Vec::new();
+        }
+        let numbered = self.table.transitions.iter().enumerate();
+        numbered
+            .filter_map(|(number, it)| {
+                let number = number as u8;
+                let after = self.monitor.fire(self.table, number, (time, it.kind))?;
+                Some((number, it.kind, after))
+            })
+            .collect()
+    }
+
+    fn fire(&mut self, mark: u8, time: u16, (transition, kind, after): Firing) {
+        self.push(Row { mark, time, kind, transition });
+        self.monitor = after;
+    }
+
+    fn remove(&mut self, time: u16, kind: u8) {
+        self.push(Row { mark: REMOVED, time, kind, transition: NO_TRANSITION });
+    }
+
+    fn push(&mut self, row: Row) {
+        self.witness.rows.push(row);
+        self.free_from = u32::from(row.time) + self.table.airtime(row.kind) + 1;
+    }
 }
 
 /// Parts with a thing or a few out of order or just at a limit.
@@ -91,7 +112,7 @@ fn spoil_row(rng: &mut Rng, witness: &mut Witness) {
     let number = rng.below(count);
     let other = rng.below(count);
     let row = witness.rows[number];
-    match rng.below(9) {
+    match rng.below(10) {
         0 => witness.rows[number].mark = rng.pick(&[KEPT, REMOVED, ADDED, 3, 255]),
         1 => witness.rows[number].time = row.time.wrapping_add(1),
         2 => witness.rows[number].time = row.time.wrapping_sub(1),
@@ -100,6 +121,7 @@ fn spoil_row(rng: &mut Rng, witness: &mut Witness) {
         5 => witness.rows[number].transition = rng.pick(&[0, 1, 63, 64, 254, NO_TRANSITION]),
         6 => witness.rows.swap(number, other),
         7 => drop(witness.rows.remove(number)),
+        8 => witness.rows[number].time = witness.rows[number.saturating_sub(1)].time,
         _ => witness.rows.insert(number, row),
     }
 }

@@ -7,7 +7,8 @@ pub use parts::writings;
 use crate::answer::Answer;
 use crate::call::{Call, ORDINARY};
 use crate::generate::encode_table;
-use crate::papers::{recording, ACK, DATA, RETRY, SMALL_MONITOR};
+use crate::narrowed::ACK_AIRTIME;
+use crate::papers::{recording, small_monitor_with, ACK, DATA, RETRY, SMALL_MONITOR};
 use crate::table::{Kind, Table, Transition};
 
 /// Enough for every call here.
@@ -30,6 +31,9 @@ pub const SIZES: [(u8, u8, &[u8], u8, usize); 8] = [
 /// What the one clock of a table with two states is compared with, so that a set of its situations
 /// has 9 to 16 bytes: a whole word, and a last one of every length.
 pub const LAST_WORD_BOUNDS: [u8; 8] = [33, 37, 41, 45, 49, 53, 57, 61];
+
+/// 1 with each bit changed in turn, and with all set.
+const VERSIONS: [u8; 9] = [0, 3, 5, 9, 17, 33, 65, 129, 255];
 
 /// A table of that size: a kind from the unit, one to it, and two transitions a state.
 pub fn sized(states: u8, variables: u8, bounds: &[u8], airtime: u8) -> Table {
@@ -84,9 +88,20 @@ pub fn calls() -> Vec<Call> {
     for rows in recordings() {
         judged(&mut calls, &SMALL_MONITOR, &recording(&rows));
     }
-    for table in counts() {
-        calls.push(validation(&table, &recording(&[(1, DATA)]), 10_000));
+    for (airtime, rows) in after_ack() {
+        judged(&mut calls, &small_monitor_with(ACK_AIRTIME, airtime), &recording(&rows));
+    }
+    let one = recording(&[(1, DATA)]);
+    for table in changed_tables() {
+        calls.push(validation(&table, &one, 10_000));
         calls.push(Call::RewriteTable { bytes: table, room: vec![0; ROOM] });
+    }
+    for version in VERSIONS {
+        let mut bytes = one.clone();
+        bytes[2] = version;
+        calls.push(validation(&SMALL_MONITOR, &bytes, 10_000));
+        let table = SMALL_MONITOR.to_vec();
+        calls.push(Call::RewriteRecording { table, bytes, room: vec![0; ROOM] });
     }
     calls
 }
@@ -138,13 +153,19 @@ fn recordings() -> Vec<Vec<(u16, u8)>> {
     ]
 }
 
-/// The small monitor with each count one below and one above its limits.
-fn counts() -> Vec<Vec<u8>> {
-    let spoilt = [(3, 0), (3, 17), (4, 5), (5, 3), (6, 0), (6, 33), (7, 65), (3, 16), (4, 4)];
-    let with = |(offset, count): (usize, u8)| {
-        let mut table = SMALL_MONITOR.to_vec();
-        table[offset] = count;
-        table
-    };
-    spoilt.into_iter().map(with).collect()
+/// Airtimes of ACK, and RETRY 4 ticks after the last instant that ACK at 1 takes, or 4 after the
+/// next one: DATA, which comes 4 to 6 before, can be added then and not before.
+fn after_ack() -> Vec<(u8, [(u16, u8); 2])> {
+    let with = |airtime: u8, retry: u8| (airtime, [(1, ACK), (retry.into(), RETRY)]);
+    (0..=15).flat_map(|it| [with(it, it + 5), with(it, it + 6)]).collect()
+}
+
+/// The small monitor with counts at their limits, below and above; with other versions; and cut at
+/// the ends of its records and one byte before them, with a length that matches.
+fn changed_tables() -> Vec<Vec<u8>> {
+    let counts = [(3, 0), (3, 17), (4, 5), (5, 3), (6, 0), (6, 33), (7, 65), (3, 16), (4, 4)];
+    let bytes = counts.into_iter().chain(VERSIONS.map(|version| (2, version)));
+    let cut = |end: usize| [&[0, end as u8 - 2], &SMALL_MONITOR[2..end]].concat();
+    let ends = [10, 12, 14, 22, 32, 47, 57].into_iter().flat_map(|end| [end - 1, end]);
+    bytes.map(|(place, byte)| small_monitor_with(place, byte)).chain(ends.map(cut)).collect()
 }

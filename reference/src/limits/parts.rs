@@ -1,7 +1,8 @@
 //! Parts at the limits of the paper, and one beyond each, to be written.
 
-use super::{sized, SIZES};
-use crate::papers::{ACK, DATA, SMALL_MONITOR};
+use super::{sized, ROOM, SIZES};
+use crate::generate::encode_table;
+use crate::papers::{small_monitor_with, ACK, DATA, SMALL_MONITOR};
 use crate::parts::{RecordingParts, RowParts, TableParts, WitnessParts, GUARD_PLACES};
 use crate::recording::Heard;
 use crate::table::{self, Kind, Table, Transition};
@@ -28,7 +29,7 @@ pub fn writings() -> Vec<Writing> {
         }
     }
     for parts in long_parts() {
-        let wanted = parts.wanted().expect("at its limits and not beyond");
+        let wanted = parts.wanted().unwrap_or(ROOM);
         writings.push(Writing { parts: parts.clone(), back: false, room: wanted - 1 });
         writings.push(Writing { parts, back: true, room: wanted });
     }
@@ -49,12 +50,13 @@ fn short_parts() -> Vec<Parts> {
     all
 }
 
-/// As many records as there may be.
-fn long_parts() -> [Parts; 3] {
+/// As many records as there may be, and a witness with as many as its count may say.
+fn long_parts() -> [Parts; 4] {
     [
         Parts::Table(TableParts::of(&full_table())),
         against(&SMALL_MONITOR, full_recording(), 0),
-        Parts::Witness(full_witness()),
+        Parts::Witness(full_witness(4_096)),
+        Parts::Witness(full_witness(4_608)),
     ]
 }
 
@@ -159,13 +161,10 @@ fn full_table() -> Table {
 
 /// A table for each of its numbers that bytes can have.
 fn unsound_tables() -> Vec<Vec<u8>> {
-    let with = |place: usize, byte: u8| {
-        let mut table = SMALL_MONITOR.to_vec();
-        table[place] = byte;
-        table
-    };
-    let over = crate::generate::encode_table(&sized(1, 0, &[255, 254], 0));
-    vec![vec![], with(2, 2), with(3, 17), with(7, 6), with(8, 2), with(20, 33), over]
+    let changed = [(2, 2), (3, 17), (7, 6), (8, 2), (20, 33)];
+    let changed = changed.map(|(place, byte)| small_monitor_with(place, byte));
+    let over = encode_table(&sized(1, 0, &[255, 254], 0));
+    [vec![]].into_iter().chain(changed).chain([over]).collect()
 }
 
 fn rows<R: Copy>(count: u16, rows: &[R]) -> RowParts<R> {
@@ -215,7 +214,8 @@ fn row(mark: u8, time: u16, kind: u8, transition: u8) -> Row {
 fn witnesses() -> Vec<WitnessParts> {
     let removed = row(REMOVED, 4, 2, NO_TRANSITION);
     let added = row(ADDED, 4, 3, 9);
-    let sound = [row(KEPT, 1, 0, 0), removed, added, row(ADDED, 4_096, 255, NO_TRANSITION)];
+    let last = row(ADDED, 4_096, 255, NO_TRANSITION);
+    let sound = [row(KEPT, 1, 0, 0), removed, row(ADDED, 5, 3, 9), last];
     let mut all = vec![];
     for count in [0, 1, 3, 4, 5, 4_607, 4_608, 4_609, 65_535] {
         all.push(rows(count, &sound));
@@ -229,24 +229,24 @@ fn witnesses() -> Vec<WitnessParts> {
         all.push(rows(1, &[row(KEPT, time, 0, 0)]));
         all.push(rows(2, &[row(KEPT, 4, 0, 0), row(ADDED, time, 0, 0)]));
     }
-    // What may stand at one time: only a removed row and then an added one of another kind.
+    // No two rows stand at one time, whatever their marks and kinds.
     let marks = [row(KEPT, 4, 2, 0), removed, row(ADDED, 4, 2, 0), added];
     for first in marks {
         for second in marks {
             all.push(rows(2, &[first, second]));
         }
     }
-    all.push(rows(3, &[removed, added, row(ADDED, 4, 5, 0)]));
-    all.push(rows(3, &[removed, added, removed]));
-    all.push(rows(3, &[removed, added, row(KEPT, 3, 0, 0)]));
+    for third in [row(ADDED, 5, 5, 0), removed, row(KEPT, 3, 0, 0)] {
+        all.push(rows(3, &[removed, row(ADDED, 5, 3, 9), third]));
+    }
     all
 }
 
-/// 4,608 rows: one at each time, and at every eighth another.
-fn full_witness() -> WitnessParts {
-    let at = |time: u16| match time % 8 {
-        0 => vec![row(REMOVED, time, 0, NO_TRANSITION), row(ADDED, time, 1, 63)],
-        _ => vec![row(KEPT, time, 0, 0)],
+/// So many rows: one at each time, and those for which no time is left at the last one.
+fn full_witness(count: u16) -> WitnessParts {
+    let at = |number: u16| match number % 8 {
+        0 => row(REMOVED, number.min(4_096), 0, NO_TRANSITION),
+        _ => row(ADDED, number.min(4_096), 1, 63),
     };
-    rows(4_608, &(1..=4_096).flat_map(at).collect::<Vec<_>>())
+    rows(count, &(1..=count).map(at).collect::<Vec<_>>())
 }

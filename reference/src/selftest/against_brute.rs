@@ -2,12 +2,14 @@
 
 use super::{same, Counts};
 use crate::answer::Answer;
-use crate::brute::{first_dead_instant, permitted_by_checker, preference, witnesses, works};
+use crate::brute::{
+    first_dead_instant, permitted_by_checker, preference, ruled_out, witnesses, works,
+};
 use crate::call::{Call, ORDINARY};
 use crate::compare::hex;
 use crate::generate::{
-    any_rows, dirty, encode_recording, encode_table, encode_witness, overheard, sound_table, Rng,
-    Shape,
+    any_rows, busy_air, dirty, encode_recording, encode_table, encode_witness, overheard,
+    sound_table, Rng, Shape,
 };
 use crate::recording::Recording;
 use crate::table::Table;
@@ -44,6 +46,20 @@ pub fn test(rng: &mut Rng, counts: &mut Counts) -> Result<(), String> {
 }
 
 fn small(rng: &mut Rng) -> Small {
+    let (table, recording) = match rng.one_in(3) {
+        true => {
+            // Three kinds, and guards that leave few runs: not too many traces up to 7.
+            let last = rng.between(4, 7) as u16;
+            let (table, recording, _) = busy_air(rng, last);
+            (table, recording)
+        }
+        false => any(rng),
+    };
+    let (table_bytes, recording_bytes) = (encode_table(&table), encode_recording(&recording));
+    Small { table, recording, table_bytes, recording_bytes }
+}
+
+fn any(rng: &mut Rng) -> (Table, Recording) {
     let table = sound_table(rng, &Shape::TINY);
     let (traces, runs) = (table.kinds.len() as u64 + 1, table.transitions.len() as u64 + 1);
     let fits = |last: &u32| traces.pow(*last) <= MOST_TRACES && runs.pow(*last) <= MOST_RUNS;
@@ -54,8 +70,7 @@ fn small(rng: &mut Rng) -> Small {
         true => overheard(rng, &table, last),
         false => any_rows(rng, &table, last),
     };
-    let (table_bytes, recording_bytes) = (encode_table(&table), encode_recording(&recording));
-    Small { table, recording, table_bytes, recording_bytes }
+    (table, recording)
 }
 
 fn test_one(rng: &mut Rng, small: &Small, counts: &mut Counts) -> Result<(), String> {
@@ -85,6 +100,10 @@ fn truth(small: &Small, counts: &mut Counts) -> Result<Truth, String> {
     let mut permitted = witnesses(table, recording);
     permitted.sort_by_cached_key(|witness| preference(witness, last));
     counts.witnesses += permitted.len() as u64;
+    if ruled_out(table, recording) {
+        counts.narrowed += 1;
+        counts.left_with_none += u64::from(permitted.is_empty());
+    }
     let dead = first_dead_instant(table, recording);
     same("some trace or a dead instant", permitted.is_empty(), dead.is_some())?;
     let works = works(table, recording);

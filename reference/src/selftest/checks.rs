@@ -5,13 +5,15 @@ use crate::brute::expected_check;
 use crate::check::check_witness;
 use crate::compare::hex;
 use crate::generate::{
-    any_rows, encode_recording, encode_table, encode_witness, guessed, overheard, sound_table,
-    spoil_witness, Rng, Shape,
+    any_rows, cross, encode_recording, encode_table, encode_witness, guessed, overheard,
+    sound_table, spoil_witness, Rng, Shape,
 };
-use crate::witness::FILE;
+use crate::recording::Recording;
+use crate::table::Table;
+use crate::witness::{Witness, FILE};
 
-/// Witnesses tried for each table and recording.
-const TRIES: u64 = 20;
+/// Witnesses tried for each table and recording, and each spoilt once.
+const TRIES: u64 = 10;
 
 pub fn test(rng: &mut Rng, counts: &mut Counts) -> Result<(), String> {
     let shape = rng.pick(&[Shape::TINY, Shape::TINY, Shape::MIDDLE]);
@@ -21,21 +23,28 @@ pub fn test(rng: &mut Rng, counts: &mut Counts) -> Result<(), String> {
         true => any_rows(rng, &table, last),
         false => overheard(rng, &table, last),
     };
-    let (table_bytes, recording_bytes) = (encode_table(&table), encode_recording(&recording));
     for number in 0..TRIES {
-        let mut witness = guessed(rng, &table, &recording);
-        if number > 0 {
-            witness = spoil_witness(rng, &witness);
+        let guess = guessed(rng, &table, &recording);
+        let (recording, witness) = match number % 3 {
+            0 => cross(rng, &table, &recording, &guess).unwrap_or((recording.clone(), guess)),
+            _ => (recording.clone(), guess),
+        };
+        let spoilt = spoil_witness(rng, &witness);
+        for witness in [witness, spoilt] {
+            if witness.rows.len() <= FILE.most_rows {
+                check(&table, &recording, &witness)?;
+                counts.checks += 1;
+            }
         }
-        if witness.rows.len() > FILE.most_rows {
-            continue;
-        }
-        let bytes = encode_witness(&witness);
-        let answer = check_witness(&table_bytes, &recording_bytes, &bytes);
-        let files = || [&table_bytes, &recording_bytes, &bytes].map(|it| hex(it)).join("\n");
-        same("check", answer, expected_check(&table, &recording, &witness))
-            .map_err(|it| format!("{it}\ntable, recording, witness:\n{}", files()))?;
-        counts.checks += 1;
     }
     Ok(())
+}
+
+fn check(table: &Table, recording: &Recording, witness: &Witness) -> Result<(), String> {
+    let files = [encode_table(table), encode_recording(recording), encode_witness(witness)];
+    let answer = check_witness(&files[0], &files[1], &files[2]);
+    same("check", answer, expected_check(table, recording, witness)).map_err(|it| {
+        let files = files.each_ref().map(|file| hex(file)).join("\n");
+        format!("{it}\ntable, recording, witness:\n{files}")
+    })
 }

@@ -5,7 +5,7 @@ use super::{same, Counts};
 use crate::answer::{Answer, Refusal};
 use crate::compare::hex;
 use crate::generate::{
-    any_bytes, dirty, encode_recording, encode_table, encode_witness, guessed, length_near,
+    any_bytes, cross, dirty, encode_recording, encode_table, encode_witness, guessed, length_near,
     overheard, sound_table, spoil_bytes, spoil_rows, spoil_table, spoil_witness, Rng, Shape,
 };
 use crate::rewrite::{rewrite_recording, rewrite_table, rewrite_witness};
@@ -31,6 +31,9 @@ pub fn test(rng: &mut Rng, counts: &mut Counts) -> Result<(), String> {
     recordings(rng, &table_bytes, &spoilt)?;
     let spoilt = spoil_witness(rng, &guess);
     witnesses(rng, &spoilt)?;
+    if let Some((_, crossed)) = cross(rng, &sound, &heard, &guess) {
+        witnesses(rng, &crossed)?;
+    }
     for file in [&table_bytes, &heard_bytes, &guess_bytes] {
         let spoilt = spoil_bytes(rng, file);
         bytes(rng, &table_bytes, file)?;

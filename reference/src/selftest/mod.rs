@@ -19,6 +19,9 @@ pub struct Counts {
     pub rejected: u64,
     pub validations: u64,
     pub witnesses: u64,
+    /// Where the air of removed packets rules a trace out, and where no trace is left.
+    pub narrowed: u64,
+    pub left_with_none: u64,
     pub checker_hunts: u64,
     pub hunts_left: u64,
     pub checks: u64,
@@ -46,6 +49,7 @@ impl Counts {
              small inputs against brute force: {} ({} accepted, {} rejected)\n\
              validations of them at budgets around every running total: {}\n\
              witnesses found by brute force: {}\n\
+             a removed packet's air rules traces out in: {} inputs ({} left with none)\n\
              all lists the checker permits enumerated: {} inputs ({} left as too many)\n\
              witnesses checked rule by rule: {}\n\
              files read and written: {}\n\
@@ -56,6 +60,8 @@ impl Counts {
             self.rejected,
             self.validations,
             self.witnesses,
+            self.narrowed,
+            self.left_with_none,
             self.checker_hunts,
             self.hunts_left,
             self.checks,

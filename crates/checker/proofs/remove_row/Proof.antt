@@ -17,10 +17,12 @@ refused-requires : tie.Need-refused-requires
 refused-requires c κs = search needs
 
 returns : tie.Need-returns
-returns c = let a = c .before .before .before .before .before .before .args in
+returns c =
+    let a = c .before .before .before .before .before .before .args in
+    let m = monitorFrom (a .table .now) (a .offsets .now) in
     let ps = packetsAt (a .recording .now) in
     stepped-as ps (c .refused .ensures ps)
-    (not-removed (monitorFrom (a .table .now) (a .offsets .now)) ps (a .s) (a .e) false (toUnit (monitorFrom (a .table .now) (a .offsets .now)) (a .e .kind)) (sym (c .before .before .is-next .ensures .0) ∙ not-true _ (c .before .if1 .taken)) refl refl)
+    (not-removed m ps (a .s) (a .e) false (toUnit m (a .e .kind)) (sym (c .before .before .is-next .ensures .0) ∙ not-true _ (c .before .if1 .taken)) refl refl)
 
 to-unit-requires : tie.Need-to-unit-requires
 to-unit-requires c κs = search needs
@@ -29,18 +31,28 @@ refused-requires-2 : tie.Need-refused-requires-2
 refused-requires-2 c κs = search needs
 
 returns-2 : tie.Need-returns-2
-returns-2 c = let a = c .before .before .before .before .before .before .before .before .args in
+returns-2 c =
+    let a = c .before .before .before .before .before .before .before .before .args in
     let ps = packetsAt (a .recording .now) in
     stepped-as ps (c .refused2 .ensures ps)
-    (not-removed (monitorFrom (a .table .now) (a .offsets .now)) ps (a .s) (a .e) true false (sym (c .before .before .before .before .is-next .ensures .0) ∙ not-false _ (c .before .before .before .if1 .left)) (sym ((c .before .before .to-unit .ensures) (a .offsets .now)) ∙ not-true _ (c .before .if2 .taken)) refl)
+    (not-removed (monitorFrom (a .table .now) (a .offsets .now)) ps (a .s) (a .e) true false
+    (sym (c .before .before .before .before .is-next .ensures .0) ∙ not-false _ (c .before .before .before .if1 .left))
+    (sym (c .before .before .to-unit .ensures (a .offsets .now)) ∙ not-true _ (c .before .if2 .taken)) refl)
 
 add-following : tie.Need-add-following
-add-following c = omega (arith, (c .before .before .before .before .is-next .ensures) .1 (not-false _ (c .before .before .before .if1 .left)))
+add-following c = omega (arith, c .before .before .before .before .is-next .ensures .1 (not-false _ (c .before .before .before .if1 .left)))
+
+free-after-requires : tie.Need-free-after-requires
+free-after-requires c κs = c .before .before .before .before .before .before .before .before .pre .last
 
 returns-3 : tie.Need-returns-3
-returns-3 c = let a = c .before .before .before .before .before .before .before .before .args in
+returns-3 c =
+    let a = c .before .before .before .before .before .before .before .before .before .args in
     let ps = packetsAt (a .recording .now) in
-    removed-step (monitorFrom (a .table .now) (a .offsets .now)) ps (a .s) (a .e) (c .before .before .before .before .before .before .before .before .pre) (sym (c .before .before .before .before .is-next .ensures .0) ∙ not-false _ (c .before .before .before .if1 .left)) (sym ((c .before .before .to-unit .ensures) (a .offsets .now)) ∙ not-false _ (c .before .if2 .left))
+    removed-step (monitorFrom (a .table .now) (a .offsets .now)) ps (a .s) (a .e) (c .free-after .result) (c .before .before .before .before .before .before .before .before .before .pre)
+    (c .free-after .ensures .0 (a .offsets .now)) (c .free-after .ensures .1)
+    (sym (c .before .before .before .before .before .is-next .ensures .0) ∙ not-false _ (c .before .before .before .before .if1 .left))
+    (sym (c .before .before .before .to-unit .ensures (a .offsets .now)) ∙ not-false _ (c .before .before .if2 .left))
 
 pub remove-row-spec : {M : Type 1} → statement M
 remove-row-spec =
@@ -53,4 +65,5 @@ remove-row-spec =
     refused-requires-2
     returns-2
     add-following
+    free-after-requires
     returns-3)

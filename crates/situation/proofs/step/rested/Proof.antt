@@ -7,7 +7,7 @@ use Rattle.situation.specs.declared.Heard.{Heard}
 use Rattle.situation.specs.declared.Heard.the-variants.{Kind}
 use Rattle.situation.specs.Rows.{heardOf}
 use Rattle.situation.specs.Steps.{stepped}
-use Rattle.situation.proofs.Moves.{rested-nothing, rested-removed, rested-not}
+use Rattle.situation.proofs.Moves.{rested-nothing, removed-row}
 use borrow.Author.Needs.{needs}
 use Rattle.situation.proofs.step.rested.Statement.{statement}
 use Rattle.situation.proofs.step.rested.Tie as tie
@@ -21,28 +21,11 @@ still-requires c κs = search needs
 enum-known-heard : tie.Need-enum-known-heard
 enum-known-heard c = search needs
 
-to-unit-requires : tie.Need-to-unit-requires
-to-unit-requires c κs = search needs
-
-still-requires-2 : tie.Need-still-requires-2
-still-requires-2 c κs = search needs
+missed-requires : tie.Need-missed-requires
+missed-requires c κs = search needs
 
 returns : tie.Need-returns
 returns c =
-    let a = c .before .before .before .before .before .before .before .args in
-    let p = c .before .before .before .before .heard .given .0 in
-    let e : a .heard ≡ Kind (p .0) = cc in
-    λ offsets.
-    let m = monitorFrom (a .table .now) offsets in
-    ap (λ (x : Situation). record { leads = true; to = x }) (c .still2 .ensures)
-    ∙ rested-removed (a .h) m (a .s) (p .0) (sym (c .before .before .to-unit .ensures offsets) ∙ c .before .if1 .taken)
-    ∙ ap (λ (x : Heard). stepped (a .h) m (heardOf x) (a .s) rest) (sym e)
-
-nowhere-requires : tie.Need-nowhere-requires
-nowhere-requires c κs = search needs
-
-returns-2 : tie.Need-returns-2
-returns-2 c =
     let a = c .before .before .before .before .args in
     λ offsets.
     let m = monitorFrom (a .table .now) offsets in
@@ -50,15 +33,15 @@ returns-2 c =
     ∙ rested-nothing (a .h) m (a .s)
     ∙ ap (λ (x : Heard). stepped (a .h) m (heardOf x) (a .s) rest) (sym (c .before .enum-told .given .1))
 
-returns-3 : tie.Need-returns-3
-returns-3 c =
-    let a = c .before .before .before .before .before .before .before .args in
-    let p = c .before .before .before .before .heard .given .0 in
+returns-2 : tie.Need-returns-2
+returns-2 c =
+    let a = c .before .before .before .before .before .args in
+    let p = c .before .before .heard .given .0 in
     let e : a .heard ≡ Kind (p .0) = cc in
     λ offsets.
     let m = monitorFrom (a .table .now) offsets in
-    c .nowhere .ensures
-    ∙ rested-not (a .h) m (a .s) (p .0) (sym (c .before .before .to-unit .ensures offsets) ∙ c .before .if1 .left)
+    c .missed .ensures offsets
+    ∙ removed-row (a .h) m (p .0) (a .s)
     ∙ ap (λ (x : Heard). stepped (a .h) m (heardOf x) (a .s) rest) (sym e)
 
 pub rested-spec : {M : Type 1} → statement M
@@ -68,9 +51,6 @@ rested-spec =
     enum-told
     still-requires
     enum-known-heard
-    to-unit-requires
-    still-requires-2
+    missed-requires
     returns
-    nowhere-requires
-    returns-2
-    returns-3)
+    returns-2)

@@ -1,0 +1,171 @@
+//! R-3 leaves fewer mutation traces: how often the recorded cases tell it from the rules before it
+//! and from itself half made.
+
+mod before;
+
+use std::collections::BTreeMap;
+use std::sync::LazyLock;
+
+use before::{BEFORE, NEEDS_NO_AIR, NOW, TAKES_NO_AIR};
+use lutarosa_reference::answer::Answer;
+use lutarosa_reference::brute::{first_dead_instant, works};
+use lutarosa_reference::call::{Call, Engine, Outcome, ORDINARY};
+use lutarosa_reference::cases::cases;
+use lutarosa_reference::narrowed::NARROWED;
+use lutarosa_reference::recording::read;
+use lutarosa_reference::witness::{read_rows, REMOVED};
+
+const LEAST: usize = 20;
+
+const REJECTED: &str = "accepted before, rejected now";
+const OTHER_VERDICT: &str = "another verdict otherwise";
+const OTHER_COST: &str = "same verdict, another cost";
+const OTHER_WITNESS: &str = "accepted in both, another witness";
+const SAME_TIME: &str = "check: two rows at one time";
+const IN_REMOVED: &str = "check: a row in the airtime of a removed one";
+const REMOVED_IN: &str = "check: a removed row in the airtime of another";
+
+type Tally = BTreeMap<&'static str, usize>;
+
+static RECORDED: LazyLock<Vec<Call>> =
+    LazyLock::new(|| recorded(&cases(1).expect("writing to memory").input));
+
+/// The validations, checks and rewritten witnesses of a batch; `cases` says how it is laid out.
+fn recorded(batch: &[u8]) -> Vec<Call> {
+    let mut calls = Vec::new();
+    let mut rest = batch;
+    while let Some((head, behind)) = rest.split_first_chunk::<25>() {
+        let number = |place: usize| {
+            let bytes = head[1 + 4 * place..].first_chunk().expect("six numbers");
+            u32::from_be_bytes(*bytes)
+        };
+        rest = behind;
+        let [table, recording, witness] = [3, 4, 5].map(|place| {
+            let (file, after) = rest.split_at(number(place) as usize);
+            rest = after;
+            file.to_vec()
+        });
+        let [scratch, room] = [1, 2].map(|place| vec![0; number(place) as usize]);
+        let budget = number(0);
+        calls.extend(match head[0] {
+            0 => Some(Call::Validate { table, recording, budget, scratch, room }),
+            1 => Some(Call::Check { table, recording, witness }),
+            4 => Some(Call::RewriteWitness { bytes: table, room }),
+            _ => None,
+        });
+    }
+    calls
+}
+
+/// How the recorded cases differ under other rules.
+fn tally(other: &Engine) -> Tally {
+    let mut tally = Tally::new();
+    for call in RECORDED.iter() {
+        let (before, now) = (call.run(other), call.run(&ORDINARY));
+        if before != now {
+            *tally.entry(call.name()).or_default() += 1;
+        }
+        for name in differences(call, &before, &now) {
+            *tally.entry(name).or_default() += 1;
+        }
+    }
+    tally.iter().for_each(|(name, times)| println!("{times} x {name}"));
+    tally
+}
+
+fn differences(call: &Call, before: &Outcome, now: &Outcome) -> Vec<&'static str> {
+    let (old, new) = (before.answer, now.answer);
+    match call {
+        Call::Validate { .. } => {
+            let verdict = match (old.number, new.number) {
+                (0, 1) => Some(REJECTED),
+                (old, new) => (old != new).then_some(OTHER_VERDICT),
+            };
+            let cost = (old.number == new.number && old.second != new.second).then_some(OTHER_COST);
+            let witness = (old.number == 0 && new.number == 0 && before.room != now.room)
+                .then_some(OTHER_WITNESS);
+            [verdict, cost, witness].into_iter().flatten().collect()
+        }
+        Call::Check { witness, .. } if (old.number, new.number) == (0, 43) => {
+            vec![reason(witness, new.second as usize)]
+        }
+        _ => Vec::new(),
+    }
+}
+
+/// Why a witness is refused at this row that was permitted before. All rows before it are a packet
+/// trace, so it meets the one just before it.
+fn reason(witness: &[u8], place: usize) -> &'static str {
+    let rows = read_rows(witness).expect("43 comes after it").rows;
+    match (rows[place - 1], rows[place]) {
+        (before, row) if before.time == row.time => SAME_TIME,
+        (_, row) if row.mark == REMOVED => REMOVED_IN,
+        _ => IN_REMOVED,
+    }
+}
+
+fn often(tally: &Tally, name: &str) {
+    let times = tally.get(name).copied().unwrap_or(0);
+    assert!(times >= LEAST, "{name}: {times}");
+}
+
+#[test]
+fn recorded_cases_tell_the_rules_before() {
+    let tally = tally(&BEFORE);
+    for name in [REJECTED, OTHER_COST, OTHER_WITNESS, SAME_TIME, IN_REMOVED, REMOVED_IN] {
+        often(&tally, name);
+    }
+    often(&tally, "rewrite witness");
+}
+
+#[test]
+fn recorded_cases_tell_rules_half_made() {
+    for (engine, check) in [(NEEDS_NO_AIR, REMOVED_IN), (TAKES_NO_AIR, IN_REMOVED)] {
+        let tally = tally(&engine);
+        for name in [REJECTED, OTHER_COST, check] {
+            often(&tally, name);
+        }
+    }
+}
+
+#[test]
+fn the_rules_written_again_are_the_same() {
+    assert_eq!(tally(&NOW), Tally::new());
+}
+
+/// Two rows never share an instant, so there are at most T of them.
+#[test]
+fn preferred_witnesses_have_at_most_a_row_an_instant() {
+    for call in RECORDED.iter() {
+        let Call::Validate { table, recording, .. } = call else { continue };
+        let Answer { number: 0, third: rows, .. } = call.run(&ORDINARY).answer else { continue };
+        let (_, heard) = read(table, recording).expect("accepted");
+        assert!(rows <= heard.last_time() as u64);
+    }
+}
+
+#[test]
+fn recordings_accepted_before_and_rejected_now() {
+    let costs_before = [18, 30, 18];
+    for (it, cost) in NARROWED.iter().zip(costs_before) {
+        let (table, recording) = (it.table(), it.recording());
+        let validation = Call::Validate {
+            table: table.clone(),
+            recording: recording.clone(),
+            budget: 10_000,
+            scratch: vec![0; 42],
+            room: vec![0; 45],
+        };
+        let (parts, heard) = read(&table, &recording).expect("sound");
+        assert_eq!(first_dead_instant(&parts, &heard), Some(it.answer.third));
+        assert_eq!(works(&parts, &heard).iter().sum::<u64>(), it.answer.second);
+        let check = Call::Check { table, recording, witness: it.witness.to_vec() };
+        let now = validation.run(&ORDINARY);
+        assert_eq!((now.answer, now.room), (it.answer, vec![0; 45]));
+        assert_eq!(check.run(&ORDINARY).answer, it.check);
+        let before = validation.run(&BEFORE);
+        assert_eq!(before.answer, Answer::new(0, cost, 3));
+        assert_eq!(&before.room[..20], it.witness);
+        assert_eq!(check.run(&BEFORE).answer, Answer::new(0, 2, 3));
+    }
+}
