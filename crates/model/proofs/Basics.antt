@@ -4,8 +4,8 @@ use native.Mathlib.Nat.{not-suc-le-zero}
 use native.Mathlib.Omega.{arith}
 use mathlib.Core.Path.{_≡_, refl, sym, ap, _∙_}
 use mathlib.Core.List.{List, [], _∷_, _++_}
-use mathlib.Core.Bool.{Bool, true, false, _&&_, false≢true}
-use mathlib.Core.Option.{Option, none, some}
+use mathlib.Core.Bool.{Bool, true, false, cond, _&&_, false≢true}
+use mathlib.Core.Option.{Option, none, some, Option·none-ne-some}
 use lib.ListN.{length, getD, getElem?, length-append, List·getD-append}
 use lib.Seq.{getD-at}
 use lib.Dec.{leb}
@@ -28,6 +28,11 @@ and-right false b e = absurd (false≢true e)
 pub both-true : (a b : Bool) → a ≡ true → b ≡ true → a && b ≡ true
 both-true true b p q = q
 both-true false b p q = p
+
+-- a test that must pass
+pub cond-some : {A : Type 0} (b : Bool) (x : Option A) (a : A) → cond b x none ≡ some a → (b ≡ true) × (x ≡ some a)
+cond-some true x a e = (refl, e)
+cond-some false x a e = absurd (Option·none-ne-some a e)
 
 -- comparisons that pass together
 pub leb-same : (a b c d : ℕ) → (a ≤ b → c ≤ d) → (c ≤ d → a ≤ b) → leb a b ≡ leb c d

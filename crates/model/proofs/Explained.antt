@@ -3,48 +3,27 @@ use Prim.Native.Nat.{ℕ, zero, suc, _+_, _-_, _≤_}
 use native.Mathlib.Omega.{arith}
 use mathlib.Core.Path.{_≡_, refl, sym, ap, subst, _∙_}
 use mathlib.Core.List.{List, [], _∷_, List·Memᴰ, List·Memᴰ·head, List·Memᴰ·tail, List·Memᴰ·cases-cons, List·Memᴰ·not-nil}
-use mathlib.Core.Bool.{Bool, true, false, cond, not, _&&_, _||_, false≢true}
-use mathlib.Core.Option.{Option, none, some, Option·map}
+use mathlib.Core.Bool.{Bool, true, false, cond, not, _&&_, false≢true}
+use mathlib.Core.Option.{Option, none, some}
 use mathlib.Core.Logic.{_↔_, _⊎_, inl, inr, ⊎-elim}
 use lib.Dec.{leb, eqb}
 use borrow.Author.Tests.{ltb-true, leb-true, eqb-true, le-leb, eq-eqb, ne-eqb}
-use Rattle.model.specs.Limits.{timeLimit}
 use Rattle.model.specs.Monitor.{Monitor, Config, start, wait, fires, toUnit, airtime}
 use Rattle.model.specs.Trace.{Packet, Spaced, PacketTrace, Carries, Possible}
-use Rattle.model.specs.Witness.{Row, kept, removed, added, noTransition, isRemoved, inForm, follows, inPlace, misformed, Formed, marked}
+use Rattle.model.specs.Witness.{Row, kept, removed, added, isRemoved, inForm, follows, inPlace, misformed, Formed, marked}
 use Rattle.model.specs.Rules.{Progress, begin, noneBefore, isNext, noneAt, others, behindRow, sends, removes, keeps, adds, account, broken}
 use Rattle.model.specs.Claims.{packetOf, heard, sentRows, packets, CarriedBy, Explains}
-use Rattle.model.proofs.Basics.{and-left, and-right, both-true}
+use Rattle.model.proofs.Basics.{and-left, and-right, both-true, cond-some}
+use Rattle.model.proofs.RowLaws.{in-form, byMark, passed, sends-fires, first-row}
 
 -- tests and options
 
-and-first : (a b c d : Bool) → a && b && c && d ≡ true → (a ≡ true) × (b ≡ true)
-and-first a b c d e = let h : a && b ≡ true = and-left (a && b) c (and-left (a && b && c) d e) in (and-left a b h, and-right a b h)
-
 module _ {A : Type 0} where
-  cond-some : (t : Bool) (o : Option A) {a : A} → cond t o none ≡ some a → (t ≡ true) × (o ≡ some a)
-  cond-some true o e = (refl, e)
-  cond-some false o {a} e = let z : _≡_ {A = ℕ} 0 1 = cc in absurd (omega arith)
-
   cond-true : (t : Bool) (o : Option A) → t ≡ true → cond t o none ≡ o
   cond-true true o e = refl
   cond-true false o e = absurd (false≢true e)
 
-  map-some : {B : Type 0} (f : A → B) (o : Option A) {b : B} → Option·map f o ≡ some b → (a : A) × (o ≡ some a) × (f a ≡ b)
-  map-some f none {b} e = let z : _≡_ {A = ℕ} 0 1 = cc in absurd (omega arith)
-  map-some f (some a) {b} e = (a, refl, cc)
-
 -- the form of rows
-
-form-limits : (r : Row) → inForm r ≡ true → (r .mark ≤ 2) × (1 ≤ r .time)
-unfolding inForm
-form-limits r e =
-    let h = and-first (leb (r .mark) 2) (leb 1 (r .time)) (leb (r .time) timeLimit) (not (isRemoved r) || eqb (r .transition) noTransition) e in
-    (leb-true (r .mark) 2 (h .0), leb-true 1 (r .time) (h .1))
-
-inPlace-form : (b : Option Row) (r : Row) → inPlace b r ≡ true → inForm r ≡ true
-inPlace-form none r e = e
-inPlace-form (some b) r e = and-left _ _ e
 
 misformed-cons : (b : Option Row) (i : ℕ) (r : Row) (rs : List Row) → misformed b i (r ∷ rs) ≡ none → (inPlace b r ≡ true) × (misformed (some r) (suc i) rs ≡ none)
 unfolding misformed
@@ -114,20 +93,15 @@ record Continues (m : Monitor) (p : Progress) (rows : List Row) : Type 0 where
   carried : CarriedBy m (p .now) (p .config) (sentRows rows)
 
 -- a row on the air and what is behind it
-clear-cons : (m : Monitor) (free : ℕ) (r : Row) (rs : List Row) → inForm r ≡ true → free ≤ r .time
+clear-cons : (m : Monitor) (free : ℕ) (r : Row) (rs : List Row) → 1 ≤ r .time → free ≤ r .time
     → Clear m (r .time + airtime m (r .kind) + 1) (packets rs) → Clear m free (packetOf r ∷ packets rs)
-clear-cons m free r rs f h c = (form-limits r f .1, h, clear-spaced m (packetOf r) (packets rs) .0 c)
+clear-cons m free r rs f h c = (f, h, clear-spaced m (packetOf r) (packets rs) .0 c)
 
 module _ (m : Monitor) (p : Progress) (r : Row) (left : List Packet) where
-  sends-some : {q : Progress} → sends m p r left ≡ some q
-      → (c : Config) × (fires m (r .transition) (r .kind) (wait (r .time - p .now) (p .config)) ≡ some c) × (behindRow m r left (r .time) c ≡ q)
-  unfolding sends
-  sends-some e = map-some (behindRow m r left (r .time)) (fires m (r .transition) (r .kind) (wait (r .time - p .now) (p .config))) e
-
-  sent-continues : (rs : List Row) {q : Progress} → sends m p r left ≡ some q → Continues m q rs
+  sent-continues : (rs : List Row) (q : Progress) → sends m p r left ≡ some q → Continues m q rs
       → (heard rs ≡ left) × Clear m (r .time + airtime m (r .kind) + 1) (packets rs) × CarriedBy m (p .now) (p .config) (r ∷ sentRows rs)
-  sent-continues rs e c =
-      let g = sends-some e in
+  sent-continues rs q e c =
+      let g = sends-fires m p r left q e in
       let d : Continues m (behindRow m r left (r .time) (g .0)) rs = subst (λ x. Continues m x rs) (sym (g .2)) c in
       (d .accounts, d .clear, (g .0, g .1, d .carried))
 
@@ -149,61 +123,46 @@ inbound-cons m r rs now behind s i e = ⊎-elim (λ q. here q) (λ l. behind s l
 abbrev removedTo : Monitor → Progress → Row → Progress
 removedTo m p r = behindRow m r (others (p .left)) (p .now) (p .config)
 
-abbrev byMark : Monitor → Progress → Row → Option Progress
-byMark m p r = cond (eqb (r .mark) kept) (keeps m p r) (cond (isRemoved r) (removes m p r) (adds m p r))
-
-account-some : (m : Monitor) (p : Progress) (r : Row) {q : Progress} → account m p r ≡ some q →
-    (inPlace (p .before) r ≡ true) × (p .free ≤ r .time) × (byMark m p r ≡ some q)
-unfolding account
-account-some m p r e =
-    let placed : Bool = inPlace (p .before) r in
-    let turn : Bool = noneBefore (p .left) (r .time) in
-    let h = cond-some (placed && turn && leb (p .free) (r .time)) _ e in (
-      and-left placed turn (and-left (placed && turn) _ (h .0)),
-      leb-true (p .free) (r .time) (and-right (placed && turn) _ (h .0)),
-      h .1,
-    )
-
 module _ (m : Monitor) (rs : List Row) where
   continues-cons : (mark t k j : ℕ) (p q : Progress) → account m p (marked mark t k j) ≡ some q → Continues m q rs → Continues m p (marked mark t k j ∷ rs)
   unfolding keeps removes adds heard sentRows packets
   continues-cons zero t k j p q e c =
       let r : Row = marked 0 t k j in
-      let a = account-some m p r e in
-      let n = cond-some (isNext (p .left) r) (sends m p r (others (p .left))) (a .2) in
-      let f = sent-continues m p r (others (p .left)) rs (n .1) c in
+      let a = passed m p r q e in
+      let n = cond-some (isNext (p .left) r) (sends m p r (others (p .left))) q (a .by) in
+      let f = sent-continues m p r (others (p .left)) rs q (n .1) c in
       record {
         accounts = ap (λ (l : List Packet). packetOf r ∷ l) (f .0) ∙ sym (next-cons (p .left) r (n .0));
         inbound = inbound-cons m r rs (λ z. absurd (omega arith)) (c .inbound);
-        clear = clear-cons m (p .free) r rs (inPlace-form (p .before) r (a .0)) (a .1) (f .1);
+        clear = clear-cons m (p .free) r rs (in-form (p .before) r (a .placed) .time) (a .free) (f .1);
         carried = f .2;
       }
   continues-cons (suc zero) t k j p q e c =
       let r : Row = marked 1 t k j in
-      let a = account-some m p r e in
-      let n = cond-some (isNext (p .left) r && toUnit m k) (some (removedTo m p r)) (a .2) in
+      let a = passed m p r q e in
+      let n = cond-some (isNext (p .left) r && toUnit m k) (some (removedTo m p r)) q (a .by) in
       let same : removedTo m p r ≡ q = cc in
       let d : Continues m (removedTo m p r) rs = subst (λ x. Continues m x rs) (sym same) c in
       record {
         accounts = ap (λ (l : List Packet). packetOf r ∷ l) (d .accounts) ∙ sym (next-cons (p .left) r (and-left _ _ (n .0)));
         inbound = inbound-cons m r rs (λ z. and-right (isNext (p .left) r) (toUnit m k) (n .0)) (d .inbound);
-        clear = clear-cons m (p .free) r rs (inPlace-form (p .before) r (a .0)) (a .1) (d .clear);
+        clear = clear-cons m (p .free) r rs (in-form (p .before) r (a .placed) .time) (a .free) (d .clear);
         carried = d .carried;
       }
   continues-cons (suc (suc zero)) t k j p q e c =
       let r : Row = marked 2 t k j in
-      let a = account-some m p r e in
-      let n = cond-some (noneAt (p .left) t) (sends m p r (p .left)) (a .2) in
-      let f = sent-continues m p r (p .left) rs (n .1) c in
+      let a = passed m p r q e in
+      let n = cond-some (noneAt (p .left) t) (sends m p r (p .left)) q (a .by) in
+      let f = sent-continues m p r (p .left) rs q (n .1) c in
       record {
         accounts = f .0;
         inbound = inbound-cons m r rs (λ z. absurd (omega arith)) (c .inbound);
-        clear = clear-cons m (p .free) r rs (inPlace-form (p .before) r (a .0)) (a .1) (f .1);
+        clear = clear-cons m (p .free) r rs (in-form (p .before) r (a .placed) .time) (a .free) (f .1);
         carried = f .2;
       }
   continues-cons (suc (suc (suc n))) t k j p q e c =
       let r : Row = marked (suc (suc (suc n))) t k j in
-      let h : suc (suc (suc n)) ≤ 2 = form-limits r (inPlace-form (p .before) r (account-some m p r e .0)) .0 in
+      let h : suc (suc (suc n)) ≤ 2 = in-form (p .before) r (passed m p r q e .placed) .mark in
       absurd (omega arith)
 
 -- one row, backwards
@@ -232,6 +191,13 @@ cons-next left r l e =
     (both-true (eqb (r .time) (r .time)) (eqb (r .kind) (r .kind)) (eq-eqb (r .time) (r .time) refl) (eq-eqb (r .kind) (r .kind) refl), refl)
 
 module _ (m : Monitor) (rs : List Row) where
+  -- rows that explain what is left explain, without the first, what is left behind it
+  continues-behind : {p : Progress} (r : Row) (left : List Packet) (now : ℕ) (d : Config) → Continues m p (r ∷ rs) → heard rs ≡ left → CarriedBy m now d (sentRows rs)
+      → Continues m (behindRow m r left now d) rs
+  unfolding packets
+  continues-behind r left now d c a b =
+      record { accounts = a; inbound = λ s l. c .inbound s (List·Memᴰ·tail l); clear = clear-spaced m (packetOf r) (packets rs) .1 (c .clear .2); carried = b }
+
   account-cons : (mark t k j : ℕ) (p : Progress) (i : ℕ) → misformed (p .before) i (marked mark t k j ∷ rs) ≡ none → Continues m p (marked mark t k j ∷ rs) → Accounted m p (marked mark t k j) rs
   unfolding keeps removes adds heard sentRows packets
   account-cons zero t k j p i e c =
@@ -242,7 +208,7 @@ module _ (m : Monitor) (rs : List Row) where
         next = behindRow m r (others (p .left)) t (d .0);
         accounted = account-ready m p r rs i e (c .accounts) (c .clear .1) ∙ (cond-true (isNext (p .left) r) _ (n .0) ∙ some-sends m p r (others (p .left)) (d .0) (d .1));
         last = refl;
-        continues = record { accounts = n .1; inbound = λ s l. c .inbound s (List·Memᴰ·tail l); clear = clear-spaced m (packetOf r) (packets rs) .1 (c .clear .2); carried = d .2 };
+        continues = continues-behind r (others (p .left)) t (d .0) c (n .1) (d .2);
       }
   account-cons (suc zero) t k j p i e c =
       let r : Row = marked 1 t k j in
@@ -253,7 +219,7 @@ module _ (m : Monitor) (rs : List Row) where
             account-ready m p r rs i e (c .accounts) (c .clear .1)
             ∙ cond-true (isNext (p .left) r && toUnit m k) _ (both-true _ _ (n .0) (c .inbound r (List·Memᴰ·head refl) refl));
         last = refl;
-        continues = record { accounts = n .1; inbound = λ s l. c .inbound s (List·Memᴰ·tail l); clear = clear-spaced m (packetOf r) (packets rs) .1 (c .clear .2); carried = c .carried };
+        continues = continues-behind r (others (p .left)) (p .now) (p .config) c (n .1) (c .carried);
       }
   account-cons (suc (suc zero)) t k j p i e c =
       let r : Row = marked 2 t k j in
@@ -264,22 +230,14 @@ module _ (m : Monitor) (rs : List Row) where
         next = behindRow m r (p .left) t (d .0);
         accounted = account-ready m p r rs i e (c .accounts) (c .clear .1) ∙ (cond-true (noneAt (p .left) t) _ n ∙ some-sends m p r (p .left) (d .0) (d .1));
         last = refl;
-        continues = record { accounts = c .accounts; inbound = λ s l. c .inbound s (List·Memᴰ·tail l); clear = clear-spaced m (packetOf r) (packets rs) .1 (c .clear .2); carried = d .2 };
+        continues = continues-behind r (p .left) t (d .0) c (c .accounts) (d .2);
       }
   account-cons (suc (suc (suc n))) t k j p i e c =
       let r : Row = marked (suc (suc (suc n))) t k j in
-      let h : suc (suc (suc n)) ≤ 2 = form-limits r (inPlace-form (p .before) r (misformed-cons (p .before) i r rs e .0)) .0 in
+      let h : suc (suc (suc n)) ≤ 2 = in-form (p .before) r (misformed-cons (p .before) i r rs e .0) .mark in
       absurd (omega arith)
 
 -- all rows
-
-broken-cons : (m : Monitor) (p : Progress) (i : ℕ) (r : Row) (rs : List Row) → broken m p i (r ∷ rs) ≡ none → (q : Progress) × (account m p r ≡ some q) × (broken m q (suc i) rs ≡ none)
-unfolding broken
-broken-cons m p i r rs e = go (account m p r) refl
-  where
-    go : (o : Option Progress) → account m p r ≡ o → (q : Progress) × (account m p r ≡ some q) × (broken m q (suc i) rs ≡ none)
-    go none h = let z : _≡_ {A = ℕ} 0 1 = cc in absurd (omega arith)
-    go (some q) h = (q, h, cc)
 
 -- rows that break no rule explain what is left
 broken-continues : (m : Monitor) (p : Progress) (i : ℕ) (rows : List Row) → broken m p i rows ≡ none → Continues m p rows
@@ -290,7 +248,7 @@ broken-continues m p i [] e = record { accounts = empty (p .left) refl; inbound 
     empty [] h = sym h
     empty (q ∷ qs) h = let z : _≡_ {A = ℕ} 0 1 = cc in absurd (omega arith)
 broken-continues m p i (r ∷ rs) e =
-    let h = broken-cons m p i r rs e in
+    let h = first-row m p i r rs e in
     continues-cons m rs (r .mark) (r .time) (r .kind) (r .transition) p (h .0) (h .1) (broken-continues m (h .0) (suc i) rs (h .2))
 
 -- formed rows that explain what is left break no rule
@@ -304,24 +262,24 @@ continues-broken m p i j (r ∷ rs) e c =
 
 account-last : (m : Monitor) (p : Progress) (r : Row) {q : Progress} → account m p r ≡ some q → q .before ≡ some r
 unfolding keeps removes adds
-account-last m p r {q} e = go (eqb (r .mark) kept) (isRemoved r) (account-some m p r e .2)
+account-last m p r {q} e = go (eqb (r .mark) kept) (isRemoved r) (passed m p r q e .by)
   where
     sent-last : (left : List Packet) → sends m p r left ≡ some q → q .before ≡ some r
-    sent-last left h = ap (λ (x : Progress). x .before) (sym (sends-some m p r left h .2))
+    sent-last left h = ap (λ (x : Progress). x .before) (sym (sends-fires m p r left q h .2))
 
     go : (a b : Bool) → cond a (keeps m p r) (cond b (removes m p r) (adds m p r)) ≡ some q → q .before ≡ some r
-    go true b h = sent-last (others (p .left)) (cond-some (isNext (p .left) r) (sends m p r (others (p .left))) h .1)
-    go false true h = let same = cond-some (isNext (p .left) r && toUnit m (r .kind)) (some (removedTo m p r)) h in cc
-    go false false h = sent-last (p .left) (cond-some (noneAt (p .left) (r .time)) (sends m p r (p .left)) h .1)
+    go true b h = sent-last (others (p .left)) (cond-some (isNext (p .left) r) (sends m p r (others (p .left))) q h .1)
+    go false true h = let same = cond-some (isNext (p .left) r && toUnit m (r .kind)) (some (removedTo m p r)) q h in cc
+    go false false h = sent-last (p .left) (cond-some (noneAt (p .left) (r .time)) (sends m p r (p .left)) q h .1)
 
 -- each row's form is tested
 broken-formed : (m : Monitor) (p : Progress) (i j : ℕ) (rows : List Row) → broken m p i rows ≡ none → misformed (p .before) j rows ≡ none
 unfolding misformed
 broken-formed m p i j [] e = refl
 broken-formed m p i j (r ∷ rs) e =
-    let h = broken-cons m p i r rs e in
+    let h = first-row m p i r rs e in
     let f : misformed (some r) (suc j) rs ≡ none = subst (λ (b : Option Row). misformed b (suc j) rs ≡ none) (account-last m p r (h .1)) (broken-formed m (h .0) (suc i) (suc j) rs (h .2)) in
-    rw (account-some m p r (h .1) .0, misformed) f
+    rw (passed m p r (h .0) (h .1) .placed, misformed) f
 
 pub unbroken-formed : (m : Monitor) (recording : List Packet) (rows : List Row) → broken m (begin recording) 0 rows ≡ none → Formed rows
 unbroken-formed m recording rows e = broken-formed m (begin recording) 0 0 rows e
@@ -414,23 +372,23 @@ row-cases (r ∷ rs) p l =
     behind a true (inr h) = inr h
     behind a false (inr h) = inr (List·Memᴰ·tail h)
 
+among : (away : Bool) (p q : Packet) (part all : List Packet) → (List·Memᴰ p part → List·Memᴰ p all) → List·Memᴰ p (cond away part (q ∷ part)) → List·Memᴰ p (q ∷ all)
+among true p q part all again h = List·Memᴰ·tail (again h)
+among false p q part all again h = ⊎-elim (λ e. List·Memᴰ·head e) (λ i. List·Memᴰ·tail (again i)) (List·Memᴰ·cases-cons h)
+
 heard-row : (rows : List Row) (p : Packet) → List·Memᴰ p (heard rows) → List·Memᴰ p (packets rows)
 unfolding heard packets
 heard-row [] p l = l
-heard-row (r ∷ rs) p l = go (eqb (r .mark) added) (heard-row rs p) l
-  where
-    go : (a : Bool) → (List·Memᴰ p (heard rs) → List·Memᴰ p (packets rs)) → List·Memᴰ p (cond a (heard rs) (packetOf r ∷ heard rs)) → List·Memᴰ p (packetOf r ∷ packets rs)
-    go true again h = List·Memᴰ·tail (again h)
-    go false again h = ⊎-elim (λ e. List·Memᴰ·head e) (λ i. List·Memᴰ·tail (again i)) (List·Memᴰ·cases-cons h)
+heard-row (r ∷ rs) p l = among (eqb (r .mark) added) p (packetOf r) (heard rs) (packets rs) (heard-row rs p) l
 
 sent-row : (rows : List Row) (p : Packet) → List·Memᴰ p (packets (sentRows rows)) → List·Memᴰ p (packets rows)
 unfolding sentRows packets
 sent-row [] p l = l
-sent-row (r ∷ rs) p l = go (isRemoved r) (sent-row rs p) l
+sent-row (r ∷ rs) p l = among (isRemoved r) p (packetOf r) (packets (sentRows rs)) (packets rs) (sent-row rs p) (subst (List·Memᴰ p) (go (isRemoved r)) l)
   where
-    go : (a : Bool) → (List·Memᴰ p (packets (sentRows rs)) → List·Memᴰ p (packets rs)) → List·Memᴰ p (packets (cond a (sentRows rs) (r ∷ sentRows rs))) → List·Memᴰ p (packetOf r ∷ packets rs)
-    go true again h = List·Memᴰ·tail (again h)
-    go false again h = ⊎-elim (λ e. List·Memᴰ·head e) (λ i. List·Memᴰ·tail (again i)) (List·Memᴰ·cases-cons h)
+    go : (away : Bool) → packets (cond away (sentRows rs) (r ∷ sentRows rs)) ≡ cond away (packets (sentRows rs)) (packetOf r ∷ packets (sentRows rs))
+    go true = refl
+    go false = refl
 
 pub explains-possible : (m : Monitor) (recording : List Packet) (rows : List Row) → Explains m recording rows → Possible m recording
 explains-possible m recording rows x =

@@ -12,6 +12,7 @@ pub mod LayerLaws
 pub mod LeastLaws
 pub mod Numbering
 pub mod Capping
+pub mod RowLaws
 pub mod Explained
 pub mod Ordered
 pub mod Instants

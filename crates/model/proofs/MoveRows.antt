@@ -21,10 +21,11 @@ use Rattle.model.specs.Order.{EndsBy}
 use Rattle.model.specs.Situation.{Move, keep, rest, add, moveOf, moved, onAir, sent, missed, stepBy, tick, uncapped, firstBy, withAir, triggerOf, recordedAt}
 use Rattle.model.specs.Validation.{rowsBy, HasRows, rowsOf, keptRow, removedRow, addedRow}
 use Rattle.model.specs.declared.Situation.{Situation}
-use Rattle.model.proofs.Basics.{both-true}
+use Rattle.model.proofs.Basics.{both-true, cond-some}
 use Rattle.model.specs.Sane.{Sane, SaneRecording}
 use Rattle.model.proofs.Chains.{Moves}
 use Rattle.model.proofs.Instants.{recorded-here, recorded-later}
+use Rattle.model.proofs.RowLaws.{sends-fires, broken-next}
 
 -- the recorded rows still to come
 
@@ -155,10 +156,6 @@ module _ {A B C : Type 0} (f : A → C) (g : B → C) where
   map-cond true x y e = e
   map-cond false x y e = refl
 
-pub cond-some : {A : Type 0} (b : Bool) (x : Option A) (a : A) → cond b x none ≡ some a → (b ≡ true) × (x ≡ some a)
-cond-some true x a e = (refl, e)
-cond-some false x a e = absurd (Option·none-ne-some a e)
-
 -- the air is free at instant t + 1
 air-free : (free t : ℕ) → eqb (free - suc t) 0 ≡ leb free (suc t)
 air-free free t = go (leb free (suc t)) refl
@@ -173,16 +170,6 @@ air-free free t = go (leb free (suc t)) refl
 unfoldable pub accounts : Monitor → Progress → List Row → Option Progress
 accounts m p [] = some p
 accounts m p (r ∷ rs) = bind (account m p r) (λ q. accounts m q rs)
-
-pub sends-fires : (m : Monitor) (p : Progress) (r : Row) (left : List Packet) (q : Progress) → sends m p r left ≡ some q
-    → (c : Config) × (fires m (r .transition) (r .kind) (wait (r .time - p .now) (p .config)) ≡ some c) × (behindRow m r left (r .time) c ≡ q)
-unfolding sends
-sends-fires m p r left q e = go (fires m (r .transition) (r .kind) (wait (r .time - p .now) (p .config))) refl e
-  where
-    go : (o : Option Config) → fires m (r .transition) (r .kind) (wait (r .time - p .now) (p .config)) ≡ o → Option·map (behindRow m r left (r .time)) o ≡ some q
-        → (c : Config) × (fires m (r .transition) (r .kind) (wait (r .time - p .now) (p .config)) ≡ some c) × (behindRow m r left (r .time) c ≡ q)
-    go none f h = absurd (Option·none-ne-some q h)
-    go (some c) f h = (c, f, Option·some-injective (behindRow m r left (r .time) c) q h)
 
 module _ (m : Monitor) (t : ℕ) (p : Progress) where
   -- a packet on the air at instant t + 1
@@ -377,10 +364,6 @@ row-time m recorded t (add j) r h = added-time (triggerOf m j) h
     added-time : (o : Option ℕ) → List·Memᴰ r (addedRow t o j) → r .time ≡ t
     added-time none g = absurd (List·Memᴰ·not-nil g)
     added-time (some k) g = ap (λ x. x .time) (List·Memᴰ·eq-of-singleton g)
-
-pub broken-next : (m : Monitor) (p : Progress) (r : Row) (q : Progress) → account m p r ≡ some q → (i : ℕ) (rs : List Row) → broken m p i (r ∷ rs) ≡ broken m q (suc i) rs
-unfolding broken
-broken-next m p r q e i rs = rw (e, broken)
 
 broken-end : (m : Monitor) (p : Progress) (i : ℕ) → p .left ≡ [] → broken m p i [] ≡ none
 unfolding broken

@@ -4,12 +4,12 @@ use native.Mathlib.Omega.{arith}
 use native.Mathlib.Decide.{ℕ-discrete}
 use mathlib.Core.Path.{_≡_, refl, sym, ap, subst, _∙_}
 use mathlib.Core.List.{List, [], _∷_, _++_, List·Memᴰ, List·Memᴰ·head, Memᴰ·append-right}
-use mathlib.Core.Bool.{Bool, true, false, cond, not, _&&_, _||_, false≢true}
+use mathlib.Core.Bool.{Bool, true, false, cond, not, _&&_, false≢true}
 use mathlib.Core.Option.{Option, none, some, Option·map, bind, Option·none-ne-some, Option·some-ne-none, Option·some-injective}
 use lib.ListN.{length, getElem?}
-use lib.Dec.{leb, eqb}
+use lib.Dec.{eqb}
 use borrow.Author.Tests.{eqb-true, eqb-false, leb-true, ltb-true, eq-eqb}
-use Rattle.model.specs.Limits.{timeLimit, transitionLimit}
+use Rattle.model.specs.Limits.{transitionLimit}
 use Rattle.model.specs.Monitor.{Monitor, Config, Transition, after, wait, enabled, fires, toUnit}
 use Rattle.model.specs.Guard.{holds}
 use Rattle.model.specs.Trace.{Packet}
@@ -20,38 +20,14 @@ use Rattle.model.specs.Order.{EndsBy}
 use Rattle.model.specs.Situation.{Move, keep, rest, add, moveOf, moveLimit, uncapped, firstBy, triggerOf, recordedAt, restMove, firstAdd}
 use Rattle.model.specs.Validation.{rowsBy, HasRows, rowsOf}
 use Rattle.model.specs.declared.Situation.{Situation}
-use Rattle.model.proofs.Basics.{and-left, and-right, getElem-within}
+use Rattle.model.proofs.Basics.{and-left, and-right, cond-some, getElem-within}
 use Rattle.model.specs.Sane.{Sane, SaneRecording}
 use Rattle.model.proofs.Chains.{Moves}
 use Rattle.model.proofs.Instants.{moveOf-keep, moveOf-add}
-use Rattle.model.proofs.MoveRows.{Rising, Coming, quiet, heard, coming, Tied, tied-first, situationAt, accounts, one-row, cond-some, sends-fires, broken-next, instant}
+use Rattle.model.proofs.MoveRows.{Rising, Coming, quiet, heard, coming, Tied, tied-first, situationAt, accounts, one-row, instant}
+use Rattle.model.proofs.RowLaws.{InForm, in-form, passed, sends-fires, first-row}
 
 -- what a row that keeps the rules says
-
-four-true : (a b c d : Bool) → a && b && c && d ≡ true → (a ≡ true) × (b ≡ true) × (c ≡ true) × (d ≡ true)
-four-true a b c d e =
-    let f = and-left (a && b && c) d e in
-    let g = and-left (a && b) c f in
-    (and-left a b g, and-right a b g, and-right (a && b) c f, and-right (a && b && c) d e)
-
-record InForm (r : Row) : Type 0 where
-  mark : r .mark ≤ 2
-  time : 1 ≤ r .time
-  transition : r .mark ≡ removed → r .transition ≡ noTransition
-
-in-form : (o : Option Row) (r : Row) → inPlace o r ≡ true → InForm r
-unfolding inForm
-in-form o r e =
-    let f = four-true (leb (r .mark) 2) (leb 1 (r .time)) (leb (r .time) timeLimit) (not (isRemoved r) || eqb (r .transition) noTransition) (form o e) in
-    record {
-      mark = leb-true (r .mark) 2 (f .0);
-      time = leb-true 1 (r .time) (f .1);
-      transition = λ h. eqb-true (r .transition) noTransition (rw (eq-eqb (r .mark) removed h) at (f .3));
-    }
-  where
-    form : (x : Option Row) → inPlace x r ≡ true → inForm r ≡ true
-    form none f = f
-    form (some p) f = and-left (inForm r) (follows p r) f
 
 -- a kept or added row fires a transition with its kind
 record Sent (m : Monitor) (r : Row) (q : Progress) : Type 0 where
@@ -80,20 +56,12 @@ data Accounted (m : Monitor) (p : Progress) (r : Row) (q : Progress) : Type 0 wh
   as-removed : r .mark ≡ removed → isNext (p .left) r ≡ true → q .before ≡ some r → Accounted m p r q
   as-added : r .mark ≡ added → noneAt (p .left) (r .time) ≡ true → Sent m r q → Accounted m p r q
 
-in-turn : (m : Monitor) (p : Progress) (r : Row) (q : Progress) → account m p r ≡ some q → (inPlace (p .before) r ≡ true) × (noneBefore (p .left) (r .time) ≡ true)
-unfolding account
-in-turn m p r q e =
-    let formed : Bool = inPlace (p .before) r in
-    let turn : Bool = noneBefore (p .left) (r .time) in
-    let h = and-left (formed && turn) (leb (p .free) (r .time)) (cond-some (formed && turn && leb (p .free) (r .time)) _ q e .0) in
-    (and-left formed turn h, and-right formed turn h)
-
 accounted : (m : Monitor) (p : Progress) (r : Row) (q : Progress) → account m p r ≡ some q → Accounted m p r q
 unfolding account keeps removes adds
-accounted m p r q e = go (eqb (r .mark) kept) refl (cond-some (inPlace (p .before) r && noneBefore (p .left) (r .time) && leb (p .free) (r .time)) _ q e .1)
+accounted m p r q e = go (eqb (r .mark) kept) refl (passed m p r q e .by)
   where
     form : InForm r
-    form = in-form (p .before) r (in-turn m p r q e .0)
+    form = in-form (p .before) r (passed m p r q e .placed)
 
     not-kept : (r .mark ≡ kept → ⊥) → (b : Bool) → isRemoved r ≡ b → cond b (removes m p r) (adds m p r) ≡ some q → Accounted m p r q
     not-kept n true f h =
@@ -112,15 +80,6 @@ accounted m p r q e = go (eqb (r .mark) kept) refl (cond-some (inPlace (p .befor
 
 -- rows that break no rule
 
-first-row : (m : Monitor) (p : Progress) (i : ℕ) (r : Row) (rs : List Row) → broken m p i (r ∷ rs) ≡ none
-    → (q : Progress) × (account m p r ≡ some q) × (broken m q (suc i) rs ≡ none)
-unfolding broken
-first-row m p i r rs e = go (account m p r) refl
-  where
-    go : (o : Option Progress) → account m p r ≡ o → (q : Progress) × (account m p r ≡ some q) × (broken m q (suc i) rs ≡ none)
-    go none f = absurd (Option·some-ne-none i (rw (f, broken) at e))
-    go (some q) f = (q, f, sym (broken-next m p r q f i rs) ∙ e)
-
 no-rows : (m : Monitor) (p : Progress) (i : ℕ) → broken m p i [] ≡ none → p .left ≡ []
 unfolding broken
 no-rows m p i e = go (p .left) e
@@ -138,7 +97,7 @@ starts-after : (m : Monitor) (q : Progress) (r : Row) (i : ℕ) (rs : List Row) 
 starts-after m q r i [] b e = tt
 starts-after m q r i (s ∷ rs) b e =
     let x = first-row m q i s rs e in
-    ltb-true (r .time) (s .time) (and-right (inForm s) (follows r s) (subst (λ o. inPlace o s ≡ true) b (in-turn m q s (x .0) (x .1) .0)))
+    ltb-true (r .time) (s .time) (and-right (inForm s) (follows r s) (subst (λ o. inPlace o s ≡ true) b (passed m q s (x .0) (x .1) .placed)))
 
 trigger-number : (m : Monitor) → Sane m → (j k : ℕ) → triggerOf m j ≡ some k → j < transitionLimit
 trigger-number m table j k e = go (getElem? (m .transitions) j) refl e
@@ -226,7 +185,7 @@ module _ (m : Monitor) (recording : List Packet) (table : Sane m) (t : ℕ) (p :
       (subst (λ x. StartsAfter x rs) f (starts-after m q r i rs b u))
     where
       same : marked removed (suc t) k noTransition ≡ r
-      same = as-marked r removed (suc t) k noTransition h f g (in-form (p .before) r (in-turn m p r q c .0) .transition h)
+      same = as-marked r removed (suc t) k noTransition h f g (in-form (p .before) r (passed m p r q c .placed) .transition h)
 
   -- the kind of the next recorded row
   next-kind : (r : Row) (k : ℕ) (l : List Packet) → p .left ≡ record { time = suc t; kind = k } ∷ l → isNext (p .left) r ≡ true → r .kind ≡ k
@@ -258,7 +217,7 @@ module _ (m : Monitor) (recording : List Packet) (table : Sane m) (t : ℕ) (p :
       go (no n) (quiet e b) = silent (r ∷ rs) i e u (omega arith)
       go (no n) (heard k l e f b) =
           absurd
-          (let g : r .time ≤ suc t = leb-true (r .time) (suc t) (subst (λ y. noneBefore y (r .time) ≡ true) f (in-turn m p r (first .0) (first .1) .1)) in
+          (let g : r .time ≤ suc t = leb-true (r .time) (suc t) (subst (λ y. noneBefore y (r .time) ≡ true) f (passed m p r (first .0) (first .1) .turn)) in
           omega arith)
 
 module _ (m : Monitor) (recording : List Packet) (table : Sane m) (sane : SaneRecording m recording) where
@@ -289,4 +248,4 @@ permitted-moves m recording table sane rows u ends =
   where
     go : (l : List Row) → broken m (begin recording) 0 l ≡ none → StartsAfter 0 l
     go [] h = tt
-    go (r ∷ l) h = let x = first-row m (begin recording) 0 r l h in in-form none r (in-turn m (begin recording) r (x .0) (x .1) .0) .time
+    go (r ∷ l) h = let x = first-row m (begin recording) 0 r l h in in-form none r (passed m (begin recording) r (x .0) (x .1) .placed) .time

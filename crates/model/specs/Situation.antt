@@ -39,7 +39,8 @@ pub data Move : Type 0 where
   rest : Move
   add : ℕ → Move
 
--- a packet of kind k on the air, which brings the monitor to a configuration, if to any: it finds the air free, and of airtime a it leaves a taken after the tick
+-- a packet of kind k goes on the air where that is free, and of airtime a leaves a taken after the tick; o is where the monitor then is, none if the packet
+-- cannot be there
 abbrev pub onAir : Monitor → ℕ → Situation → Option Config → Option Situation
 onAir m k s o = cond (eqb (s .air) 0) (Option·map (λ c. withAir c (airtime m k + 1)) o) none
 

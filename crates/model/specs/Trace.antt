@@ -42,7 +42,7 @@ pub record Together (m : Monitor) (recording tr : List Packet) : Type 0 where
   pub spaced : PacketTrace m all
   pub entries : (p : Packet) → List·Memᴰ p all ↔ (List·Memᴰ p recording ⊎ List·Memᴰ p tr)
 
--- some packet trace, of any length and at any positive times, is a mutation of the recording, on one air with it, and satisfies the monitor
+-- some packet trace, of any length and at any positive times, is a mutation of the recording, is a packet trace together with it, and satisfies the monitor
 pub record Possible (m : Monitor) (recording : List Packet) : Type 0 where
   pub trace : List Packet
   pub spaced : PacketTrace m trace
