@@ -11,12 +11,15 @@ pub struct Narrowed {
     /// Of ACK in the small monitor; the paper's is 0.
     pub ack_airtime: u8,
     pub rows: &'static [(u16, u8)],
-    /// With which it was accepted before R-3.
+    /// The answer before R-3, with this witness.
+    pub before: Answer,
     pub witness: &'static [u8],
-    pub answer: Answer,
-    /// What the checker says of that witness.
-    pub check: Answer,
+    pub now: Answer,
 }
+
+/// What the checker says of each of these witnesses: the second row stands where the first has the
+/// air.
+pub const CHECKED: Answer = Answer::new(43, 1, 0);
 
 impl Narrowed {
     pub fn table(&self) -> Vec<u8> {
@@ -35,26 +38,26 @@ pub const NARROWED: &[Narrowed] = &[
     Narrowed {
         ack_airtime: 0,
         rows: &[(1, ACK), (5, RETRY)],
+        before: Answer::new(0, 18, 3),
         witness: &[0, 18, 1, 0, 3, 1, 0, 1, 2, 255, 2, 0, 1, 0, 0, 0, 0, 5, 1, 2],
-        answer: Answer::new(1, 12, 5),
-        check: Answer::new(43, 1, 0),
+        now: Answer::new(1, 12, 5),
     },
     // Accepted before R-3: removed ACK at 1, added DATA at 2 by 0, kept RETRY at 6 by 2. DATA can
     // be at 1 or 2, and now ACK has both.
     Narrowed {
         ack_airtime: 1,
         rows: &[(1, ACK), (6, RETRY)],
+        before: Answer::new(0, 30, 3),
         witness: &[0, 18, 1, 0, 3, 1, 0, 1, 2, 255, 2, 0, 2, 0, 0, 0, 0, 6, 1, 2],
-        answer: Answer::new(1, 13, 6),
-        check: Answer::new(43, 1, 0),
+        now: Answer::new(1, 13, 6),
     },
     // Accepted before R-3: added DATA at 1 by 0, removed ACK at 2, kept RETRY at 5 by 2. DATA at 1
     // is still on the air at 2, where ACK was heard.
     Narrowed {
         ack_airtime: 0,
         rows: &[(2, ACK), (5, RETRY)],
+        before: Answer::new(0, 18, 3),
         witness: &[0, 18, 1, 0, 3, 2, 0, 1, 0, 0, 1, 0, 2, 2, 255, 0, 0, 5, 1, 2],
-        answer: Answer::new(1, 9, 5),
-        check: Answer::new(43, 1, 0),
+        now: Answer::new(1, 9, 5),
     },
 ];

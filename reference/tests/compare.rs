@@ -183,12 +183,15 @@ fn checker() {
 
 #[test]
 fn air_of_removed_packets() {
-    for (name, engine) in [("rules before R-3", BEFORE), ("R-3 half made", NEEDS_NO_AIR)] {
+    let rules = [
+        ("rules before R-3", BEFORE),
+        ("a removed packet needs no air", NEEDS_NO_AIR),
+        ("a removed packet takes no air", TAKES_NO_AIR),
+    ];
+    for (name, engine) in rules {
         finds_validate(name, engine.validate);
         finds(name, Engine { check: engine.check, ..ORDINARY });
     }
-    finds_validate("R-3 half made", TAKES_NO_AIR.validate);
-    finds("R-3 half made", Engine { check: TAKES_NO_AIR.check, ..ORDINARY });
     let rewrite_witness = BEFORE.rewrite_witness;
     finds("two rows at one time", Engine { rewrite_witness, ..ORDINARY });
 }

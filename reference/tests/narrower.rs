@@ -11,7 +11,7 @@ use lutarosa_reference::answer::Answer;
 use lutarosa_reference::brute::{first_dead_instant, works};
 use lutarosa_reference::call::{Call, Engine, Outcome, ORDINARY};
 use lutarosa_reference::cases::cases;
-use lutarosa_reference::narrowed::NARROWED;
+use lutarosa_reference::narrowed::{CHECKED, NARROWED};
 use lutarosa_reference::recording::read;
 use lutarosa_reference::witness::{read_rows, REMOVED};
 
@@ -146,8 +146,7 @@ fn preferred_witnesses_have_at_most_a_row_an_instant() {
 
 #[test]
 fn recordings_accepted_before_and_rejected_now() {
-    let costs_before = [18, 30, 18];
-    for (it, cost) in NARROWED.iter().zip(costs_before) {
+    for it in NARROWED {
         let (table, recording) = (it.table(), it.recording());
         let validation = Call::Validate {
             table: table.clone(),
@@ -157,15 +156,14 @@ fn recordings_accepted_before_and_rejected_now() {
             room: vec![0; 45],
         };
         let (parts, heard) = read(&table, &recording).expect("sound");
-        assert_eq!(first_dead_instant(&parts, &heard), Some(it.answer.third));
-        assert_eq!(works(&parts, &heard).iter().sum::<u64>(), it.answer.second);
+        assert_eq!(first_dead_instant(&parts, &heard), Some(it.now.third));
+        assert_eq!(works(&parts, &heard).iter().sum::<u64>(), it.now.second);
         let check = Call::Check { table, recording, witness: it.witness.to_vec() };
         let now = validation.run(&ORDINARY);
-        assert_eq!((now.answer, now.room), (it.answer, vec![0; 45]));
-        assert_eq!(check.run(&ORDINARY).answer, it.check);
+        assert_eq!((now.answer, now.room), (it.now, vec![0; 45]));
+        assert_eq!(check.run(&ORDINARY).answer, CHECKED);
         let before = validation.run(&BEFORE);
-        assert_eq!(before.answer, Answer::new(0, cost, 3));
-        assert_eq!(&before.room[..20], it.witness);
+        assert_eq!((before.answer, &before.room[..20]), (it.before, it.witness));
         assert_eq!(check.run(&BEFORE).answer, Answer::new(0, 2, 3));
     }
 }

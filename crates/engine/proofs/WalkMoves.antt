@@ -1,54 +1,31 @@
 -- The rows of a move by its number, and the kind of an added row.
 use Prim.Native.Nat.{ℕ, _+_, _-_, _<_}
-use native.Mathlib.Omega.{arith}
 use mathlib.Core.Path.{_≡_, refl, ap, subst, _∙_}
 use mathlib.Core.List.{List, [], _∷_}
 use mathlib.Core.Option.{Option, none, some, Option·map, Option·none-ne-some, Option·some-injective}
 use lib.ListN.{getD, getElem?}
-use borrow.Author.Tests.{lt-ltb, le-ltb, eq-eqb, ne-eqb}
 use Rattle.model.specs.Bytes.{byteAt}
 use Rattle.model.specs.Monitor.{Monitor, Transition}
 use Rattle.model.specs.Trace.{Packet}
 use Rattle.model.specs.Table.{monitorAt}
-use Rattle.model.specs.Situation.{keep, rest, add, moveOf, stepBy, stepNumber, recordedAt, triggerOf, number, capped, situationOf, restMove, firstAdd}
-use Rattle.model.specs.Validation.{keptRow, removedRow, addedRow, rowsBy, HasRows}
+use Rattle.model.specs.Situation.{add, moveOf, stepBy, stepNumber, recordedAt, triggerOf, number, capped, situationOf, restMove, firstAdd}
+use Rattle.model.specs.Validation.{rowFor, rowsBy, HasRows}
 use Rattle.model.specs.Witness.{kept, removed, added, noTransition, marked}
 use Rattle.model.specs.declared.Situation.{Situation}
+use Rattle.model.proofs.Instants.{moveOf-keep, move-rest, move-add}
 use Rattle.model.proofs.MoveRows.{fits-step}
-use Rattle.engine.specs.WalkRows.{Triggers, heardRow}
-
--- moves by their numbers
-
-move-keep : (k : ℕ) → k < restMove → moveOf k ≡ keep k
-unfolding moveOf
-move-keep k h = simp (lt-ltb k restMove h)
-
-move-rest : (k : ℕ) → k ≡ restMove → moveOf k ≡ rest
-unfolding moveOf
-move-rest k e = simp (le-ltb k restMove (omega arith), eq-eqb k restMove e)
-
-move-add : (k : ℕ) → restMove < k → moveOf k ≡ add (k - firstAdd)
-unfolding moveOf
-move-add k h = simp (le-ltb k restMove (omega arith), ne-eqb k restMove (omega arith))
-
-kept-row : (t : ℕ) (o : Option ℕ) (j : ℕ) → keptRow t o j ≡ heardRow kept t o j
-kept-row t none j = refl
-kept-row t (some k) j = refl
-
-removed-row : (t : ℕ) (o : Option ℕ) → removedRow t o ≡ heardRow removed t o noTransition
-removed-row t none = refl
-removed-row t (some k) = refl
+use Rattle.engine.specs.WalkRows.{Triggers}
 
 module _ (m : Monitor) (o : Option ℕ) (t k : ℕ) where
-  pub rows-keep : k < restMove → rowsBy m o t (moveOf k) ≡ heardRow kept t o k
+  pub rows-keep : k < restMove → rowsBy m o t (moveOf k) ≡ rowFor kept t o k
   unfolding rowsBy
-  rows-keep h = ap (rowsBy m o t) (move-keep k h) ∙ kept-row t o k
+  rows-keep h = ap (rowsBy m o t) (moveOf-keep k h)
 
-  pub rows-rest : k ≡ restMove → rowsBy m o t (moveOf k) ≡ heardRow removed t o noTransition
+  pub rows-rest : k ≡ restMove → rowsBy m o t (moveOf k) ≡ rowFor removed t o noTransition
   unfolding rowsBy
-  rows-rest e = ap (rowsBy m o t) (move-rest k e) ∙ removed-row t o
+  rows-rest e = ap (rowsBy m o t) (move-rest k e)
 
-  pub rows-add : restMove < k → rowsBy m o t (moveOf k) ≡ addedRow t (triggerOf m (k - firstAdd)) (k - firstAdd)
+  pub rows-add : restMove < k → rowsBy m o t (moveOf k) ≡ rowFor added t (triggerOf m (k - firstAdd)) (k - firstAdd)
   unfolding rowsBy
   rows-add h = ap (rowsBy m o t) (move-add k h)
 
@@ -68,14 +45,11 @@ trigger-byte table offsets found j a e = on (getElem? (monitorAt table .transiti
     on none p q = absurd (Option·none-ne-some a q)
     on (some t) p q = found .trigger j t p ∙ Option·some-injective (t .trigger) a q
 
-pub heard-one : (mark t j k : ℕ) (o : Option ℕ) → o ≡ some k → heardRow mark t o j ≡ marked mark t k j ∷ []
-heard-one mark t j k o e = ap (λ (p : Option ℕ). heardRow mark t p j) e
+pub row-for-one : (mark t j k : ℕ) (o : Option ℕ) → o ≡ some k → rowFor mark t o j ≡ marked mark t k j ∷ []
+row-for-one mark t j k o e = ap (λ (p : Option ℕ). rowFor mark t p j) e
 
-pub heard-none : (mark t j : ℕ) (o : Option ℕ) → o ≡ none → heardRow mark t o j ≡ []
-heard-none mark t j o e = ap (λ (p : Option ℕ). heardRow mark t p j) e
-
-pub added-one : (t j a : ℕ) (o : Option ℕ) → o ≡ some a → addedRow t o j ≡ marked added t a j ∷ []
-added-one t j a o e = ap (λ (p : Option ℕ). addedRow t p j) e
+pub row-for-none : (mark t j : ℕ) (o : Option ℕ) → o ≡ none → rowFor mark t o j ≡ []
+row-for-none mark t j o e = ap (λ (p : Option ℕ). rowFor mark t p j) e
 
 pub fits-number : (m : Monitor) (recording : List Packet) (t n k x : ℕ) → stepNumber m recording t n k ≡ some x → HasRows m (recordedAt recording t) (moveOf k)
 unfolding stepNumber

@@ -1,9 +1,9 @@
 -- The rows of a walk along the least moves, and what it writes of them.
 use Prim.Native.Nat.{ℕ, _+_, _-_, _*_, _≤_}
 use mathlib.Core.Path.{_≡_}
-use mathlib.Core.List.{List, [], _∷_, _++_}
+use mathlib.Core.List.{List, _++_}
 use mathlib.Core.Bool.{true, false}
-use mathlib.Core.Option.{Option, none, some}
+use mathlib.Core.Option.{some}
 use lib.ListN.{length, getD, getElem?}
 use Rattle.model.specs.Size
 use Rattle.model.specs.Bytes.{byteAt}
@@ -12,7 +12,7 @@ use Rattle.model.specs.Table.{monitorAt}
 use Rattle.model.specs.Recording.{packetsAt}
 use Rattle.model.specs.Situation.{moveLimit, stepNumber}
 use Rattle.model.specs.Validation.{possibleAfter, rowsOf}
-use Rattle.model.specs.Witness.{Row, rowsBytes, marked}
+use Rattle.model.specs.Witness.{Row, rowsBytes}
 use Rattle.model.specs.Layers.{alive, leastFrom}
 use Rattle.wire.specs.Placed.{placed}
 use Rattle.situation.specs.Rows.{Cursor}
@@ -38,11 +38,6 @@ pub record RowsPut (rows : List Row) (r next : ℕ) (before after : List ℕ) : 
 -- so many rows have a place in the room from row r on
 abbrev pub Room : (rows : List Row) → (r : ℕ) → List ℕ → Type 0
 Room rows r room = 5 + 5 * (r + length rows) ≤ length room
-
--- a row for what is recorded, if anything is
-abbrev pub heardRow : (mark t : ℕ) → Option ℕ → (transition : ℕ) → List Row
-heardRow mark t none j = []
-heardRow mark t (some k) j = marked mark t k j ∷ []
 
 -- the walk stands after instant t at number n, from which the end, last, can be reached, and j rows are recorded up to t
 pub record Stands (table recording : List ℕ) (last t n j : ℕ) : Type 0 where

@@ -33,13 +33,13 @@ ghost use Rattle.model.specs.Recording.{packetsAt};
 ghost use Rattle.model.specs.Situation.{triggerOf, moveLimit, moveOf};
 ghost use Rattle.model.specs.Layers.{count};
 ghost use Rattle.model.specs.Room.{over};
-ghost use Rattle.model.specs.Validation.{addedRow, rowsBy, HasRows, possibleAfter, preferred};
-ghost use Rattle.model.specs.Witness.{witnessBytes};
+ghost use Rattle.model.specs.Validation.{rowFor, rowsBy, HasRows, possibleAfter, preferred};
+ghost use Rattle.model.specs.Witness.{added, witnessBytes};
 ghost use Rattle.wire.specs.Placed.{placed};
 ghost use Rattle.witness.specs.Rows.{rowOf};
 ghost use Rattle.situation.specs.Rows.{heardOf};
 ghost use Rattle.layers.specs.Advance.{stepAt, leastInto};
-ghost use Rattle.engine.specs.WalkRows.{Triggers, Ground, RowsPut, Room, heardRow, Stands, rowsAfter, WalkedOn};
+ghost use Rattle.engine.specs.WalkRows.{Triggers, Ground, RowsPut, Room, Stands, rowsAfter, WalkedOn};
 
 // A least move, and the number that it leads to.
 struct Least {
@@ -66,8 +66,8 @@ fn put_row(room: &mut [u8], r: usize, row: Entry) -> usize
 
 // A kept or a removed row, if a row is recorded.
 fn put_heard(room: &mut [u8], r: usize, mark: u8, t: u16, heard: Heard, transition: u8) -> usize
-    requires { ⌜ Room (heardRow mark t (heardOf heard) transition) r (now room) ⌝ }
-    ensures { λ n. ⌜ RowsPut (heardRow mark t (heardOf heard) transition) r n (now (room .entry)) (now (room .exit)) ⌝ }
+    requires { ⌜ Room (rowFor mark t (heardOf heard) transition) r (now room) ⌝ }
+    ensures { λ n. ⌜ RowsPut (rowFor mark t (heardOf heard) transition) r n (now (room .entry)) (now (room .exit)) ⌝ }
 {
     match heard {
         Heard::Kind(kind) => put_row(
@@ -93,8 +93,8 @@ fn put_added<'a>(
     t: u16,
     j: usize,
 ) -> usize
-    requires { ⌜ Triggers (now table) (now offsets) × (j < 256) × ((a : ℕ) × (triggerOf (monitorAt (now table)) j ≡ some a)) × Room (addedRow t (triggerOf (monitorAt (now table)) j) j) r (now room) ⌝ }
-    ensures { λ n. ⌜ RowsPut (addedRow t (triggerOf (monitorAt (now (table .entry))) j) j) r n (now (room .entry)) (now (room .exit)) ⌝ }
+    requires { ⌜ Triggers (now table) (now offsets) × (j < 256) × ((a : ℕ) × (triggerOf (monitorAt (now table)) j ≡ some a)) × Room (rowFor added t (triggerOf (monitorAt (now table)) j) j) r (now room) ⌝ }
+    ensures { λ n. ⌜ RowsPut (rowFor added t (triggerOf (monitorAt (now (table .entry))) j) j) r n (now (room .entry)) (now (room .exit)) ⌝ }
 {
     let kind = byte(table, short(offsets, j) as usize + 2);
     put_row(

@@ -1,20 +1,21 @@
--- Demand 2 in the paper's words: a formed witness breaks no rule exactly when it explains the recording, and what explains it makes it possible.
-use Prim.Native.Nat.{ℕ, zero, suc, _+_, _-_, _≤_}
+-- Demand 2 in the paper's words: a formed witness breaks no rule exactly when it explains the recording.
+use Prim.Native.Nat.{ℕ, zero, suc, _-_, _≤_}
 use native.Mathlib.Omega.{arith}
 use mathlib.Core.Path.{_≡_, refl, sym, ap, subst, _∙_}
 use mathlib.Core.List.{List, [], _∷_, List·Memᴰ, List·Memᴰ·head, List·Memᴰ·tail, List·Memᴰ·cases-cons, List·Memᴰ·not-nil}
 use mathlib.Core.Bool.{Bool, true, false, cond, not, _&&_, false≢true}
 use mathlib.Core.Option.{Option, none, some}
-use mathlib.Core.Logic.{_↔_, _⊎_, inl, inr, ⊎-elim}
+use mathlib.Core.Logic.{_↔_, _⊎_, ⊎-elim}
 use lib.Dec.{leb, eqb}
 use borrow.Author.Tests.{ltb-true, leb-true, eqb-true, le-leb, eq-eqb, ne-eqb}
-use Rattle.model.specs.Monitor.{Monitor, Config, start, wait, fires, toUnit, airtime}
-use Rattle.model.specs.Trace.{Packet, Spaced, PacketTrace, Carries, Possible}
+use Rattle.model.specs.Monitor.{Monitor, Config, wait, fires, toUnit}
+use Rattle.model.specs.Trace.{Packet, PacketTrace}
 use Rattle.model.specs.Witness.{Row, kept, removed, added, isRemoved, inForm, follows, inPlace, misformed, Formed, marked}
 use Rattle.model.specs.Rules.{Progress, begin, noneBefore, isNext, noneAt, others, behindRow, sends, removes, keeps, adds, account, broken}
 use Rattle.model.specs.Claims.{packetOf, heard, sentRows, packets, CarriedBy, Explains}
 use Rattle.model.proofs.Basics.{and-left, and-right, both-true, cond-some}
 use Rattle.model.proofs.RowLaws.{in-form, byMark, passed, sends-fires, first-row}
+use Rattle.model.proofs.Spacing.{freeAfter, TraceFrom, trace-from, from-earlier, spaced-from}
 
 -- tests and options
 
@@ -72,34 +73,16 @@ next-cons (p ∷ ps) r e =
     let k : p .kind ≡ r .kind = eqb-true (p .kind) (r .kind) (and-right (eqb (p .time) (r .time)) (eqb (p .kind) (r .kind)) e) in
     λ i. record { time = t i; kind = k i } ∷ ps
 
--- the packets are spaced, and the first is not before the time free
-abbrev Clear : Monitor → ℕ → List Packet → Type 0
-Clear m free [] = Unit {0}
-Clear m free (q ∷ qs) = (1 ≤ q .time) × (free ≤ q .time) × Spaced m q qs
-
-clear-trace : (m : Monitor) (qs : List Packet) → Clear m 0 qs ↔ PacketTrace m qs
-clear-trace m [] = (λ c. tt, λ c. tt)
-clear-trace m (q ∷ qs) = (λ c. (c .0, c .2), λ c. (c .0, omega arith, c .1))
-
-clear-spaced : (m : Monitor) (p : Packet) (qs : List Packet) → Clear m (p .time + airtime m (p .kind) + 1) qs ↔ Spaced m p qs
-clear-spaced m p [] = (λ c. tt, λ c. tt)
-clear-spaced m p (q ∷ qs) = (λ c. (omega arith, c .2), λ c. (omega arith, omega arith, c .1))
-
 -- the rows explain what is left behind p
 record Continues (m : Monitor) (p : Progress) (rows : List Row) : Type 0 where
   accounts : heard rows ≡ p .left
   inbound : (r : Row) → List·Memᴰ r rows → r .mark ≡ removed → toUnit m (r .kind) ≡ true
-  clear : Clear m (p .free) (packets rows)
+  clear : TraceFrom m (p .free) (packets rows)
   carried : CarriedBy m (p .now) (p .config) (sentRows rows)
-
--- a row on the air and what is behind it
-clear-cons : (m : Monitor) (free : ℕ) (r : Row) (rs : List Row) → 1 ≤ r .time → free ≤ r .time
-    → Clear m (r .time + airtime m (r .kind) + 1) (packets rs) → Clear m free (packetOf r ∷ packets rs)
-clear-cons m free r rs f h c = (f, h, clear-spaced m (packetOf r) (packets rs) .0 c)
 
 module _ (m : Monitor) (p : Progress) (r : Row) (left : List Packet) where
   sent-continues : (rs : List Row) (q : Progress) → sends m p r left ≡ some q → Continues m q rs
-      → (heard rs ≡ left) × Clear m (r .time + airtime m (r .kind) + 1) (packets rs) × CarriedBy m (p .now) (p .config) (r ∷ sentRows rs)
+      → (heard rs ≡ left) × TraceFrom m (freeAfter m (packetOf r)) (packets rs) × CarriedBy m (p .now) (p .config) (r ∷ sentRows rs)
   sent-continues rs q e c =
       let g = sends-fires m p r left q e in
       let d : Continues m (behindRow m r left (r .time) (g .0)) rs = subst (λ x. Continues m x rs) (sym (g .2)) c in
@@ -134,7 +117,7 @@ module _ (m : Monitor) (rs : List Row) where
       record {
         accounts = ap (λ (l : List Packet). packetOf r ∷ l) (f .0) ∙ sym (next-cons (p .left) r (n .0));
         inbound = inbound-cons m r rs (λ z. absurd (omega arith)) (c .inbound);
-        clear = clear-cons m (p .free) r rs (in-form (p .before) r (a .placed) .time) (a .free) (f .1);
+        clear = (a .free, spaced-from m (packetOf r) (packets rs) .1 (f .1));
         carried = f .2;
       }
   continues-cons (suc zero) t k j p q e c =
@@ -146,7 +129,7 @@ module _ (m : Monitor) (rs : List Row) where
       record {
         accounts = ap (λ (l : List Packet). packetOf r ∷ l) (d .accounts) ∙ sym (next-cons (p .left) r (and-left _ _ (n .0)));
         inbound = inbound-cons m r rs (λ z. and-right (isNext (p .left) r) (toUnit m k) (n .0)) (d .inbound);
-        clear = clear-cons m (p .free) r rs (in-form (p .before) r (a .placed) .time) (a .free) (d .clear);
+        clear = (a .free, spaced-from m (packetOf r) (packets rs) .1 (d .clear));
         carried = d .carried;
       }
   continues-cons (suc (suc zero)) t k j p q e c =
@@ -157,7 +140,7 @@ module _ (m : Monitor) (rs : List Row) where
       record {
         accounts = f .0;
         inbound = inbound-cons m r rs (λ z. absurd (omega arith)) (c .inbound);
-        clear = clear-cons m (p .free) r rs (in-form (p .before) r (a .placed) .time) (a .free) (f .1);
+        clear = (a .free, spaced-from m (packetOf r) (packets rs) .1 (f .1));
         carried = f .2;
       }
   continues-cons (suc (suc (suc n))) t k j p q e c =
@@ -196,7 +179,7 @@ module _ (m : Monitor) (rs : List Row) where
       → Continues m (behindRow m r left now d) rs
   unfolding packets
   continues-behind r left now d c a b =
-      record { accounts = a; inbound = λ s l. c .inbound s (List·Memᴰ·tail l); clear = clear-spaced m (packetOf r) (packets rs) .1 (c .clear .2); carried = b }
+      record { accounts = a; inbound = λ s l. c .inbound s (List·Memᴰ·tail l); clear = spaced-from m (packetOf r) (packets rs) .0 (c .clear .1); carried = b }
 
   account-cons : (mark t k j : ℕ) (p : Progress) (i : ℕ) → misformed (p .before) i (marked mark t k j ∷ rs) ≡ none → Continues m p (marked mark t k j ∷ rs) → Accounted m p (marked mark t k j) rs
   unfolding keeps removes adds heard sentRows packets
@@ -206,7 +189,7 @@ module _ (m : Monitor) (rs : List Row) where
       let d = c .carried in
       record {
         next = behindRow m r (others (p .left)) t (d .0);
-        accounted = account-ready m p r rs i e (c .accounts) (c .clear .1) ∙ (cond-true (isNext (p .left) r) _ (n .0) ∙ some-sends m p r (others (p .left)) (d .0) (d .1));
+        accounted = account-ready m p r rs i e (c .accounts) (c .clear .0) ∙ (cond-true (isNext (p .left) r) _ (n .0) ∙ some-sends m p r (others (p .left)) (d .0) (d .1));
         last = refl;
         continues = continues-behind r (others (p .left)) t (d .0) c (n .1) (d .2);
       }
@@ -216,7 +199,7 @@ module _ (m : Monitor) (rs : List Row) where
       record {
         next = removedTo m p r;
         accounted =
-            account-ready m p r rs i e (c .accounts) (c .clear .1)
+            account-ready m p r rs i e (c .accounts) (c .clear .0)
             ∙ cond-true (isNext (p .left) r && toUnit m k) _ (both-true _ _ (n .0) (c .inbound r (List·Memᴰ·head refl) refl));
         last = refl;
         continues = continues-behind r (others (p .left)) (p .now) (p .config) c (n .1) (c .carried);
@@ -228,7 +211,7 @@ module _ (m : Monitor) (rs : List Row) where
       let n : noneAt (p .left) t ≡ true = subst (λ (l : List Packet). noneAt l t ≡ true) (c .accounts) (none-at (heard rs) t (heard-from (suc t) (some r) (suc i) rs f (from-past r (suc i) rs f))) in
       record {
         next = behindRow m r (p .left) t (d .0);
-        accounted = account-ready m p r rs i e (c .accounts) (c .clear .1) ∙ (cond-true (noneAt (p .left) t) _ n ∙ some-sends m p r (p .left) (d .0) (d .1));
+        accounted = account-ready m p r rs i e (c .accounts) (c .clear .0) ∙ (cond-true (noneAt (p .left) t) _ n ∙ some-sends m p r (p .left) (d .0) (d .1));
         last = refl;
         continues = continues-behind r (p .left) t (d .0) c (c .accounts) (d .2);
       }
@@ -285,128 +268,20 @@ pub unbroken-formed : (m : Monitor) (recording : List Packet) (rows : List Row) 
 unbroken-formed m recording rows e = broken-formed m (begin recording) 0 0 rows e
 
 pub explained : (m : Monitor) (recording : List Packet) (rows : List Row) → Formed rows → (broken m (begin recording) 0 rows ≡ none) ↔ Explains m recording rows
+unfolding packets
 explained m recording rows f = (onto, from)
   where
+    -- times are from 1 up by the form
+    formed-trace : (l : List Row) → Formed l → TraceFrom m 0 (packets l) → PacketTrace m (packets l)
+    formed-trace [] h x = tt
+    formed-trace (r ∷ rs) h x = (in-form none r (misformed-cons none 0 r rs h .0) .time, x .1)
+
     onto : broken m (begin recording) 0 rows ≡ none → Explains m recording rows
     onto e =
         let c = broken-continues m (begin recording) 0 rows e in
-        record { accounts = c .accounts; inbound = c .inbound; spaced = clear-trace m (packets rows) .0 (c .clear); carried = c .carried }
+        record { accounts = c .accounts; inbound = c .inbound; spaced = formed-trace rows f (c .clear); carried = c .carried }
 
     from : Explains m recording rows → broken m (begin recording) 0 rows ≡ none
     from x =
         continues-broken m (begin recording) 0 0 rows f
-        (record { accounts = x .accounts; inbound = x .inbound; clear = clear-trace m (packets rows) .1 (x .spaced); carried = x .carried })
-
--- what explains the recording makes it possible
-
-carried-carries : (m : Monitor) (now : ℕ) (c : Config) (rows : List Row) → CarriedBy m now c rows → Carries m now c (packets rows)
-unfolding packets
-carried-carries m now c [] h = tt
-carried-carries m now c (r ∷ rs) h = (r .transition, h .0, h .1, carried-carries m (r .time) (h .0) rs (h .2))
-
--- a recorded packet is sent, or its row is removed
-abbrev SentOrRemoved : Packet → List Row → Type 0
-SentOrRemoved p rows = List·Memᴰ p (packets (sentRows rows)) ⊎ ((r : Row) × List·Memᴰ r rows × (r .mark ≡ removed) × (r .kind ≡ p .kind))
-
-heard-cases : (rows : List Row) (p : Packet) → List·Memᴰ p (heard rows) → SentOrRemoved p rows
-unfolding heard sentRows packets
-heard-cases [] p l = absurd (List·Memᴰ·not-nil l)
-heard-cases (r ∷ rs) p l = ⊎-elim (here (isRemoved r) refl) (λ h. behind (isRemoved r) (heard-cases rs p h)) (where-heard (eqb (r .mark) added) l)
-  where
-    where-heard : (t : Bool) → List·Memᴰ p (cond t (heard rs) (packetOf r ∷ heard rs)) → (p ≡ packetOf r) ⊎ List·Memᴰ p (heard rs)
-    where-heard true h = inr h
-    where-heard false h = List·Memᴰ·cases-cons h
-
-    after : Bool → Type 0
-    after t = List·Memᴰ p (packets (cond t (sentRows rs) (r ∷ sentRows rs))) ⊎ ((s : Row) × List·Memᴰ s (r ∷ rs) × (s .mark ≡ removed) × (s .kind ≡ p .kind))
-
-    here : (t : Bool) → isRemoved r ≡ t → p ≡ packetOf r → after t
-    here true e h = inr (r, List·Memᴰ·head refl, eqb-true (r .mark) removed e, ap (λ (q : Packet). q .kind) (sym h))
-    here false e h = inl (List·Memᴰ·head h)
-
-    behind : (t : Bool) → SentOrRemoved p rs → after t
-    behind true (inl h) = inl h
-    behind false (inl h) = inl (List·Memᴰ·tail h)
-    behind t (inr h) = inr (h .0, List·Memᴰ·tail (h .1), h .2, h .3)
-
--- the kept and added rows alone are a packet trace too
-
-clear-down : (m : Monitor) (u v : ℕ) (qs : List Packet) → u ≤ v → Clear m v qs → Clear m u qs
-clear-down m u v [] h c = tt
-clear-down m u v (q ∷ qs) h c = (c .0, omega (arith, c .1), c .2)
-
-sent-clear : (m : Monitor) (free : ℕ) (rows : List Row) → Clear m free (packets rows) → Clear m free (packets (sentRows rows))
-unfolding sentRows packets
-sent-clear m free [] c = tt
-sent-clear m free (r ∷ rs) c = go (isRemoved r) (sent-clear m taken rs (clear-spaced m (packetOf r) (packets rs) .1 (c .2)))
-  where
-    taken : ℕ
-    taken = r .time + airtime m (r .kind) + 1
-
-    go : (t : Bool) → Clear m taken (packets (sentRows rs)) → Clear m free (packets (cond t (sentRows rs) (r ∷ sentRows rs)))
-    go true d = clear-down m free taken (packets (sentRows rs)) (omega (arith, c .1)) d
-    go false d = (c .0, c .1, clear-spaced m (packetOf r) (packets (sentRows rs)) .0 d)
-
--- a row is recorded or sent, and what is recorded or sent is a row
-
-abbrev HeardOrSent : Packet → List Row → Type 0
-HeardOrSent p rows = List·Memᴰ p (heard rows) ⊎ List·Memᴰ p (packets (sentRows rows))
-
-row-cases : (rows : List Row) (p : Packet) → List·Memᴰ p (packets rows) → HeardOrSent p rows
-unfolding heard sentRows packets
-row-cases [] p l = absurd (List·Memᴰ·not-nil l)
-row-cases (r ∷ rs) p l =
-    ⊎-elim (here (eqb (r .mark) added) (isRemoved r) refl refl) (λ h. behind (eqb (r .mark) added) (isRemoved r) (row-cases rs p h)) (List·Memᴰ·cases-cons l)
-  where
-    after : Bool → Bool → Type 0
-    after a b = List·Memᴰ p (cond a (heard rs) (packetOf r ∷ heard rs)) ⊎ List·Memᴰ p (packets (cond b (sentRows rs) (r ∷ sentRows rs)))
-
-    here : (a b : Bool) → eqb (r .mark) added ≡ a → isRemoved r ≡ b → p ≡ packetOf r → after a b
-    here true true e f h = let x : r .mark ≡ added = eqb-true (r .mark) added e in let y : r .mark ≡ removed = eqb-true (r .mark) removed f in absurd (omega arith)
-    here true false e f h = inr (List·Memᴰ·head h)
-    here false b e f h = inl (List·Memᴰ·head h)
-
-    behind : (a b : Bool) → HeardOrSent p rs → after a b
-    behind true b (inl h) = inl h
-    behind false b (inl h) = inl (List·Memᴰ·tail h)
-    behind a true (inr h) = inr h
-    behind a false (inr h) = inr (List·Memᴰ·tail h)
-
-among : (away : Bool) (p q : Packet) (part all : List Packet) → (List·Memᴰ p part → List·Memᴰ p all) → List·Memᴰ p (cond away part (q ∷ part)) → List·Memᴰ p (q ∷ all)
-among true p q part all again h = List·Memᴰ·tail (again h)
-among false p q part all again h = ⊎-elim (λ e. List·Memᴰ·head e) (λ i. List·Memᴰ·tail (again i)) (List·Memᴰ·cases-cons h)
-
-heard-row : (rows : List Row) (p : Packet) → List·Memᴰ p (heard rows) → List·Memᴰ p (packets rows)
-unfolding heard packets
-heard-row [] p l = l
-heard-row (r ∷ rs) p l = among (eqb (r .mark) added) p (packetOf r) (heard rs) (packets rs) (heard-row rs p) l
-
-sent-row : (rows : List Row) (p : Packet) → List·Memᴰ p (packets (sentRows rows)) → List·Memᴰ p (packets rows)
-unfolding sentRows packets
-sent-row [] p l = l
-sent-row (r ∷ rs) p l = among (isRemoved r) p (packetOf r) (packets (sentRows rs)) (packets rs) (sent-row rs p) (subst (List·Memᴰ p) (go (isRemoved r)) l)
-  where
-    go : (away : Bool) → packets (cond away (sentRows rs) (r ∷ sentRows rs)) ≡ cond away (packets (sentRows rs)) (packetOf r ∷ packets (sentRows rs))
-    go true = refl
-    go false = refl
-
-pub explains-possible : (m : Monitor) (recording : List Packet) (rows : List Row) → Explains m recording rows → Possible m recording
-explains-possible m recording rows x =
-    record {
-      trace = packets (sentRows rows);
-      spaced = clear-trace m (packets (sentRows rows)) .0 (sent-clear m 0 rows (clear-trace m (packets rows) .1 (x .spaced)));
-      mutation =
-          λ p l away.
-          ⊎-elim (λ h. absurd (away h)) (λ h. ap (toUnit m) (sym (h .3)) ∙ x .inbound (h .0) (h .1) (h .2))
-          (heard-cases rows p (subst (λ (k : List Packet). List·Memᴰ p k) (sym (x .accounts)) l));
-      together =
-          record {
-            all = packets rows;
-            spaced = x .spaced;
-            entries =
-                λ p.
-                subst (λ (k : List Packet). List·Memᴰ p (packets rows) ↔ (List·Memᴰ p k ⊎ List·Memᴰ p (packets (sentRows rows)))) (x .accounts)
-                (row-cases rows p, ⊎-elim (heard-row rows p) (sent-row rows p));
-          };
-      satisfied = carried-carries m 0 start (sentRows rows) (x .carried);
-    }
+        (record { accounts = x .accounts; inbound = x .inbound; clear = from-earlier m 1 0 (packets rows) (omega arith) (trace-from m (packets rows) .0 (x .spaced)); carried = x .carried })

@@ -33,7 +33,8 @@ use Rattle.model.proofs.LayerLaws.{reached, cost-le, last-le, last-befo
 use Rattle.model.proofs.LeastLaws.{least, length-least}
 use Rattle.model.proofs.Numbering.{first-number-below, numbered}
 use Rattle.model.proofs.Capping.{same-moves}
-use Rattle.model.proofs.Explained.{unbroken-formed, explained, explains-possible}
+use Rattle.model.proofs.Explained.{unbroken-formed, explained}
+use Rattle.model.proofs.ExplainedTraces.{explains-possible}
 use Rattle.model.proofs.Ordered.{rows-before}
 use Rattle.model.proofs.TraceMoves.{possible-moves}
 use Rattle.model.proofs.MoveRows.{moves-permitted, rows-short}

@@ -13,7 +13,9 @@ pub mod LeastLaws
 pub mod Numbering
 pub mod Capping
 pub mod RowLaws
+pub mod Spacing
 pub mod Explained
+pub mod ExplainedTraces
 pub mod Ordered
 pub mod Instants
 pub mod TraceMoves

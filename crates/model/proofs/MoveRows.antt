@@ -4,7 +4,7 @@ use Prim.Native.Nat.{ℕ, suc, _+_, _-_, _<_, _≤_}
 use native.Mathlib.Omega.{arith}
 use native.Mathlib.Decide.{ℕ-discrete}
 use mathlib.Core.Path.{_≡_, refl, sym, ap, subst, _∙_}
-use mathlib.Core.List.{List, [], _∷_, _++_, map, List·Memᴰ, List·Memᴰ·not-nil, List·Memᴰ·eq-of-singleton, List·Memᴰ·append-cases}
+use mathlib.Core.List.{List, [], _∷_, _++_, map, List·Memᴰ, List·Memᴰ·not-nil, List·Memᴰ·cases-cons, List·Memᴰ·append-cases}
 use mathlib.Core.Bool.{Bool, true, false, cond, _&&_}
 use mathlib.Core.Option.{Option, none, some, Option·map, bind, Option·none-ne-some, Option·some-injective}
 use mathlib.Core.Logic.{⊎-elim}
@@ -19,13 +19,14 @@ use Rattle.model.specs.Witness.{Row, kept, removed, added, noTransition,
 use Rattle.model.specs.Rules.{Progress, begin, noneBefore, isNext, noneAt, others, behindRow, sends, keeps, removes, adds, account, broken}
 use Rattle.model.specs.Order.{EndsBy}
 use Rattle.model.specs.Situation.{Move, keep, rest, add, moveOf, moved, onAir, sent, missed, stepBy, tick, uncapped, firstBy, withAir, triggerOf, recordedAt}
-use Rattle.model.specs.Validation.{rowsBy, HasRows, rowsOf, keptRow, removedRow, addedRow}
+use Rattle.model.specs.Validation.{rowFor, rowsBy, HasRows, rowsOf}
 use Rattle.model.specs.declared.Situation.{Situation}
 use Rattle.model.proofs.Basics.{both-true, cond-some}
 use Rattle.model.specs.Sane.{Sane, SaneRecording}
 use Rattle.model.proofs.Chains.{Moves}
 use Rattle.model.proofs.Instants.{recorded-here, recorded-later}
 use Rattle.model.proofs.RowLaws.{sends-fires, broken-next}
+use Rattle.model.proofs.Ordered.{At, rowsBy-at}
 
 -- the recorded rows still to come
 
@@ -93,23 +94,15 @@ coming recording t (p ∷ ps) a = go (ℕ-discrete (p .time) (suc t))
 
 -- at most one row an instant
 
-kept-few : (t : ℕ) (o : Option ℕ) (j : ℕ) → length (keptRow t o j) ≤ 1
-kept-few t none j = omega arith
-kept-few t (some k) j = omega arith
-
-removed-few : (t : ℕ) (o : Option ℕ) → length (removedRow t o) ≤ 1
-removed-few t none = omega arith
-removed-few t (some k) = omega arith
-
-added-few : (t : ℕ) (o : Option ℕ) (j : ℕ) → length (addedRow t o j) ≤ 1
-added-few t none j = omega arith
-added-few t (some k) j = omega arith
+row-for-few : (mark t : ℕ) (o : Option ℕ) (j : ℕ) → length (rowFor mark t o j) ≤ 1
+row-for-few mark t none j = omega arith
+row-for-few mark t (some k) j = omega arith
 
 rows-by-few : (m : Monitor) (recorded : Option ℕ) (t : ℕ) (a : Move) → length (rowsBy m recorded t a) ≤ 1
 unfolding rowsBy
-rows-by-few m recorded t (keep j) = kept-few t recorded j
-rows-by-few m recorded t rest = removed-few t recorded
-rows-by-few m recorded t (add j) = added-few t (triggerOf m j) j
+rows-by-few m recorded t (keep j) = row-for-few kept t recorded j
+rows-by-few m recorded t rest = row-for-few removed t recorded noTransition
+rows-by-few m recorded t (add j) = row-for-few added t (triggerOf m j) j
 
 pub rows-short : (m : Monitor) (recording : List Packet) (t : ℕ) (ks : List ℕ) → length (rowsOf m recording t ks) ≤ length ks
 unfolding rowsOf
@@ -350,20 +343,9 @@ fits-step m write recorded s rest x e = tt
 fits-step m write none s (add j) x e = bound (triggerOf m j) _ (tick write) x e
 fits-step m write (some k) s (add j) x e = Option·none-ne-some x e
 
-removed-time : (recorded : Option ℕ) (t : ℕ) (r : Row) → List·Memᴰ r (removedRow t recorded) → r .time ≡ t
-removed-time none t r h = absurd (List·Memᴰ·not-nil h)
-removed-time (some k) t r h = ap (λ x. x .time) (List·Memᴰ·eq-of-singleton h)
-
-row-time : (m : Monitor) (recorded : Option ℕ) (t : ℕ) (a : Move) (r : Row) → List·Memᴰ r (rowsBy m recorded t a) → r .time ≡ t
-unfolding rowsBy
-row-time m none t (keep j) r h = absurd (List·Memᴰ·not-nil h)
-row-time m (some k) t (keep j) r h = ap (λ x. x .time) (List·Memᴰ·eq-of-singleton h)
-row-time m recorded t rest r h = removed-time recorded t r h
-row-time m recorded t (add j) r h = added-time (triggerOf m j) h
-  where
-    added-time : (o : Option ℕ) → List·Memᴰ r (addedRow t o j) → r .time ≡ t
-    added-time none g = absurd (List·Memᴰ·not-nil g)
-    added-time (some k) g = ap (λ x. x .time) (List·Memᴰ·eq-of-singleton g)
+row-time : (t : ℕ) (rows : List Row) → At t rows → (r : Row) → List·Memᴰ r rows → r .time ≡ t
+row-time t [] h r i = absurd (List·Memᴰ·not-nil i)
+row-time t (a ∷ rows) h r i = ⊎-elim (λ e. ap (λ x. x .time) e ∙ h .0) (λ j. row-time t rows (h .1) r j) (List·Memᴰ·cases-cons i)
 
 broken-end : (m : Monitor) (p : Progress) (i : ℕ) → p .left ≡ [] → broken m p i [] ≡ none
 unfolding broken
@@ -418,7 +400,7 @@ module _ (m : Monitor) (recording : List Packet) (sane : SaneRecording m recordi
       ends : EndsBy (endOf recording) (rowsOf m recording (suc (suc t)) ks)
           → EndsBy (endOf recording) (rowsBy m (recordedAt recording (suc t)) (suc t) (moveOf k) ++ rowsOf m recording (suc (suc t)) ks)
       ends h r g =
-          ⊎-elim (λ f. let l : r .time ≡ suc t = row-time m (recordedAt recording (suc t)) (suc t) (moveOf k) r f in omega arith) (h r)
+          ⊎-elim (λ f. let l : r .time ≡ suc t = row-time (suc t) (rowsBy m (recordedAt recording (suc t)) (suc t) (moveOf k)) (rowsBy-at m (recordedAt recording (suc t)) (suc t) (moveOf k)) r f in omega arith) (h r)
           (List·Memᴰ·append-cases (rowsBy m (recordedAt recording (suc t)) (suc t) (moveOf k)) g)
 
 pub moves-permitted : (m : Monitor) (recording : List Packet) → Sane m → SaneRecording m recording → (ks : List ℕ) (z : Situation)

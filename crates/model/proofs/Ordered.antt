@@ -10,9 +10,9 @@ use lib.Dec.{ltb, eqb}
 use borrow.Author.Tests.{ltb-true, ltb-false, eqb-true, eqb-false, eq-eqb, ne-eqb}
 use Rattle.model.specs.Monitor.{Monitor}
 use Rattle.model.specs.Trace.{Packet}
-use Rattle.model.specs.Witness.{Row}
+use Rattle.model.specs.Witness.{Row, kept, removed, added, noTransition}
 use Rattle.model.specs.Situation.{Move, keep, rest, add, moveOf, moved, stepBy, tick, uncapped, recordedAt, triggerOf, restMove, firstAdd}
-use Rattle.model.specs.Validation.{addedRow, rowsBy, rowsOf}
+use Rattle.model.specs.Validation.{rowFor, rowsBy, rowsOf}
 use Rattle.model.specs.Order.{Choice, keeping, nothing, adding, rowsOn, choice, Sooner, Before}
 use Rattle.model.specs.declared.Situation.{Situation}
 use Rattle.model.proofs.Chains.{Moves, Less}
@@ -29,7 +29,7 @@ rowsOn-append t (r ∷ rs) b = go (eqb (r .time) t) (rowsOn-append t rs b)
     go false e = e
 
 -- all rows have the time t
-abbrev At : ℕ → List Row → Type 0
+abbrev pub At : ℕ → List Row → Type 0
 At t [] = Unit {0}
 At t (r ∷ rs) = (r .time ≡ t) × At t rs
 
@@ -43,17 +43,15 @@ unfolding rowsOn
 rowsOn-other t u [] h n = refl
 rowsOn-other t u (r ∷ rs) h n = rw (ne-eqb (r .time) u (λ e. n (sym (h .0) ∙ e))) (rowsOn-other t u rs (h .1) n)
 
-added-at : (t : ℕ) (a : Option ℕ) (j : ℕ) → At t (addedRow t a j)
-added-at t none j = tt
-added-at t (some a) j = (refl, tt)
+row-for-at : (mark t : ℕ) (o : Option ℕ) (j : ℕ) → At t (rowFor mark t o j)
+row-for-at mark t none j = tt
+row-for-at mark t (some k) j = (refl, tt)
 
-rowsBy-at : (m : Monitor) (recorded : Option ℕ) (t : ℕ) (a : Move) → At t (rowsBy m recorded t a)
+pub rowsBy-at : (m : Monitor) (recorded : Option ℕ) (t : ℕ) (a : Move) → At t (rowsBy m recorded t a)
 unfolding rowsBy
-rowsBy-at m none t (keep j) = tt
-rowsBy-at m (some k) t (keep j) = (refl, tt)
-rowsBy-at m none t rest = tt
-rowsBy-at m (some k) t rest = (refl, tt)
-rowsBy-at m recorded t (add j) = added-at t (triggerOf m j) j
+rowsBy-at m recorded t (keep j) = row-for-at kept t recorded j
+rowsBy-at m recorded t rest = row-for-at removed t recorded noTransition
+rowsBy-at m recorded t (add j) = row-for-at added t (triggerOf m j) j
 
 module _ (m : Monitor) (recording : List Packet) (t k : ℕ) (ks : List ℕ) where
   rowsOn-rowsOf : (u : ℕ) → rowsOn u (rowsOf m recording t (k ∷ ks)) ≡ rowsOn u (rowsBy m (recordedAt recording t) t (moveOf k)) ++ rowsOn u (rowsOf m recording (suc t) ks)
@@ -86,7 +84,7 @@ chosen rest = nothing
 chosen (add j) = adding j
 
 -- an added row has a trigger
-choice-added : (t j : ℕ) (a : Option ℕ) (send : ℕ → Option Situation) {x : Situation} → Option·map (tick uncapped) (bind a send) ≡ some x → choice (addedRow t a j) ≡ adding j
+choice-added : (t j : ℕ) (a : Option ℕ) (send : ℕ → Option Situation) {x : Situation} → Option·map (tick uncapped) (bind a send) ≡ some x → choice (rowFor added t a j) ≡ adding j
 unfolding choice bind
 choice-added t j none send {x} e = let z : _≡_ {A = ℕ} 0 1 = cc in absurd (omega arith)
 choice-added t j (some a) send e = refl

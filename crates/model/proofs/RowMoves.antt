@@ -5,13 +5,12 @@ use native.Mathlib.Decide.{ℕ-discrete}
 use mathlib.Core.Path.{_≡_, refl, sym, ap, subst, _∙_}
 use mathlib.Core.List.{List, [], _∷_, _++_, List·Memᴰ, List·Memᴰ·head, Memᴰ·append-right}
 use mathlib.Core.Bool.{Bool, true, false, cond, not, _&&_, false≢true}
-use mathlib.Core.Option.{Option, none, some, Option·map, bind, Option·none-ne-some, Option·some-ne-none, Option·some-injective}
-use lib.ListN.{length, getElem?}
+use mathlib.Core.Option.{Option, none, some, Option·map, Option·some-ne-none, Option·some-injective}
+use lib.ListN.{length}
 use lib.Dec.{eqb}
 use borrow.Author.Tests.{eqb-true, eqb-false, leb-true, ltb-true, eq-eqb}
 use Rattle.model.specs.Limits.{transitionLimit}
-use Rattle.model.specs.Monitor.{Monitor, Config, Transition, after, wait, enabled, fires, toUnit}
-use Rattle.model.specs.Guard.{holds}
+use Rattle.model.specs.Monitor.{Monitor, wait, toUnit}
 use Rattle.model.specs.Trace.{Packet}
 use Rattle.model.specs.Recording.{endOf}
 use Rattle.model.specs.Witness.{Row, kept, removed, added, noTransition, marked, isRemoved, inForm, follows, inPlace}
@@ -20,10 +19,10 @@ use Rattle.model.specs.Order.{EndsBy}
 use Rattle.model.specs.Situation.{Move, keep, rest, add, moveOf, moveLimit, uncapped, firstBy, triggerOf, recordedAt, restMove, firstAdd}
 use Rattle.model.specs.Validation.{rowsBy, HasRows, rowsOf}
 use Rattle.model.specs.declared.Situation.{Situation}
-use Rattle.model.proofs.Basics.{and-left, and-right, cond-some, getElem-within}
+use Rattle.model.proofs.Basics.{and-left, and-right, cond-some}
 use Rattle.model.specs.Sane.{Sane, SaneRecording}
 use Rattle.model.proofs.Chains.{Moves}
-use Rattle.model.proofs.Instants.{moveOf-keep, moveOf-add}
+use Rattle.model.proofs.Instants.{moveOf-keep, moveOf-add, fires-trigger, trigger-number}
 use Rattle.model.proofs.MoveRows.{Rising, Coming, quiet, heard, coming, Tied, tied-first, situationAt, accounts, one-row, instant}
 use Rattle.model.proofs.RowLaws.{InForm, in-form, passed, sends-fires, first-row}
 
@@ -33,17 +32,6 @@ use Rattle.model.proofs.RowLaws.{InForm, in-form, passed, sends-fires, 
 record Sent (m : Monitor) (r : Row) (q : Progress) : Type 0 where
   before : q .before ≡ some r
   trigger : triggerOf m (r .transition) ≡ some (r .kind)
-
-fires-trigger : (m : Monitor) (j k : ℕ) (c d : Config) → fires m j k c ≡ some d → triggerOf m j ≡ some k
-unfolding fires bind
-fires-trigger m j k c d e = go (getElem? (m .transitions) j) e
-  where
-    go : (o : Option Transition) → bind o (λ t. cond (enabled t k c) (some (after m t c)) none) ≡ some d → Option·map (λ t. t .trigger) o ≡ some k
-    go none h = absurd (Option·none-ne-some d h)
-    go (some t) h =
-        ap {B = Option ℕ} some
-        (eqb-true (t .trigger) k (and-right (eqb (t .source) (c .state)) (eqb (t .trigger) k)
-        (and-left (eqb (t .source) (c .state) && eqb (t .trigger) k) (holds (t .guard) (c .variables) (c .clocks)) (cond-some (enabled t k c) _ d h .0))))
 
 sends-sent : (m : Monitor) (p : Progress) (r : Row) (left : List Packet) (q : Progress) → sends m p r left ≡ some q → Sent m r q
 sends-sent m p r left q e =
@@ -98,13 +86,6 @@ starts-after m q r i [] b e = tt
 starts-after m q r i (s ∷ rs) b e =
     let x = first-row m q i s rs e in
     ltb-true (r .time) (s .time) (and-right (inForm s) (follows r s) (subst (λ o. inPlace o s ≡ true) b (passed m q s (x .0) (x .1) .placed)))
-
-trigger-number : (m : Monitor) → Sane m → (j k : ℕ) → triggerOf m j ≡ some k → j < transitionLimit
-trigger-number m table j k e = go (getElem? (m .transitions) j) refl e
-  where
-    go : (o : Option Transition) → getElem? (m .transitions) j ≡ o → Option·map (λ t. t .trigger) o ≡ some k → j < transitionLimit
-    go none f g = absurd (Option·none-ne-some k g)
-    go (some t) f g = omega (arith, table .few, getElem-within (m .transitions) j t f)
 
 not-next : (t : ℕ) (l : List Packet) (r : Row) → Rising t l → r .time ≤ t → isNext l r ≡ true → ⊥
 not-next t [] r h g e = false≢true e

@@ -5,23 +5,21 @@ use native.Mathlib.Omega.{arith}
 use native.Mathlib.Decide.{ℕ-discrete}
 use mathlib.Core.Path.{_≡_, refl, sym, ap, subst, _∙_}
 use mathlib.Core.List.{List, [], _∷_, map-map, map-id, List·Memᴰ, List·Memᴰ·head, List·Memᴰ·tail, List·Memᴰ·not-nil, List·Memᴰ·cases-cons, List·Memᴰ·eq-of-singleton}
-use mathlib.Core.Bool.{Bool, true, false, cond, _&&_}
-use mathlib.Core.Option.{Option, none, some, Option·map, bind, bind-eq-some-iff, Option·none-ne-some, Option·some-injective}
+use mathlib.Core.Bool.{true}
+use mathlib.Core.Option.{Option, none, some, Option·map, bind, Option·none-ne-some, Option·some-injective}
 use mathlib.Core.Logic.{_↔_, _⊎_, inl, inr, ⊎-elim}
-use lib.ListN.{length, getElem?}
-use lib.Dec.{eqb}
-use borrow.Author.Tests.{eqb-true, eq-eqb}
+use lib.ListN.{length}
+use borrow.Author.Tests.{eq-eqb}
 use Rattle.model.specs.Limits.{transitionLimit}
-use Rattle.model.specs.Monitor.{Monitor, Config, Transition, start, wait, fires, enabled, after, toUnit, airtime}
-use Rattle.model.specs.Guard.{holds}
+use Rattle.model.specs.Monitor.{Monitor, Config, start, wait, fires, toUnit, airtime}
 use Rattle.model.specs.Trace.{Packet, Spaced, PacketTrace, Carries, Possible}
 use Rattle.model.specs.Recording.{endOf}
 use Rattle.model.specs.Situation.{configOf, withAir, uncapped, firstBy, sent, missed, triggerOf, moved, tick, stepBy, recordedAt, moveLimit, moveOf, restMove, firstAdd}
 use Rattle.model.specs.declared.Situation.{Situation}
-use Rattle.model.proofs.Basics.{and-left, and-right, getElem-within}
 use Rattle.model.specs.Sane.{Sane, SaneRecording}
 use Rattle.model.proofs.Chains.{Moves}
-use Rattle.model.proofs.Instants.{moveOf-keep, moveOf-rest, moveOf-add, recorded-here, recorded-later}
+use Rattle.model.proofs.Instants.{moveOf-keep, moveOf-rest, moveOf-add, recorded-here, recorded-later, fires-trigger, trigger-number}
+use Rattle.model.proofs.Spacing.{TraceFrom, freeAfter, trace-from, from-earlier, from-next, spaced-from, from-time, behind-first, only-first}
 
 -- what is recorded at an instant is in the recording
 
@@ -46,46 +44,6 @@ pub wait-none : (c : Config) → wait 0 c ≡ c
 wait-none c = simp (add-zero, map-id)
 
 module _ (m : Monitor) where
-  -- the first instant after a packet at which the air is free
-  abbrev pub freeAfter : Packet → ℕ
-  freeAfter p = suc (p .time + airtime m (p .kind))
-
-  -- a packet trace whose packets come at or after an instant
-  abbrev pub Ahead : ℕ → List Packet → Type 0
-  Ahead n [] = Unit {0}
-  Ahead n (p ∷ r) = (n ≤ p .time) × Spaced m p r
-
-  pub trace-ahead : (tr : List Packet) → PacketTrace m tr → Ahead 1 tr
-  trace-ahead [] x = x
-  trace-ahead (p ∷ r) x = x
-
-  pub ahead-down : (n a : ℕ) (tr : List Packet) → a ≤ n → Ahead n tr → Ahead a tr
-  ahead-down n a [] h x = tt
-  ahead-down n a (p ∷ r) h x = (omega arith, x .1)
-
-  -- .. and none at that instant
-  ahead-up : (n : ℕ) (tr : List Packet) → Ahead n tr → ((p : Packet) → List·Memᴰ p tr → p .time ≡ n → ⊥) → Ahead (suc n) tr
-  ahead-up n [] x lacks = tt
-  ahead-up n (p ∷ r) x lacks = let other : p .time ≡ n → ⊥ = lacks p (List·Memᴰ·head refl) in (omega (arith, x .0), x .1)
-
-  pub spaced-ahead : (p : Packet) (r : List Packet) → Spaced m p r → Ahead (freeAfter p) r
-  spaced-ahead p [] x = tt
-  spaced-ahead p (q ∷ r) x = (omega arith, x .1)
-
-  pub ahead-time : (n : ℕ) (tr : List Packet) → Ahead n tr → (p : Packet) → List·Memᴰ p tr → n ≤ p .time
-  ahead-time n [] x p i = absurd (List·Memᴰ·not-nil i)
-  ahead-time n (q ∷ r) x p i =
-      ⊎-elim (λ e. omega (arith, ap (λ (a : Packet). a .time) e))
-      (λ j. omega (arith, ahead-time (freeAfter q) r (spaced-ahead q r (x .1)) p j)) (List·Memᴰ·cases-cons i)
-
-  -- a packet later than the first is among the others, and one at the time of the first is the first
-
-  behind-first : (p : Packet) (r : List Packet) (q : Packet) → p .time < q .time → List·Memᴰ q (p ∷ r) → List·Memᴰ q r
-  behind-first p r q h i = ⊎-elim (λ e. absurd (omega (arith, ap (λ (a : Packet). a .time) e))) (λ j. j) (List·Memᴰ·cases-cons i)
-
-  only-first : (p : Packet) (r : List Packet) → Ahead (freeAfter p) r → (q : Packet) → q .time ≡ p .time → List·Memᴰ q (p ∷ r) → q ≡ p
-  only-first p r after q e i = ⊎-elim (λ h. h) (λ j. absurd (omega (arith, ahead-time (freeAfter p) r after q j))) (List·Memᴰ·cases-cons i)
-
   by-end : (q : Packet) (r : List Packet) → Spaced m q r → (p : Packet) → List·Memᴰ p (q ∷ r) → p .time ≤ endOf (q ∷ r)
   unfolding endOf
   by-end q [] x p i = omega (arith, ap (λ (a : Packet). a .time) (List·Memᴰ·eq-of-singleton i))
@@ -97,40 +55,23 @@ module _ (m : Monitor) where
   pub recorded-within :
       (recording : List Packet) → PacketTrace m recording → (p : Packet) → List·Memᴰ p recording → (1 ≤ p .time) × (p .time ≤ endOf recording)
   recorded-within [] x p i = absurd (List·Memᴰ·not-nil i)
-  recorded-within (q ∷ r) x p i = (ahead-time 1 (q ∷ r) x p i, by-end q r (x .1) p i)
+  recorded-within (q ∷ r) x p i = (from-time m 1 (q ∷ r) x p i, by-end q r (x .1) p i)
 
-  ahead-at : (n : ℕ) (recording : List Packet) → Ahead n recording → (p : Packet) → List·Memᴰ p recording → recordedAt recording (p .time) ≡ some (p .kind)
+  ahead-at : (n : ℕ) (recording : List Packet) → TraceFrom m n recording → (p : Packet) → List·Memᴰ p recording → recordedAt recording (p .time) ≡ some (p .kind)
   ahead-at n [] x p i = absurd (List·Memᴰ·not-nil i)
   ahead-at n (q ∷ r) x p i =
-      let after : Ahead (freeAfter q) r = spaced-ahead q r (x .1) in
+      let after : TraceFrom m (freeAfter m q) r = spaced-from m q r .0 (x .1) in
       ⊎-elim (λ e. recorded-here q r (p .time) (ap (λ (a : Packet). a .time) (sym e)) ∙ ap (λ (a : Packet). some (a .kind)) (sym e))
-      (λ l. recorded-later q r (p .time) (omega (arith, ahead-time (freeAfter q) r after p l)) ∙ ahead-at (freeAfter q) r after p l)
+      (λ l. recorded-later q r (p .time) (omega (arith, from-time m (freeAfter m q) r after p l)) ∙ ahead-at (freeAfter m q) r after p l)
       (List·Memᴰ·cases-cons i)
 
   -- and each is the one recorded at its instant
   pub recorded-at :
       (recording : List Packet) → PacketTrace m recording → (p : Packet) → List·Memᴰ p recording → recordedAt recording (p .time) ≡ some (p .kind)
-  recorded-at recording x = ahead-at 1 recording (trace-ahead recording x)
-
-  -- transition j fires on its trigger
-  pub fires-by : (j k : ℕ) (c d : Config) → fires m j k c ≡ some d → (t : Transition) × (getElem? (m .transitions) j ≡ some t) × (t .trigger ≡ k)
-  unfolding fires
-  fires-by j k c d e = split (bind-eq-some-iff (getElem? (m .transitions) j) (λ t. cond (enabled t k c) (some (after m t c)) none) .0 e)
-    where
-      on : (t : Transition) (b : Bool) → enabled t k c ≡ b → cond b (some (after m t c)) none ≡ some d → t .trigger ≡ k
-      on t true b q =
-          let source : Bool = eqb (t .source) (c .state) in
-          let trigger : Bool = eqb (t .trigger) k in
-          eqb-true (t .trigger) k (and-right source trigger (and-left (source && trigger) (holds (t .guard) (c .variables) (c .clocks)) b))
-      on t false b q = absurd (Option·none-ne-some d q)
-
-      split :
-          (t : Transition) × (getElem? (m .transitions) j ≡ some t) × (cond (enabled t k c) (some (after m t c)) none ≡ some d)
-          → (t : Transition) × (getElem? (m .transitions) j ≡ some t) × (t .trigger ≡ k)
-      split x = (x .0, x .1, on (x .0) (enabled (x .0) k c) refl (x .2))
+  recorded-at recording x = ahead-at 1 recording (trace-from m recording .0 x)
 
   -- in a trace whose packets are all later, the monitor may as well start one tick later
-  pub carries-tick : (now : ℕ) (c : Config) (tr : List Packet) → Ahead (suc now) tr → Carries m now c tr → Carries m (suc now) (wait 1 c) tr
+  pub carries-tick : (now : ℕ) (c : Config) (tr : List Packet) → TraceFrom m (suc now) tr → Carries m now c tr → Carries m (suc now) (wait 1 c) tr
   carries-tick now c [] a x = tt
   carries-tick now c (p ∷ r) a x = (x .0, x .1, ap (fires m (x .0) (p .kind)) (waited (p .time - suc now) (p .time - now) (omega arith)) ∙ x .2, x .3)
     where
@@ -165,9 +106,9 @@ module _ (m : Monitor) where
     -- what is on the air from instant t + 1 on, where the situation just before that instant is s: it finds the air free, it is what is recorded and what the
     -- trace has, the trace carries the monitor, and recorded packets that it lacks are to the unit
     record Tracks (t : ℕ) (s : Situation) (all tr : List Packet) : Type 0 where
-      ahead : Ahead (suc t + s .air) all
+      ahead : TraceFrom m (suc t + s .air) all
       entries : (p : Packet) → t < p .time → List·Memᴰ p all ↔ (List·Memᴰ p recording ⊎ List·Memᴰ p tr)
-      later : Ahead (suc t) tr
+      later : TraceFrom m (suc t) tr
       carries : Carries m (suc t) (configOf s) tr
       mutation : (p : Packet) → List·Memᴰ p recording → t < p .time → (List·Memᴰ p tr → ⊥) → toUnit m (p .kind) ≡ true
 
@@ -182,7 +123,7 @@ module _ (m : Monitor) where
       tracks : Tracks (suc t) next all trace
 
     -- rest, where nothing is on the air at instant t + 1
-    goes-idle : (t : ℕ) (s : Situation) (all tr : List Packet) → Ahead (suc (suc t)) all → Tracks t s all tr → Goes t s
+    goes-idle : (t : ℕ) (s : Situation) (all tr : List Packet) → TraceFrom m (suc (suc t)) all → Tracks t s all tr → Goes t s
     unfolding stepBy
     goes-idle t s all tr late x =
         record {
@@ -205,19 +146,19 @@ module _ (m : Monitor) where
               };
         }
       where
-        again : (l : List Packet) → Ahead (suc (suc t)) l → Ahead (suc t + s .air) l → Ahead (suc (suc t) + (s .air - 1)) l
+        again : (l : List Packet) → TraceFrom m (suc (suc t)) l → TraceFrom m (suc t + s .air) l → TraceFrom m (suc (suc t) + (s .air - 1)) l
         again [] a b = tt
         again (q ∷ l) a b = (omega arith, a .1)
 
         none-now : (p : Packet) → List·Memᴰ p recording ⊎ List·Memᴰ p tr → p .time ≡ suc t → ⊥
-        none-now p i e = omega (arith, ahead-time (suc (suc t)) all late p (x .entries p (omega arith) .1 i))
+        none-now p i e = omega (arith, from-time m (suc (suc t)) all late p (x .entries p (omega arith) .1 i))
 
-        trace-late : Ahead (suc (suc t)) tr
-        trace-late = ahead-up (suc t) tr (x .later) (λ p i. none-now p (inr i))
+        trace-late : TraceFrom m (suc (suc t)) tr
+        trace-late = from-next m (suc t) tr (x .later) (λ p i. none-now p (inr i))
 
     module _ (sane : Sane m) (sound : PacketTrace m recording) where
       -- removal, where the packet on the air at instant t + 1 is not in the trace
-      goes-missing : (t : ℕ) (s : Situation) (p : Packet) (r tr : List Packet) → p .time ≡ suc t → Ahead (suc (suc t)) tr → Tracks t s (p ∷ r) tr → Goes t s
+      goes-missing : (t : ℕ) (s : Situation) (p : Packet) (r tr : List Packet) → p .time ≡ suc t → TraceFrom m (suc (suc t)) tr → Tracks t s (p ∷ r) tr → Goes t s
       unfolding stepBy
       goes-missing t s p r tr now late x =
           record {
@@ -232,7 +173,7 @@ module _ (m : Monitor) where
             trace = tr;
             tracks =
                 record {
-                  ahead = ahead-down (freeAfter p) (suc (suc t) + (airtime m (p .kind) + 1 - 1)) r (omega arith) (spaced-ahead p r (x .ahead .1));
+                  ahead = from-earlier m (freeAfter m p) (suc (suc t) + (airtime m (p .kind) + 1 - 1)) r (omega arith) (spaced-from m p r .0 (x .ahead .1));
                   entries =
                       λ q h. (λ i. x .entries q (omega arith) .0 (List·Memᴰ·tail i), λ i. behind-first p r q (omega arith) (x .entries q (omega arith) .1 i));
                   later = late;
@@ -242,7 +183,7 @@ module _ (m : Monitor) where
           }
         where
           lacks : List·Memᴰ p tr → ⊥
-          lacks i = omega (arith, ahead-time (suc (suc t)) tr late p i)
+          lacks i = omega (arith, from-time m (suc (suc t)) tr late p i)
 
           recorded : List·Memᴰ p recording
           recorded = ⊎-elim (λ i. i) (λ i. absurd (lacks i)) (x .entries p (omega arith) .0 (List·Memᴰ·head refl))
@@ -263,16 +204,16 @@ module _ (m : Monitor) where
             trace = tr;
             tracks =
                 record {
-                  ahead = ahead-down (freeAfter p) (suc (suc t) + (airtime m (p .kind) + 1 - 1)) r (omega arith) after;
+                  ahead = from-earlier m (freeAfter m p) (suc (suc t) + (airtime m (p .kind) + 1 - 1)) r (omega arith) after;
                   entries =
                       λ q h. (
                         λ i. ⊎-elim inl (λ l. inr (behind-first p tr q (omega arith) l)) (x .entries q (omega arith) .0 (List·Memᴰ·tail i)),
                         λ i. behind-first p r q (omega arith) (x .entries q (omega arith) .1 (⊎-elim inl (λ l. inr (List·Memᴰ·tail l)) i)),
                       );
-                  later = ahead-down (freeAfter p) (suc (suc t)) tr (omega arith) behind;
+                  later = from-earlier m (freeAfter m p) (suc (suc t)) tr (omega arith) behind;
                   carries =
                       subst (λ (n : ℕ). Carries m (suc n) (wait 1 d) tr) now
-                      (carries-tick (p .time) d tr (ahead-down _ _ tr (omega arith) behind) (x .carries .3));
+                      (carries-tick (p .time) d tr (from-earlier m _ _ tr (omega arith) behind) (x .carries .3));
                   mutation = λ q i h lacks. x .mutation q i (omega arith) (λ l. lacks (behind-first p tr q (omega arith) l));
                 };
           }
@@ -289,29 +230,23 @@ module _ (m : Monitor) where
           fired : fires m j (p .kind) (configOf s) ≡ some d
           fired = ap (fires m j (p .kind)) (sym (at-once (p .time - suc t) (omega arith))) ∙ x .carries .2
 
-          by : (b : Transition) × (getElem? (m .transitions) j ≡ some b) × (b .trigger ≡ p .kind)
-          by = fires-by j (p .kind) (configOf s) d fired
-
           trigger : triggerOf m j ≡ some (p .kind)
-          trigger = rw (by .1) (ap {B = Option ℕ} some (by .2))
+          trigger = fires-trigger m j (p .kind) (configOf s) d fired
 
-          few : j < transitionLimit
-          few = omega (arith, getElem-within (m .transitions) j (by .0) (by .1), sane .few)
+          after : TraceFrom m (freeAfter m p) r
+          after = spaced-from m p r .0 (x .ahead .1)
 
-          after : Ahead (freeAfter p) r
-          after = spaced-ahead p r (x .ahead .1)
-
-          behind : Ahead (freeAfter p) tr
-          behind = spaced-ahead p tr (x .later .1)
+          behind : TraceFrom m (freeAfter m p) tr
+          behind = spaced-from m p tr .0 (x .later .1)
 
           same : (a : ℕ) → recordedAt recording (suc t) ≡ some a → a ≡ p .kind
           same a e =
               ap (λ (b : Packet). b .kind)
-              (only-first p r after (record { time = suc t; kind = a }) (sym now)
+              (only-first m p r after (record { time = suc t; kind = a }) (sym now)
               (x .entries (record { time = suc t; kind = a }) (omega arith) .1 (inl (recorded-member recording (suc t) a e))))
 
           sending : (n : ℕ) × (n < moveLimit) × (moved m (recordedAt recording (suc t)) s (moveOf n) ≡ sent m j (p .kind) s)
-          sending = sends s j (p .kind) few trigger (recordedAt recording (suc t)) same
+          sending = sends s j (p .kind) (trigger-number m sane j (p .kind) trigger) trigger (recordedAt recording (suc t)) same
 
       -- a packet on the air at instant t + 1: the trace's first is that, or later
       goes-busy : (t : ℕ) (s : Situation) (p : Packet) (r tr : List Packet) → p .time ≡ suc t → Tracks t s (p ∷ r) tr → Goes t s
@@ -321,7 +256,7 @@ module _ (m : Monitor) where
           split : Dec (q .time ≡ suc t) → Goes t s
           split (yes e) =
               let same : q ≡ p =
-              only-first p r (spaced-ahead p r (x .ahead .1)) q (e ∙ sym now) (x .entries q (omega arith) .1 (inr (List·Memᴰ·head refl))) in
+              only-first m p r (spaced-from m p r .0 (x .ahead .1)) q (e ∙ sym now) (x .entries q (omega arith) .1 (inr (List·Memᴰ·head refl))) in
               goes-sending t s p r tr now (subst (λ (a : Packet). Tracks t s (p ∷ r) (a ∷ tr)) same x)
           split (no e) = goes-missing t s p r (q ∷ tr) now (omega (arith, x .later .0), x .later .1) x
 
@@ -349,9 +284,9 @@ pub possible-moves :
 possible-moves m recording sane recorded x =
     runs m recording sane (recorded .trace) (endOf recording) 0 (firstBy uncapped) (x .together .all) (x .trace)
     (record {
-      ahead = trace-ahead m (x .together .all) (x .together .spaced);
+      ahead = trace-from m (x .together .all) .0 (x .together .spaced);
       entries = λ p h. x .together .entries p;
-      later = trace-ahead m (x .trace) (x .spaced);
-      carries = carries-tick m 0 start (x .trace) (trace-ahead m (x .trace) (x .spaced)) (x .satisfied);
+      later = trace-from m (x .trace) .0 (x .spaced);
+      carries = carries-tick m 0 start (x .trace) (trace-from m (x .trace) .0 (x .spaced)) (x .satisfied);
       mutation = λ p i h lacks. x .mutation p i lacks;
     })

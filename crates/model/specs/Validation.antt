@@ -24,23 +24,16 @@ use Rattle.model.specs.declared.Refusal.the-variants.{Scratch, WitnessRo
 
 -- the rows of moves
 
-abbrev pub keptRow : ℕ → Option ℕ → ℕ → List Row
-keptRow t none j = []
-keptRow t (some k) j = marked kept t k j ∷ []
+-- a row of a kind, if there is one
+abbrev pub rowFor : (mark t : ℕ) → Option ℕ → (transition : ℕ) → List Row
+rowFor mark t none j = []
+rowFor mark t (some k) j = marked mark t k j ∷ []
 
-abbrev pub removedRow : ℕ → Option ℕ → List Row
-removedRow t none = []
-removedRow t (some k) = marked removed t k noTransition ∷ []
-
-abbrev pub addedRow : ℕ → Option ℕ → ℕ → List Row
-addedRow t none j = []
-addedRow t (some k) j = marked added t k j ∷ []
-
--- what one move at instant t, with a row recorded there or not, comes to
+-- what one move at instant t, with a row recorded there or not, comes to: at most one row
 unfoldable pub rowsBy : Monitor → Option ℕ → ℕ → Move → List Row
-rowsBy m recorded t (keep j) = keptRow t recorded j
-rowsBy m recorded t rest = removedRow t recorded
-rowsBy m recorded t (add j) = addedRow t (triggerOf m j) j
+rowsBy m recorded t (keep j) = rowFor kept t recorded j
+rowsBy m recorded t rest = rowFor removed t recorded noTransition
+rowsBy m recorded t (add j) = rowFor added t (triggerOf m j) j
 
 -- a move has what its rows name: a recorded row to keep, a transition of the table to add by where none is recorded
 abbrev pub HasRows : Monitor → Option ℕ → Move → Type 0

@@ -17,7 +17,7 @@ use Rattle.model.specs.Situation.{keep, rest, add, configOf, withAir, tick, onA
 use Rattle.model.specs.declared.Config.{Config}
 use Rattle.model.specs.declared.Situation.{Situation}
 use Rattle.model.proofs.Basics.{getElem-tab, getElem-tab-past}
-use Rattle.model.proofs.Instants.{moveOf-keep, moveOf-rest, moveOf-add}
+use Rattle.model.proofs.Instants.{moveOf-keep, move-add}
 use Rattle.model.proofs.Numbering.{outcome}
 use Rattle.monitor.specs.From.{firing, monitorFrom, transitionFrom}
 use Rattle.monitor.specs.declared.Fired.{Fired}
@@ -199,18 +199,10 @@ module _ (b offsets : List ℕ) (state j : ℕ) where
     pub trigger-elsewhere : (byteAt b at ≡ state → ⊥) → none ≡ triggerFrom (monitorFrom b offsets) state j
     trigger-elsewhere e = ap (λ (x : Bool). cond x (some (byteAt b (at + 2))) none) (sym (ne-eqb (byteAt b at) state e)) ∙ trigger-at
 
--- moves by number
-
-pub move-rest : (k : ℕ) → k ≡ restMove → moveOf k ≡ rest
-move-rest k e = ap moveOf e ∙ moveOf-rest
-
-pub move-add : (k : ℕ) → restMove ≤ k → (k ≡ restMove → ⊥) → moveOf k ≡ add (k - firstAdd)
-move-add k h e = let at : k ≡ firstAdd + (k - firstAdd) = omega arith in ap moveOf at ∙ moveOf-add (k - firstAdd)
-
 -- where the air is taken, only the move without a row leads somewhere
 pub taken-nowhere : (h : Shape) (m : Monitor) (recorded : Option ℕ) (s : Situation) (k : ℕ) → (k ≡ restMove → ⊥) → (s .air ≡ 0 → ⊥) → nowhere s ≡ stepped h m recorded s (moveOf k)
 taken-nowhere h m recorded s k row e = on (decLt k restMove)
   where
     on : Dec (k < restMove) → nowhere s ≡ stepped h m recorded s (moveOf k)
     on (yes l) = kept-taken h m s k e recorded ∙ ap (stepped h m recorded s) (sym (moveOf-keep k l))
-    on (no l) = added-taken h m s (k - firstAdd) e recorded ∙ ap (stepped h m recorded s) (sym (move-add k (omega arith) row))
+    on (no l) = added-taken h m s (k - firstAdd) e recorded ∙ ap (stepped h m recorded s) (sym (move-add k (omega arith)))

@@ -1,24 +1,23 @@
 -- Moves that lead nowhere, so that the code need not try them.
 use Prim.Native.Nat.{ℕ, _+_, _-_, _<_, _≤_}
-use native.Mathlib.Decide.{decLt}
 use native.Mathlib.Omega.{arith}
-use mathlib.Core.Path.{_≡_, refl}
+use mathlib.Core.Path.{_≡_, refl, sym, ap, _∙_}
 use mathlib.Core.List.{List}
-use mathlib.Core.Option.{Option, none, some, bind}
+use mathlib.Core.Option.{Option, none, some, Option·map, bind}
 use lib.ListN.{getD, getElem?}
 use lib.Dec.{eqb}
-use borrow.Author.Tests.{ne-eqb}
 use Rattle.model.specs.Limits.{transitionLimit}
 use Rattle.model.specs.Monitor.{Monitor, fires}
 use Rattle.model.specs.Table.{transitionsAt}
-use Rattle.model.specs.Situation.{Move, keep, add, sent, moved, stepBy, restMove, firstAdd, moveOf, triggerOf}
+use Rattle.model.specs.Situation.{Move, keep, add, sent, moved, stepBy, restMove, firstAdd, moveOf}
 use Rattle.model.specs.declared.Situation.{Situation}
 use Rattle.model.proofs.Basics.{getElem-tab-past}
-use Rattle.model.proofs.Instants.{moveOf-keep}
+use Rattle.model.proofs.Instants.{moveOf-keep, move-add}
 use Rattle.monitor.specs.From.{monitorFrom, transitionFrom}
 use Rattle.situation.specs.declared.Shape.{Shape}
-use Rattle.situation.specs.Stepping.{arriveFrom}
-use Rattle.situation.proofs.Moves.{neither, move-add}
+use Rattle.situation.specs.Stepping.{numberBy, arriveFrom}
+use Rattle.situation.specs.Steps.{nextOf, cappedBy, stepped}
+use Rattle.situation.proofs.Moves.{neither, next-leading, taken-nowhere}
 
 module _ (table offsets : List ℕ) (h : Shape) (s : Situation) (k : ℕ) where
   abbrev m : Monitor
@@ -51,34 +50,20 @@ module _ (table offsets : List ℕ) (h : Shape) (s : Situation) (k : ℕ) where
   -- nothing is added where a row is recorded
   pub no-addition-there : (a : ℕ) → firstAdd ≤ k → arriveFrom table offsets h (some a) s k ≡ none
   unfolding moved
-  no-addition-there a e = nowhere (some a) (add (k - firstAdd)) (move-add k (omega arith) (λ q. omega arith)) refl
+  no-addition-there a e = nowhere (some a) (add (k - firstAdd)) (move-add k (omega arith)) refl
 
   -- nor a row that the table has no transition for
   pub no-addition : firstAdd + transitionsAt table ≤ k → arriveFrom table offsets h none s k ≡ none
   unfolding moved bind monitorFrom
-  no-addition e = nowhere none (add (k - firstAdd)) (move-add k (omega arith) (λ q. omega arith)) (rw absent)
+  no-addition e = nowhere none (add (k - firstAdd)) (move-add k (omega arith)) (rw absent)
     where
       absent : getElem? (m .transitions) (k - firstAdd) ≡ none
       absent = getElem-tab-past (λ j. transitionFrom table (getD offsets j 0)) (transitionsAt table) (k - firstAdd) (omega arith)
 
   -- while the air is taken no row is kept or added
   pub air-taken : (heard : Option ℕ) → 0 < s .air → (k ≡ restMove → ⊥) → arriveFrom table offsets h heard s k ≡ none
-  unfolding moved bind sent
-  air-taken heard taken other = on (decLt k restMove)
-    where
-      unsendable : (j a : ℕ) → sent m j a s ≡ none
-      unsendable j a = rw (ne-eqb (s .air) 0 (omega arith))
-
-      kept : (a : Option ℕ) → moved m a s (keep k) ≡ none
-      kept none = refl
-      kept (some a) = unsendable k a
-
-      added-by : (a t : Option ℕ) → triggerOf m (k - firstAdd) ≡ t → moved m a s (add (k - firstAdd)) ≡ none
-      added-by none none e = rw e
-      added-by none (some b) e = rw e (unsendable (k - firstAdd) b)
-      added-by (some a) t e = refl
-
-      on : Dec (k < restMove) → arriveFrom table offsets h heard s k ≡ none
-      on (yes l) = nowhere heard (keep k) (moveOf-keep k l) (kept heard)
-      on (no l) =
-          nowhere heard (add (k - firstAdd)) (move-add k (omega arith) other) (added-by heard (triggerOf m (k - firstAdd)) refl)
+  unfolding arriveFrom stepped
+  air-taken heard taken other =
+      let next : Option Situation = stepBy m (cappedBy h) heard s (moveOf k) in
+      let none-next : next ≡ none = sym (next-leading s next) ∙ ap nextOf (sym (taken-nowhere h m heard s k other (λ e. omega (arith, e)))) in
+      ap (Option·map (numberBy h)) none-next

@@ -8,7 +8,7 @@ use Rattle.model.specs.Bytes.{byteAt}
 use Rattle.model.specs.Witness.{added}
 use Rattle.model.specs.Witness.{marked}
 use Rattle.engine.proofs.WalkRoom.{rows-put-same}
-use Rattle.engine.proofs.WalkMoves.{trigger-byte, added-one}
+use Rattle.engine.proofs.WalkMoves.{trigger-byte, row-for-one}
 use borrow.Author.Needs.{needs}
 use Rattle.engine.proofs.walk.put_added.Statement.{statement}
 use Rattle.engine.proofs.walk.put_added.Tie as tie
@@ -31,7 +31,7 @@ cast-t13 c = search needs
 put-row-requires : tie.Need-put-row-requires
 put-row-requires c κs =
     let start = c .before .before .before .before .before .before in
-    omega (arith, start .pre .3, ap length (added-one (start .args .t) (start .args .j) (start .pre .2 .0) _ (start .pre .2 .1)))
+    omega (arith, start .pre .3, ap length (row-for-one added (start .args .t) (start .args .j) (start .pre .2 .0) _ (start .pre .2 .1)))
 
 same-length : tie.Need-same-length
 same-length c = search needs
@@ -47,7 +47,7 @@ returns c =
     read .byte .ensures .0
     ∙ ap (λ (x : ℕ). byteAt (a .table .now) (x + 2)) (read .before .short .ensures .0)
     ∙ trigger-byte (a .table .now) (a .offsets .now) (start .pre .0) (a .j) kind known in
-    rows-put-same (ap (λ (k : ℕ). marked added (a .t) k (a .j) ∷ []) told ∙ sym (added-one (a .t) (a .j) kind _ known)) (called .put-row .ensures)
+    rows-put-same (ap (λ (k : ℕ). marked added (a .t) k (a .j) ∷ []) told ∙ sym (row-for-one added (a .t) (a .j) kind _ known)) (called .put-row .ensures)
 
 pub put-added-spec : {M : Type 1} → statement M
 put-added-spec =

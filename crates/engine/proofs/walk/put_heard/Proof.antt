@@ -4,7 +4,7 @@ use mathlib.Core.Path.{sym, ap}
 use lib.ListN.{length}
 use Rattle.situation.specs.Rows.{heardOf}
 use Rattle.engine.proofs.WalkRoom.{rows-put-none, rows-put-same}
-use Rattle.engine.proofs.WalkMoves.{heard-one, heard-none}
+use Rattle.engine.proofs.WalkMoves.{row-for-one, row-for-none}
 use borrow.Author.Needs.{needs}
 use Rattle.engine.proofs.walk.put_heard.Statement.{statement}
 use Rattle.engine.proofs.walk.put_heard.Tie as tie
@@ -15,7 +15,7 @@ enum-known-heard c = search needs
 put-row-requires : tie.Need-put-row-requires
 put-row-requires c κs =
     let start = c .before .before .before .before .before in
-    omega (arith, start .pre, ap length (heard-one (start .args .mark) (start .args .t) (start .args .transition) _ _ (ap heardOf (c .before .before .heard .given .1))))
+    omega (arith, start .pre, ap length (row-for-one (start .args .mark) (start .args .t) (start .args .transition) _ _ (ap heardOf (c .before .before .heard .given .1))))
 
 enum-told : tie.Need-enum-told
 enum-told c = search needs
@@ -27,12 +27,12 @@ returns : tie.Need-returns
 returns c =
     let called = c .before .before in
     let known = called .before .before .before in
-    rows-put-same (sym (heard-one _ _ _ _ _ (ap heardOf (known .heard .given .1)))) (called .put-row .ensures)
+    rows-put-same (sym (row-for-one _ _ _ _ _ (ap heardOf (known .heard .given .1)))) (called .put-row .ensures)
 
 returns-2 : tie.Need-returns-2
 returns-2 c =
     let start = c .before .before .before in
-    rows-put-same (sym (heard-none _ _ _ _ (ap heardOf (c .enum-told .given .1)))) (rows-put-none (start .args .r) (start .args .room .now) (omega (arith, start .pre)))
+    rows-put-same (sym (row-for-none _ _ _ _ (ap heardOf (c .enum-told .given .1)))) (rows-put-none (start .args .r) (start .args .room .now) (omega (arith, start .pre)))
 
 pub put-heard-spec : {M : Type 1} → statement M
 put-heard-spec =

@@ -1,7 +1,8 @@
 use mathlib.Core.Path.{ap, sym, _∙_}
 use Rattle.situation.specs.Steps.{stepped}
-use Rattle.model.proofs.Instants.{moveOf-keep}
-use Rattle.situation.proofs.Moves.{move-rest, move-add, taken-nowhere}
+use Rattle.model.proofs.Instants.{moveOf-keep, move-rest, move-add}
+use Rattle.situation.proofs.Moves.{taken-nowhere}
+use native.Mathlib.Omega.{arith}
 use borrow.Author.Needs.{needs}
 use Rattle.situation.proofs.step.next.Statement.{statement}
 use Rattle.situation.proofs.step.next.Tie as tie
@@ -31,7 +32,7 @@ added-requires : tie.Need-added-requires
 added-requires c κs = search needs
 
 returns-4 : tie.Need-returns-4
-returns-4 c = c .added .ensures ∙ ap (stepped _ _ _ _) (sym (move-add _ (c .before .if3 .left) (c .before .before .before .before .if1 .left)))
+returns-4 c = c .added .ensures ∙ ap (stepped _ _ _ _) (sym (move-add _ (omega (arith, c .before .if3 .left, c .before .before .before .before .if1 .left))))
 
 pub next-spec : {M : Type 1} → statement M
 next-spec =
