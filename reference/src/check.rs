@@ -8,13 +8,14 @@ use crate::witness::{self, in_form, Row, ADDED, KEPT, REMOVED};
 
 /// Accepted is 0 with the removed and added rows together, and all rows.
 pub fn check_witness(table: &[u8], recording: &[u8], witness: &[u8]) -> Answer {
-    settle(check_read(table, recording, witness))
+    let read = recording::read(table, recording);
+    settle(read.and_then(|(table, heard)| check_read(&table, &heard, witness)))
 }
 
-fn check_read(table: &[u8], recording: &[u8], bytes: &[u8]) -> Result<Answer, Refusal> {
-    let (table, recording) = recording::read(table, recording)?;
+/// The same, of a table and a recording that were read.
+pub fn check_read(table: &Table, recording: &Recording, bytes: &[u8]) -> Result<Answer, Refusal> {
     let witness = witness::read_rows(bytes)?;
-    let mut follower = Follower::new(&table, &recording);
+    let mut follower = Follower::new(table, recording);
     let mut before = None;
     for (number, row) in witness.rows.iter().enumerate() {
         if !in_form(before, row) || !follower.follow(row) {

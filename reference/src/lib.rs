@@ -25,6 +25,7 @@ pub mod moves;
 pub mod narrowed;
 pub mod papers;
 pub mod parts;
+pub mod reaching;
 pub mod recording;
 pub mod rewrite;
 pub mod search;

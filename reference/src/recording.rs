@@ -44,7 +44,7 @@ pub fn read(table: &[u8], bytes: &[u8]) -> Result<(Table, Recording), Refusal> {
 }
 
 /// Reads a recording against a table that is sound.
-fn read_against(table: &Table, bytes: &[u8]) -> Result<Recording, Refusal> {
+pub fn read_against(table: &Table, bytes: &[u8]) -> Result<Recording, Refusal> {
     let rows = FILE
         .body(bytes)?
         .chunks_exact(FILE.row_bytes)

@@ -3,10 +3,11 @@
 use crate::answer::{settle, Answer, Refusal};
 use crate::frame::put;
 use crate::moves::Moves;
-use crate::recording;
+use crate::recording::{self, Recording};
 use crate::search::Search;
 use crate::set;
 use crate::situation::Space;
+use crate::table::Table;
 use crate::witness;
 
 /// Lends `scratch` to the search and leaves the witness at the start of `room`.
@@ -17,18 +18,19 @@ pub fn validate(
     scratch: &mut [u8],
     room: &mut [u8],
 ) -> Answer {
-    settle(validate_read(table, recording, budget, scratch, room))
+    let read = recording::read(table, recording);
+    settle(read.and_then(|(table, heard)| validate_read(&table, &heard, budget, scratch, room)))
 }
 
-fn validate_read(
-    table: &[u8],
-    recording: &[u8],
+/// The same, of parts that were read.
+pub fn validate_read(
+    table: &Table,
+    recording: &Recording,
     budget: u32,
     scratch: &mut [u8],
     room: &mut [u8],
 ) -> Result<Answer, Refusal> {
-    let (table, recording) = recording::read(table, recording)?;
-    let space = Space::of(&table);
+    let space = Space::of(table);
     let last_time = recording.last_time();
     let set_size = set::size(space.count());
 
@@ -40,7 +42,7 @@ fn validate_read(
     }
 
     let instants = recording.instants();
-    let moves = Moves::new(&table, &space);
+    let moves = Moves::new(table, &space);
     let first = space.number(&space.first());
     let answer = match (Search { instants: &instants, moves, layers, set_size }).run(first, budget)
     {

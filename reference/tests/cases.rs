@@ -10,14 +10,18 @@ fn every_number_comes_often_and_p5_is_printed_whole() {
     let made = cases(1).expect("writing to memory");
     assert!(made.from_files.values().sum::<usize>() >= 5_000);
     let list =
-        [0, 1, 2, 10, 11, 12, 13, 14, 15, 16, 20, 21, 22, 23, 24, 30, 31, 33, 40, 41, 42, 43];
+        [0, 1, 2, 10, 11, 12, 13, 14, 15, 16, 17, 20, 21, 22, 23, 24, 30, 31, 33, 40, 41, 42, 43];
     for number in list {
         assert!(made.from_files.get(&number).is_some_and(|times| *times >= 20), "number {number}");
     }
-    for number in [12, 14, 15, 16, 22, 23, 24, 33, 42, 43] {
+    for number in [12, 14, 15, 16, 17, 22, 23, 24, 33, 42, 43] {
         for numbers in [&made.from_writing, &made.from_back] {
             assert!(numbers.get(&number).is_some_and(|times| *times >= 20), "writing {number}");
         }
+    }
+    for state in 1..16 {
+        let times = made.dead_states.get(&state);
+        assert!(times.is_some_and(|times| *times >= 20), "dead state {state}");
     }
     for bytes in 0..8 {
         let times = made.last_words.get(&bytes);

@@ -2,7 +2,8 @@
 
 mod before;
 
-use before::{BEFORE, NEEDS_NO_AIR, TAKES_NO_AIR};
+use before::air::{BEFORE, NEEDS_NO_AIR, TAKES_NO_AIR};
+use before::states::{Rule, OTHERS};
 use lutarosa_reference::answer::Answer;
 use lutarosa_reference::call::{Engine, Validate, ORDINARY};
 use lutarosa_reference::check::check_witness;
@@ -194,6 +195,18 @@ fn air_of_removed_packets() {
     }
     let rewrite_witness = BEFORE.rewrite_witness;
     finds("two rows at one time", Engine { rewrite_witness, ..ORDINARY });
+}
+
+#[test]
+fn states_that_cannot_be_reached() {
+    for rule in &OTHERS {
+        finds(rule.name, rule.engine);
+    }
+    let Rule { name, engine, .. } = &OTHERS[0];
+    finds_validate(name, engine.validate);
+    finds(name, Engine { check: engine.check, ..ORDINARY });
+    finds(name, Engine { rewrite_table: engine.rewrite_table, ..ORDINARY });
+    finds(name, Engine { rewrite_recording: engine.rewrite_recording, ..ORDINARY });
 }
 
 #[test]

@@ -2,7 +2,7 @@
 
 mod common;
 
-use common::file;
+use common::{chain, monitor_with};
 use lutarosa_reference::desk::{report, run};
 use lutarosa_reference::papers::{recording, ACK, DATA, RETRY, SMALL_MONITOR};
 
@@ -21,6 +21,8 @@ fn verdicts() {
     assert_eq!(lines(&[(1, RETRY)], 1), "rejected 1 1\n");
     assert_eq!(lines(&[(1, DATA), (3, ACK), (6, RETRY)], 7), "exhausted 7 5\n");
     assert_eq!(lines(&[(1, DATA), (2, DATA)], 7), "refused 24 1\n");
+    let dead = input(&monitor_with(&[(3, 4)]), &recording(&[(1, DATA), (2, DATA)]), 7);
+    assert_eq!(report(&dead), "refused 17 3\n");
     let added = "accepted 5 3\nkept 1 0 0\nadded 3 2 1\nkept 4 0 0\n";
     assert_eq!(lines(&[(1, DATA), (4, DATA)], 5), added);
 }
@@ -64,7 +66,7 @@ fn the_table_is_what_its_length_states_or_all() {
 /// are all the scratch there is.
 #[test]
 fn scratch_of_65_536() {
-    let table = file(&[1, 16, 4, 1, 1, 1, 1, 0, 0, 0, 0, 0, 0, 0, 3, 1, 0, 254]);
+    let table = chain(16, 4, &[1, 0, 254]);
     let heard = |time| input(&table, &recording(&[(time, 0)]), 100_000);
     assert_eq!(report(&heard(8)), "refused 30 73728\n");
     assert!(report(&heard(7)).starts_with("accepted "));

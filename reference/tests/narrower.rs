@@ -2,18 +2,18 @@
 //! and from itself half made.
 
 mod before;
+mod recorded;
 
 use std::collections::BTreeMap;
-use std::sync::LazyLock;
 
-use before::{BEFORE, NEEDS_NO_AIR, NOW, TAKES_NO_AIR};
+use before::air::{BEFORE, NEEDS_NO_AIR, NOW, TAKES_NO_AIR};
 use lutarosa_reference::answer::Answer;
 use lutarosa_reference::brute::{first_dead_instant, works};
 use lutarosa_reference::call::{Call, Engine, Outcome, ORDINARY};
-use lutarosa_reference::cases::cases;
 use lutarosa_reference::narrowed::{CHECKED, NARROWED};
 use lutarosa_reference::recording::read;
 use lutarosa_reference::witness::{read_rows, REMOVED};
+use recorded::RECORDED;
 
 const LEAST: usize = 20;
 
@@ -27,40 +27,10 @@ const REMOVED_IN: &str = "check: a removed row in the airtime of another";
 
 type Tally = BTreeMap<&'static str, usize>;
 
-static RECORDED: LazyLock<Vec<Call>> =
-    LazyLock::new(|| recorded(&cases(1).expect("writing to memory").input));
-
-/// The validations, checks and rewritten witnesses of a batch; `cases` says how it is laid out.
-fn recorded(batch: &[u8]) -> Vec<Call> {
-    let mut calls = Vec::new();
-    let mut rest = batch;
-    while let Some((head, behind)) = rest.split_first_chunk::<25>() {
-        let number = |place: usize| {
-            let bytes = head[1 + 4 * place..].first_chunk().expect("six numbers");
-            u32::from_be_bytes(*bytes)
-        };
-        rest = behind;
-        let [table, recording, witness] = [3, 4, 5].map(|place| {
-            let (file, after) = rest.split_at(number(place) as usize);
-            rest = after;
-            file.to_vec()
-        });
-        let [scratch, room] = [1, 2].map(|place| vec![0; number(place) as usize]);
-        let budget = number(0);
-        calls.extend(match head[0] {
-            0 => Some(Call::Validate { table, recording, budget, scratch, room }),
-            1 => Some(Call::Check { table, recording, witness }),
-            4 => Some(Call::RewriteWitness { bytes: table, room }),
-            _ => None,
-        });
-    }
-    calls
-}
-
 /// How the recorded cases differ under other rules.
 fn tally(other: &Engine) -> Tally {
     let mut tally = Tally::new();
-    for call in RECORDED.iter() {
+    for call in RECORDED.calls.iter() {
         let (before, now) = (call.run(other), call.run(&ORDINARY));
         if before != now {
             *tally.entry(call.name()).or_default() += 1;
@@ -136,7 +106,7 @@ fn the_rules_written_again_are_the_same() {
 /// Two rows never share an instant, so there are at most T of them.
 #[test]
 fn preferred_witnesses_have_at_most_a_row_an_instant() {
-    for call in RECORDED.iter() {
+    for call in RECORDED.calls.iter() {
         let Call::Validate { table, recording, .. } = call else { continue };
         let Answer { number: 0, third: rows, .. } = call.run(&ORDINARY).answer else { continue };
         let (_, heard) = read(table, recording).expect("accepted");

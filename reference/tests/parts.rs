@@ -162,17 +162,32 @@ fn number_15_guard_lengths_in_their_place() {
     assert_eq!(back.transitions[0].guard, deepest.transitions[0].guard);
 }
 
-/// 2 x 4 x 9 x 16 is 1,152; with 16 states and 4 variables and M at 14 it is 16 x 16 x 16 x 16.
+/// 2 x 4 x 9 x 16 is 1,152; with 4 variables and M at 126 it is 2 x 16 x 128 x 16.
 #[test]
 fn number_16_situations() {
     let sized = |limit: u8| {
         let mut it = table();
-        (it.counts[0], it.counts[1]) = (16, 4);
+        it.counts[1] = 4;
         it.transitions[1].guard[2] = limit;
         it
     };
-    assert_eq!(table_back(&sized(14), &mut [0; 29]).0, answer(0, 0, 0));
-    refused(&Parts::Table(sized(15)), 16, 0);
+    assert_eq!(table_back(&sized(126), &mut [0; 29]).0, answer(0, 0, 0));
+    refused(&Parts::Table(sized(127)), 16, 0);
+}
+
+/// State 0 leads to 1 and back. Records beyond the counts lead nowhere.
+#[test]
+fn number_17_dead_states() {
+    refused(&with_count(0, 3), 17, 2);
+    refused(&with_count(0, 16), 17, 2);
+    refused(&with_count(4, 0), 17, 1);
+    refused(&with_fields(&[(0, 1, 0)]), 17, 1);
+    refused(&with_fields(&[(0, 0, 1)]), 17, 1);
+    let mut swapped = table();
+    swapped.transitions.swap(0, 1);
+    assert_eq!(Parts::Table(swapped.clone()).wanted(), Some(29));
+    swapped.counts[4] = 1;
+    refused(&Parts::Table(swapped), 17, 1);
 }
 
 #[test]
@@ -230,7 +245,8 @@ fn the_table_comes_before_the_count() {
     let parts = heard(513, 0, &[]);
     refused(&Parts::Recording(vec![], parts.clone()), 10, 0);
     refused(&Parts::Recording(monitor_with(&[(2, 9)]), parts.clone()), 11, 2);
-    refused(&Parts::Recording(monitor_with(&[(20, 33)]), parts), 15, 14);
+    refused(&Parts::Recording(monitor_with(&[(20, 33)]), parts.clone()), 15, 14);
+    refused(&Parts::Recording(monitor_with(&[(3, 4)]), parts), 17, 3);
 }
 
 fn witness(count: u16, filler: u8, rows: &[(u8, u16, u8, u8)]) -> Parts {

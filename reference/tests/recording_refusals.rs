@@ -2,7 +2,7 @@
 
 mod common;
 
-use common::{answer, changed, file, monitor_with, resized};
+use common::{answer, chain, file, monitor_with, resized};
 use lutarosa_reference::answer::Refusal;
 use lutarosa_reference::papers::{recording, ACK, DATA, RETRY, SMALL_MONITOR};
 use lutarosa_reference::recording::{read, write, Heard, Recording};
@@ -87,6 +87,8 @@ fn number_24_overlap() {
 fn the_table_comes_first() {
     refused_with(&monitor_with(&[(2, 9)]), &[], 11, 2);
     refused_with(&[], &recording(&[(0, 9)]), 10, 0);
+    refused_with(&monitor_with(&[(3, 4)]), &[], 17, 3);
+    refused_with(&monitor_with(&[(3, 4)]), &recording(&[(1, DATA)]), 17, 3);
 }
 
 #[test]
@@ -102,6 +104,8 @@ fn writing() {
     assert_eq!(room, [0, 6, 1, 0, 1, 1, 2, ACK, 0x5A]);
     let unsound = monitor_with(&[(20, 0)]);
     assert_eq!(write(&unsound, &heard(&[(0, 0)]), &mut room), answer(15, 14, 0));
+    let dead = monitor_with(&[(3, 4)]);
+    assert_eq!(write(&dead, &heard(&[(1, ACK); 513]), &mut room), answer(17, 3, 0));
 }
 
 /// T is 6 and n is 3: 7 sets of 6 bytes, and 5 + 5 x 9 of room.
@@ -126,8 +130,8 @@ fn numbers_30_and_31() {
 /// N 10 is not a multiple of 8: S is 2.
 #[test]
 fn a_set_is_rounded_up() {
-    let table = file(&[1, 5, 0, 1, 1, 0, 1, 0]);
-    let empty = changed(&recording(&[]), &[]);
+    let table = chain(5, 0, &[0]);
+    let empty = recording(&[]);
     let it = validate(&table, &empty, 0, &mut [0; 1], &mut [0; 5]);
     assert_eq!(it, answer(30, 2, 0));
     let it = validate(&table, &empty, 0, &mut [0; 2], &mut [0; 5]);

@@ -1,11 +1,11 @@
-//! Numbers 10 to 16, with answers worked out by hand from the list.
+//! Numbers 10 to 17, with answers worked out by hand from the list.
 //!
 //! The small monitor's kinds stand at 8, 10 and 12; its transitions at 14, 22, 32, 47 and 57;
 //! it ends at 68.
 
 mod common;
 
-use common::{answer, changed, file, monitor_with, resized};
+use common::{answer, chain, changed, file, monitor_with, resized};
 use lutarosa_reference::answer::Refusal;
 use lutarosa_reference::papers::SMALL_MONITOR;
 use lutarosa_reference::rewrite::rewrite_table;
@@ -153,17 +153,55 @@ fn guards_of_32_bytes() {
 /// 16 x 16 x 256 is 65,536, and with M one higher it is 65,792.
 #[test]
 fn number_16_situations() {
-    let table = |limit| file(&[1, 16, 4, 1, 1, 1, 1, 0, 0, 0, 0, 0, 0, 0, 3, 1, 0, limit]);
+    let table = |limit| chain(16, 4, &[1, 0, limit]);
     assert!(read(&table(254)).is_ok());
     refused(&table(255), 16, 0);
     // Left over bytes come before it.
-    refused(&resized(&table(255), 22), 13, 20);
+    refused(&resized(&table(255), 162), 13, 160);
     // Airtime counts too, and so does a clock that no guard names: 16 x 16 x 256 x 2.
     refused(&changed(&table(254), &[(9, 1)]), 16, 0);
     refused(&changed(&table(254), &[(5, 2)]), 16, 0);
     // A clock compared with 0 has 0 and above: 16 x 16 x 2 x 2.
     let zero = changed(&table(0), &[(5, 2), (9, 15)]);
     assert!(read(&zero).is_ok());
+}
+
+/// The small monitor leads from 0 to 1 at 14, from 1 to 2 at 32, from 2 to 1 at 57, and back to 0.
+#[test]
+fn number_17_dead_states() {
+    // More states than are led to: the lowest of them.
+    refused(&monitor_with(&[(3, 4)]), 17, 3);
+    refused(&monitor_with(&[(3, 16)]), 17, 3);
+    // Nothing leads out of 0, or to 2; but 2 may lead to 1.
+    refused(&monitor_with(&[(15, 0)]), 17, 1);
+    refused(&monitor_with(&[(14, 1)]), 17, 1);
+    refused(&monitor_with(&[(33, 1)]), 17, 2);
+    refused(&monitor_with(&[(33, 0)]), 17, 2);
+    assert!(read(&monitor_with(&[(15, 2)])).is_ok());
+    // A state that leads to itself alone, and one whose link never holds.
+    let two = |from: u8, to: u8| file(&[1, 2, 0, 0, 1, 1, 0, 0, from, to, 0, 0, 0, 0, 2, 4, 0]);
+    refused(&two(1, 1), 17, 1);
+    refused(&two(0, 0), 17, 1);
+    refused(&two(1, 0), 17, 1);
+    assert!(read(&two(0, 1)).is_ok());
+    // No transition at all.
+    let none = |states: u8| file(&[1, states, 0, 0, 1, 0, 0, 0]);
+    assert!(read(&none(1)).is_ok());
+    refused(&none(2), 17, 1);
+    refused(&none(16), 17, 1);
+}
+
+/// In the chain state 0 leads to 1 at 10, and 14 to 15 at 150.
+#[test]
+fn number_17_comes_last() {
+    let table = |limit, changes: &[(usize, u8)]| changed(&chain(16, 4, &[1, 0, limit]), changes);
+    refused(&table(254, &[(11, 0)]), 17, 1);
+    refused(&table(254, &[(151, 14)]), 17, 15);
+    refused(&table(255, &[(11, 0)]), 16, 0);
+    refused(&resized(&table(254, &[(11, 0)]), 161), 13, 160);
+    refused(&resized(&table(254, &[(11, 0)]), 159), 13, 150);
+    refused(&table(254, &[(11, 0), (152, 1)]), 14, 150);
+    refused(&table(254, &[(11, 0), (157, 6)]), 15, 150);
 }
 
 fn parts() -> Table {
@@ -218,4 +256,13 @@ fn writing_too_many_situations() {
     let mut table = Table { states: 16, variables: 4, ..parts() };
     table.transitions[4].guard = vec![4, 1, 0, 255];
     writes(&table, 16, 0);
+}
+
+#[test]
+fn writing_dead_states() {
+    writes(&Table { states: 4, ..parts() }, 17, 3);
+    writes(&Table { transitions: Vec::new(), ..parts() }, 17, 1);
+    let mut table = parts();
+    table.transitions[2].to = 1;
+    writes(&table, 17, 2);
 }

@@ -195,6 +195,7 @@ fn number_43_first_of_all_rules() {
 fn table_then_recording_then_witness() {
     let bad_witness = [0, 9];
     assert_eq!(check_witness(&monitor_with(&[(2, 0)]), &[], &bad_witness), answer(11, 2, 0));
+    assert_eq!(check_witness(&monitor_with(&[(3, 4)]), &[], &bad_witness), answer(17, 3, 0));
     assert_eq!(check_witness(&SMALL_MONITOR, &[], &bad_witness), answer(20, 0, 0));
     let heard = recording(&[(0, DATA)]);
     assert_eq!(check_witness(&SMALL_MONITOR, &heard, &bad_witness), answer(23, 0, 0));

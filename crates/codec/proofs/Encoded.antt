@@ -160,7 +160,7 @@ module _ (t : TableParts) where
         let same : tableCounts (tableBytes t) ≡ counts = counts-same ∙ sym is in
         let b = tableBytes t in
         let scan : tableScan b ≡ counts = rw (frame-sound h, same) (stops counts _ e) in
-        scan-all b ∙ rw scan (stops counts (unless (leb (size (monitorOf (tableParts b))) sizeLimit) TableSize) e)
+        scan-all b ∙ rw scan (stops counts _ e)
 
     pub write-early : (room : List ℕ) → t .kinds ≤ 255 → t .transitions ≤ 255 → (why : Refusal) → counts ≡ Unsound why → Writes (writeTable t room) (Unwritten why) room
     unfolding writeTable

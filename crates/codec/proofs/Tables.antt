@@ -3,7 +3,7 @@ use Prim.Native.Nat.{ℕ, zero, suc, _+_, _-_, _*_, _^_, _≤_, _<_, min}
 use native.Mathlib.Omega.{arith}
 use native.Mathlib.Nat.{sub-zero}
 use native.Mathlib.Numerals.{add-one}
-use mathlib.Core.Path.{_≡_, refl, sym, _∙_}
+use mathlib.Core.Path.{_≡_, refl, sym, ap, _∙_}
 use mathlib.Core.List.{List, [], _∷_}
 use mathlib.Core.Bool.{Bool, true, false, _&&_}
 use lib.Dec.{leb, ltb}
@@ -13,7 +13,9 @@ use Rattle.model.specs.Limits.{stateLimit, variableLimit, clockLimit, kindLimit
 use Rattle.model.specs.Bytes.{byteAt, joined, padded}
 use Rattle.model.specs.First.{unless, andThen, firstOf, isSound}
 use Rattle.model.specs.Frame.{framed}
+use Rattle.model.specs.Monitor.{Monitor}
 use Rattle.model.specs.Size.{size}
+use Rattle.model.specs.Reach.{statesAnswer}
 use Rattle.model.specs.Table.{countsOf, tableCounts, kindRecords, apart, transitionFields, guardRecord, transitionRecord, transitionRecords, statesAt, variablesAt, clocksAt, kindsAt, transitionsAt, kindAt, transitionAt, guardLengthAt, guardPlace, tableScan, tableAnswer, tableParts, noTable, readTable, monitorOf}
 use Rattle.model.specs.declared.TableParts.{TableParts}
 use Rattle.model.specs.declared.TableReading.{TableReading}
@@ -79,15 +81,18 @@ fields-row b at es ev ec ek e0 e1 e2 e3 e4 e5 p q =
     (apart (variablesAt b) (byteAt b (at + 3)) (byteAt b (at + 4)))
     (TableField at))
 
+abbrev wholeAnswer : Monitor → Reading
+wholeAnswer m = andThen (unless (leb (size m) sizeLimit) TableSize) (statesAnswer m)
+
 module _ (b : List ℕ) where
   pub record-row : (at : ℕ) → transitionRecord b at ≡ andThen (unless (leb (at + 7) (length b)) (TableLength at)) (andThen (transitionFields b at) (guardRecord b at))
   unfolding transitionRecord
   record-row at = simp then-sound
 
-  -- 16 comes after the scan
-  pub scan-all : tableAnswer b ≡ andThen (tableScan b) (unless (leb (size (monitorOf (tableParts b))) sizeLimit) TableSize)
+  -- 16 comes after the scan, and 17 last
+  pub scan-all : tableAnswer b ≡ andThen (tableScan b) (wholeAnswer (monitorOf (tableParts b)))
   unfolding tableAnswer
-  scan-all = simp then-sound
+  scan-all = rw (then-sound (statesAnswer (monitorOf (tableParts b))))
 
   pub record-bound : (at : ℕ) → transitionRecord b at ≡ Sound → (guardLengthAt b at ≤ guardLimit) × (at + 7 + guardLengthAt b at ≤ length b)
   record-bound at h = let t = sound-transition b at h in (t .few, t .fits)
@@ -160,9 +165,13 @@ pub read-refused : (b : List ℕ) (r : Reading) (p : TableParts) → r ≡ table
 unfolding readTable
 read-refused b r p e h q = rw (← e, h, q)
 
-pub read-sound : (b : List ℕ) (p : TableParts) → tableAnswer b ≡ Sound → p ≡ tableParts b → _≡_ {A = TableReading} (record { answer = Sound; parts = p }) (readTable b)
+pub read-sound : (b : List ℕ) (r : Reading) (p : TableParts) → r ≡ tableAnswer b → r ≡ Sound → p ≡ tableParts b → _≡_ {A = TableReading} (record { answer = r; parts = p }) (readTable b)
 unfolding readTable
-read-sound b p e q = rw (e, q)
+read-sound b r p e h q = rw (← e, h, q)
+
+-- 16 and 17 of the parts that were read
+pub whole-of : (b : List ℕ) (r : Reading) (p : TableParts) → tableAnswer b ≡ wholeAnswer (monitorOf (tableParts b)) → p ≡ tableParts b → r ≡ wholeAnswer (monitorOf p) → r ≡ tableAnswer b
+whole-of b r p all e is = is ∙ ap (λ (t : TableParts). wholeAnswer (monitorOf t)) e ∙ sym all
 
 -- N that was cut at one above the limit
 pub size-over : (n r : ℕ) → r ≡ min n (sizeLimit + 1) → sizeLimit < r → leb n sizeLimit ≡ false

@@ -18,6 +18,7 @@ use model::TableParts;
 use model::TableReading;
 use model::VARIABLE_LIMIT;
 use model::Writing;
+use reach::states_answer;
 use wire::byte;
 use wire::place;
 ghost use mathlib.Core.Path.{_≡_};
@@ -25,14 +26,18 @@ ghost use Prim.Native.Nat.{ℕ, _+_, _-_, _*_, _%_, _<_, _≤_, _^_, min};
 ghost use mathlib.Core.Bool.{_&&_};
 ghost use mathlib.Core.List.{List, _++_};
 ghost use lib.ListN.{length};
-ghost use lib.Dec.{ltb, eqb};
-ghost use Rattle.model.specs.Answers.{Reads, Writes};
-ghost use Rattle.model.specs.Limits.{kindLimit, transitionLimit, guardLimit, tableLimit};
+ghost use lib.Dec.{leb, ltb, eqb};
+ghost use Rattle.model.specs.Answers.{Reads, RefusesUnreached, Writes};
+ghost use Rattle.model.specs.First.{unless, andThen};
+ghost use Rattle.model.specs.Limits.{kindLimit, transitionLimit, guardLimit, sizeLimit, tableLimit};
+ghost use Rattle.model.specs.Size.{size};
+ghost use Rattle.model.specs.Reach.{statesAnswer};
 ghost use Rattle.model.specs.Bytes.{wordBytes, joined, padded};
 ghost use Rattle.model.specs.Room.{over};
 ghost use Rattle.wire.specs.Placed.{placed};
 ghost use Rattle.model.specs.declared.Reading.the-variants.{Sound};
-ghost use Rattle.model.specs.Table.{countsOf, kindRecord, kindRecords, apart, transitionFields, guardRecord, transitionRecord, transitionRecords, kindsAt, kindAt, transitionsAt, kindColumn, transitionColumn, guardPlace, tableParts, noTable, tableScan, tableAnswer, readTable, kindBytes, fieldBytes, guardBytesIn, transitionBytes, countBytes, tableBytes, writeTable};
+ghost use Rattle.model.specs.declared.Refusal.the-variants.{TableSize};
+ghost use Rattle.model.specs.Table.{countsOf, kindRecord, kindRecords, apart, transitionFields, guardRecord, transitionRecord, transitionRecords, kindsAt, kindAt, transitionsAt, kindColumn, transitionColumn, guardPlace, tableParts, noTable, tableScan, tableAnswer, readTable, monitorOf, kindBytes, fieldBytes, guardBytesIn, transitionBytes, countBytes, tableBytes, writeTable};
 
 // Limits of counts and of a guard's length, which are bytes.
 const KINDS: u8 = KIND_LIMIT as u8;
@@ -249,7 +254,7 @@ fn transition_records(b: &[u8]) -> Reading
     Reading::Sound
 }
 
-// All of the table's numbers but 16.
+// The numbers 10 to 15.
 fn table_scan(b: &[u8]) -> Reading
     ensures { λ r. ⌜ r ≡ tableScan (now (b .entry)) ⌝ }
 {
@@ -368,9 +373,27 @@ fn no_table() -> TableParts
     }
 }
 
+fn size_answer(t: TableParts) -> Reading
+    ensures { λ r. ⌜ r ≡ unless (leb (size (monitorOf t)) sizeLimit) TableSize ⌝ }
+{
+    if SIZE_LIMIT < table_size(t) {
+        return Reading::Unsound(Refusal::TableSize);
+    }
+    Reading::Sound
+}
+
+// 16, then 17: what is asked of the whole table.
+fn whole_answer(t: TableParts) -> Reading
+    ensures { λ r. ⌜ r ≡ andThen (unless (leb (size (monitorOf t)) sizeLimit) TableSize) (statesAnswer (monitorOf t)) ⌝ }
+{
+    let size = size_answer(t);
+    let states = states_answer(t);
+    if sound(size) { states } else { size }
+}
+
 pub fn read_table(b: &[u8]) -> TableReading
     ensures { λ r. ⌜ r ≡ readTable (now (b .entry)) ⌝ }
-    ensures { λ r. ⌜ Reads (tableAnswer (now (b .entry))) (tableParts (now (b .entry))) noTable (r .answer) (r .parts) ⌝ }
+    ensures { λ r. ⌜ Reads (tableAnswer (now (b .entry))) (tableParts (now (b .entry))) noTable (r .answer) (r .parts) × RefusesUnreached (now (b .entry)) (r .answer) ⌝ }
 {
     let scan = table_scan(b);
     if !sound(scan) {
@@ -380,14 +403,15 @@ pub fn read_table(b: &[u8]) -> TableReading
         };
     }
     let parts = table_parts(b);
-    if SIZE_LIMIT < table_size(parts) {
+    let whole = whole_answer(parts);
+    if !sound(whole) {
         return TableReading {
-            answer: Reading::Unsound(Refusal::TableSize),
+            answer: whole,
             parts: no_table(),
         };
     }
     TableReading {
-        answer: Reading::Sound,
+        answer: whole,
         parts,
     }
 }
@@ -395,6 +419,7 @@ pub fn read_table(b: &[u8]) -> TableReading
 // The table's numbers alone.
 pub fn table_answer(b: &[u8]) -> Reading
     ensures { λ r. ⌜ r ≡ tableAnswer (now (b .entry)) ⌝ }
+    ensures { λ r. ⌜ RefusesUnreached (now (b .entry)) r ⌝ }
 {
     let reading = read_table(b);
     reading.answer

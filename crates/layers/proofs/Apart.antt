@@ -5,8 +5,7 @@ use mathlib.Core.Logic.{_⊎_, inl, inr}
 use mathlib.Core.Bool.{true, or-true}
 use lib.Dec.{leb}
 use borrow.Author.Tests.{le-leb, leb-true}
-use Rattle.model.proofs.Basics.{and-left, and-right}
-use Rattle.model.proofs.SetLaws.{or-cases}
+use Rattle.model.proofs.Basics.{and-left, and-right, or-cases}
 use Rattle.layers.specs.Advance.{apart}
 
 module _ (from to size bits : ℕ) where

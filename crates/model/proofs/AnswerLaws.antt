@@ -1,9 +1,9 @@
 -- An answer that is the definition's has the definition's numbers.
 use Prim.Native.Nat.{ℕ}
-use mathlib.Core.Path.{_≡_, ap, _∙_}
+use mathlib.Core.Path.{_≡_, sym, ap, subst, _∙_}
 use mathlib.Core.List.{List}
 use mathlib.Core.Bool.{cond}
-use Rattle.model.specs.Answers.{Reads, Writes}
+use Rattle.model.specs.Answers.{Reads, RefusesUnreached, Writes}
 use Rattle.model.specs.First.{isSound}
 use Rattle.model.specs.Numbers.{readingValues, writingValues}
 use Rattle.model.specs.Room.{Lent}
@@ -15,6 +15,7 @@ use Rattle.model.specs.declared.RecordingReading.{RecordingReading}
 use Rattle.model.specs.declared.WitnessReading.{WitnessReading}
 use Rattle.model.specs.declared.Reading.{Reading}
 use Rattle.model.specs.declared.Writing.{Writing}
+use Rattle.model.proofs.TableStates.{refuses-unreached}
 
 pub reads-by : {P : Type 0} (given : Reading) (whole none : P) (answer : Reading) (parts : P) → answer ≡ given → parts ≡ cond (isSound given) whole none
     → Reads given whole none answer parts
@@ -26,9 +27,12 @@ reads-by given whole none answer parts same are =
 
 -- what the three readings promise
 
-pub table-reads : (b : List ℕ) (x : TableReading) → x ≡ readTable b → (x ≡ readTable b) × Reads (tableAnswer b) (tableParts b) noTable (x .answer) (x .parts)
+pub table-reads : (b : List ℕ) (x : TableReading) → x ≡ readTable b 
+    → (x ≡ readTable b) × (Reads (tableAnswer b) (tableParts b) noTable (x .answer) (x .parts) × RefusesUnreached b (x .answer))
 unfolding readTable
-table-reads b x e = (e, reads-by _ _ _ _ _ (ap (λ (y : TableReading). y .answer) e) (ap (λ (y : TableReading). y .parts) e))
+table-reads b x e =
+    let answer : x .answer ≡ tableAnswer b = ap (λ (y : TableReading). y .answer) e in
+    (e, (reads-by _ _ _ _ _ answer (ap (λ (y : TableReading). y .parts) e), subst (λ (r : Reading). RefusesUnreached b r) (sym answer) (refuses-unreached b)))
 
 pub recording-reads : (table b : List ℕ) (x : RecordingReading) → x ≡ readRecording table b
     → (x ≡ readRecording table b) × Reads (recordingAnswer table b) (recordingParts b) noRecording (x .answer) (x .parts)

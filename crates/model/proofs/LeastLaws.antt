@@ -11,9 +11,9 @@ use mathlib.Core.Logic.{_⊎_, inl, inr, _↔_}
 use lib.ListN.{length, getD, replicate, length-replicate, getD-replicate}
 use Rattle.model.specs.Bytes.{tab}
 use Rattle.model.specs.Layers.{leadsInto, firstFrom, leads, live, alive, arrived, walk, later, leastFrom, leastMoves}
-use Rattle.model.proofs.Basics.{length-tab, getD-tab}
+use Rattle.model.proofs.Basics.{or-cases, or-left, or-right, length-tab, getD-tab}
 use Rattle.model.proofs.Chains.{Leads, Less}
-use Rattle.model.proofs.SetLaws.{member-within, leadsInto-member, or-cases, or-left, or-right, FirstOf, firstFrom-first}
+use Rattle.model.proofs.SetLaws.{member-within, leadsInto-member, FirstOf, firstFrom-first}
 
 module _ (N K : ℕ) (step : ℕ → ℕ → ℕ → Option ℕ) where
   -- one of the first k moves leads at instant t from n into s

@@ -2,8 +2,10 @@ pub mod Basics
 pub mod Chains
 pub mod Places
 pub mod Tests
+pub mod Reaching
 pub mod GuardForm
 pub mod TableForm
+pub mod TableStates
 pub mod TableTrip
 pub mod RecordingForm
 pub mod WitnessForm

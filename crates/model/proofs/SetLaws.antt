@@ -89,18 +89,6 @@ pub leadsInto-member : (s : List Bool) (o : Option ℕ) → (leadsInto s o ≡ t
 leadsInto-member s none = (λ e. absurd (false≢true e), λ w. cc (w .1))
 leadsInto-member s (some n) = (λ e. (n, refl, e), λ w. let p : n ≡ w .0 = cc (w .1) in rw p (w .2))
 
-pub or-cases : (a b : Bool) → a || b ≡ true → (a ≡ true) ⊎ (b ≡ true)
-or-cases true b e = inl refl
-or-cases false b e = inr e
-
-pub or-left : (a b : Bool) → a ≡ true → a || b ≡ true
-or-left true b e = refl
-or-left false b e = absurd (false≢true e)
-
-pub or-right : (a b : Bool) → b ≡ true → a || b ≡ true
-or-right true b e = refl
-or-right false b e = e
-
 -- r is the first of t, t + 1, .. (n of them) at which the test passes, or t + n
 pub record FirstOf (test : ℕ → Bool) (n t r : ℕ) : Type 0 where
   pub from : t ≤ r

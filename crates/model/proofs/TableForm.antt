@@ -10,20 +10,22 @@ use mathlib.Core.Option.{some}
 use lib.ListN.{length, take, drop, length-take, length-drop}
 use lib.Seq.{length-take-le}
 use lib.Dec.{leb, ltb}
-use Rattle.model.specs.Limits.{stateLimit, variableLimit, clockLimit, kindLimit, transitionLimit, guardLimit, sizeLimit}
+use Rattle.model.specs.Limits.{stateLimit, variableLimit, clockLimit, kindLimit, transitionLimit, airtimeLimit, guardLimit, sizeLimit}
 use Rattle.model.specs.Bytes.{byteAt, tab, joined}
 use Rattle.model.specs.First.{unless, firstOf}
 use Rattle.model.specs.Frame.{framed}
 use Rattle.model.specs.Guard.{upTo, guardAt, endsAt, guardOf}
 use Rattle.model.specs.Monitor.{Transition}
 use Rattle.model.specs.Size.{size}
+use Rattle.model.specs.Reach.{statesAnswer}
 use Rattle.model.specs.Table.{guardIn, transitionIn, monitorOf, statesAt, variablesAt, clocksAt, kindsAt, transitionsAt, tableCounts, countsOf, kindRecord, kindRecords, apart, guardLengthAt, transitionFields, guardRecord, transitionRecord, transitionRecords, kindAt, transitionAt, guardPlace, tableParts, tableScan, tableAnswer, SoundTable, monitorAt}
 use Rattle.model.specs.declared.Reading.{Reading}
 use Rattle.model.specs.declared.Reading.the-variants.{Sound}
+use Rattle.model.specs.declared.Refusal.{Refusal}
 use Rattle.model.specs.declared.Refusal.the-variants.{TableFrame, TableVersion, TableCount, TableLength, TableField, TableGuard, TableSize}
 use Rattle.model.proofs.Basics.{unless-sound, length-tab, getElem-tab, getElem-within}
 use Rattle.model.specs.Sane.{Sane, SaneTransition}
-use Rattle.model.proofs.Tests.{test, le-test, lt-test, eq-test, Framed, framed-facts}
+use Rattle.model.proofs.Tests.{test, le-test, lt-test, eq-test, tests, Framed, framed-facts}
 use Rattle.model.proofs.Places.{stands-part, length-padded, getD-padded, getD-column, length-joined, getD-joined}
 use Rattle.model.proofs.GuardForm.{closed-names, guard-names, guard-moved, moved-guard, ends-read}
 
@@ -37,19 +39,21 @@ pub record SoundCounts (b : List ℕ) : Type 0 where
   pub kinds : kindsAt b ≤ kindLimit
   pub transitions : transitionsAt b ≤ transitionLimit
 
+abbrev pub countTests : List ℕ → List (Bool × Refusal)
+countTests b =
+    (leb 1 (statesAt b), TableCount 3)
+    ∷ (leb (statesAt b) stateLimit, TableCount 3)
+    ∷ (leb (variablesAt b) variableLimit, TableCount 4)
+    ∷ (leb (clocksAt b) clockLimit, TableCount 5)
+    ∷ (leb 1 (kindsAt b), TableCount 6)
+    ∷ (leb (kindsAt b) kindLimit, TableCount 6)
+    ∷ (leb (transitionsAt b) transitionLimit, TableCount 7)
+    ∷ []
+
 counts : (b : List ℕ) → tableCounts b ≡ Sound → SoundCounts b
 unfolding countsOf
 counts b e =
-    let l : List Reading =
-    unless (leb 1 (statesAt b)) (TableCount 3)
-    ∷ unless (leb (statesAt b) stateLimit) (TableCount 3)
-    ∷ unless (leb (variablesAt b) variableLimit) (TableCount 4)
-    ∷ unless (leb (clocksAt b) clockLimit) (TableCount 5)
-    ∷ unless (leb 1 (kindsAt b)) (TableCount 6)
-    ∷ unless (leb (kindsAt b) kindLimit) (TableCount 6)
-    ∷ unless (leb (transitionsAt b) transitionLimit) (TableCount 7)
-    ∷ []
-    in
+    let l : List Reading = tests (countTests b) in
     record {
       states-some = le-test _ _ (TableCount 3) (test l e 0);
       states = le-test _ _ (TableCount 3) (test l e 1);
@@ -64,17 +68,15 @@ counts b e =
 pub record SoundKind (b : List ℕ) (at : ℕ) : Type 0 where
   pub fits : at + 2 ≤ length b
   pub direction : byteAt b at ≤ 1
-  pub airtime : byteAt b (at + 1) ≤ 15
+  pub airtime : byteAt b (at + 1) ≤ airtimeLimit
+
+abbrev pub kindTests : List ℕ → ℕ → List (Bool × Refusal)
+kindTests b at = (leb (at + 2) (length b), TableLength at) ∷ (leb (byteAt b at) 1, TableField at) ∷ (leb (byteAt b (at + 1)) airtimeLimit, TableField at) ∷ []
 
 soundKind : (b : List ℕ) (at : ℕ) → kindRecord b at ≡ Sound → SoundKind b at
 unfolding kindRecord
 soundKind b at e =
-    let l : List Reading =
-    unless (leb (at + 2) (length b)) (TableLength at)
-    ∷ unless (leb (byteAt b at) 1) (TableField at)
-    ∷ unless (leb (byteAt b (at + 1)) 15) (TableField at)
-    ∷ []
-    in
+    let l : List Reading = tests (kindTests b at) in
     record {
       fits = le-test _ _ (TableLength at) (test l e 0);
       direction = le-test _ _ (TableField at) (test l e 1);
@@ -95,6 +97,25 @@ pub record SoundTransition (b : List ℕ) (at : ℕ) : Type 0 where
   pub fits : at + 7 + guardLengthAt b at ≤ length b
   pub guard : endsAt (guardAt guardLimit (variablesAt b) (clocksAt b) b (at + 7) (at + 7 + guardLengthAt b at)) (at + 7 + guardLengthAt b at) ≡ true
 
+abbrev pub fieldTests : List ℕ → ℕ → List (Bool × Refusal)
+fieldTests b at =
+    (ltb (byteAt b at) (statesAt b), TableField at)
+    ∷ (ltb (byteAt b (at + 1)) (statesAt b), TableField at)
+    ∷ (ltb (byteAt b (at + 2)) (kindsAt b), TableField at)
+    ∷ (ltb (byteAt b (at + 3)) (2 ^ variablesAt b), TableField at)
+    ∷ (ltb (byteAt b (at + 4)) (2 ^ variablesAt b), TableField at)
+    ∷ (ltb (byteAt b (at + 5)) (2 ^ clocksAt b), TableField at)
+    ∷ (apart (variablesAt b) (byteAt b (at + 3)) (byteAt b (at + 4)), TableField at)
+    ∷ []
+
+abbrev pub guardTests : List ℕ → ℕ → List (Bool × Refusal)
+guardTests b at =
+    (leb 1 (guardLengthAt b at), TableGuard at)
+    ∷ (leb (guardLengthAt b at) guardLimit, TableGuard at)
+    ∷ (leb (at + 7 + guardLengthAt b at) (length b), TableLength at)
+    ∷ (endsAt (guardAt guardLimit (variablesAt b) (clocksAt b) b (at + 7) (at + 7 + guardLengthAt b at)) (at + 7 + guardLengthAt b at), TableGuard at)
+    ∷ []
+
 pub sound-transition : (b : List ℕ) (at : ℕ) → transitionRecord b at ≡ Sound → SoundTransition b at
 unfolding transitionRecord transitionFields guardRecord
 sound-transition b at e =
@@ -106,23 +127,8 @@ sound-transition b at e =
     ∷ guardRecord b at
     ∷ []
     in
-    let guards : List Reading =
-    unless (leb 1 (guardLengthAt b at)) (TableGuard at)
-    ∷ unless (leb (guardLengthAt b at) guardLimit) (TableGuard at)
-    ∷ unless (leb (at + 7 + guardLengthAt b at) (length b)) (TableLength at)
-    ∷ unless parsed (TableGuard at)
-    ∷ []
-    in
-    let fields : List Reading =
-    unless (ltb (byteAt b at) (statesAt b)) (TableField at)
-    ∷ unless (ltb (byteAt b (at + 1)) (statesAt b)) (TableField at)
-    ∷ unless (ltb (byteAt b (at + 2)) (kindsAt b)) (TableField at)
-    ∷ unless (ltb (byteAt b (at + 3)) (2 ^ variablesAt b)) (TableField at)
-    ∷ unless (ltb (byteAt b (at + 4)) (2 ^ variablesAt b)) (TableField at)
-    ∷ unless (ltb (byteAt b (at + 5)) (2 ^ clocksAt b)) (TableField at)
-    ∷ unless separate (TableField at)
-    ∷ []
-    in
+    let guards : List Reading = tests (guardTests b at) in
+    let fields : List Reading = tests (fieldTests b at) in
     let f : firstOf fields ≡ Sound = test l e 1 in
     let g : firstOf guards ≡ Sound = test l e 2 in
     record {
@@ -185,7 +191,12 @@ pub record TableFacts (b : List ℕ) : Type 0 where
 pub table-facts : (b : List ℕ) → SoundTable b → TableFacts b
 unfolding tableAnswer tableScan transitionAt
 table-facts b e =
-    let all : List Reading = tableScan b ∷ unless (leb (size (monitorOf (tableParts b))) sizeLimit) TableSize ∷ [] in
+    let all : List Reading =
+    tableScan b
+    ∷ unless (leb (size (monitorOf (tableParts b))) sizeLimit) TableSize
+    ∷ statesAnswer (monitorOf (tableParts b))
+    ∷ []
+    in
     let l : List Reading =
     framed b 8 TableFrame TableVersion
     ∷ tableCounts b

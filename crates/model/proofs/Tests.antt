@@ -1,17 +1,20 @@
 -- What passing a list of tests tells of each, and what a frame that passes ensures.
 use Prim.Native.Nat.{ℕ, zero, suc, _+_, _*_, _<_, _≤_}
-use mathlib.Core.Path.{_≡_, refl}
-use mathlib.Core.List.{List, [], _∷_}
+use native.Mathlib.Omega.{arith}
+use native.Mathlib.Decide.{decLt}
+use mathlib.Core.Path.{_≡_, refl, sym, _∙_}
+use mathlib.Core.List.{List, [], _∷_, _++_}
+use mathlib.Core.Bool.{Bool}
 use lib.ListN.{length, getD}
 use lib.Dec.{leb, ltb, eqb}
 use borrow.Author.Tests.{leb-true, ltb-true, eqb-true}
-use Rattle.model.specs.Bytes.{byteAt, wordAt}
-use Rattle.model.specs.First.{unless, firstOf}
+use Rattle.model.specs.Bytes.{byteAt, wordAt, tab}
+use Rattle.model.specs.First.{unless, andThen, firstOf}
 use Rattle.model.specs.Frame.{framed, framedRows}
 use Rattle.model.specs.declared.Refusal.{Refusal}
 use Rattle.model.specs.declared.Reading.{Reading}
-use Rattle.model.specs.declared.Reading.the-variants.{Sound}
-use Rattle.model.proofs.Basics.{unless-sound, andThen-left, andThen-right}
+use Rattle.model.specs.declared.Reading.the-variants.{Sound, Unsound}
+use Rattle.model.proofs.Basics.{unless-sound, andThen-left, andThen-right, getD-tab}
 
 -- test number i, counted from 0
 pub test : (l : List Reading) → firstOf l ≡ Sound → (i : ℕ) → getD l i Sound ≡ Sound
@@ -30,6 +33,14 @@ eq-test a b r e = eqb-true a b (unless-sound (eqb a b) r e)
 
 -- what a frame that passes ensures
 
+-- a test is a condition and the refusal where it fails
+abbrev pub tests : List (Bool × Refusal) → List Reading
+tests [] = []
+tests (x ∷ l) = unless (x .0) (x .1) ∷ tests l
+
+abbrev pub frameTests : List ℕ → ℕ → (frame version : Refusal) → List (Bool × Refusal)
+frameTests b least f v = (leb least (length b), f) ∷ (eqb (wordAt b 0 + 2) (length b), f) ∷ (eqb (byteAt b 2) 1, v) ∷ []
+
 pub record Framed (b : List ℕ) (least : ℕ) : Type 0 where
   pub frame : least ≤ length b
   pub framed : wordAt b 0 + 2 ≡ length b
@@ -38,12 +49,7 @@ pub record Framed (b : List ℕ) (least : ℕ) : Type 0 where
 pub framed-facts : (b : List ℕ) (least : ℕ) (f v : Refusal) → framed b least f v ≡ Sound → Framed b least
 unfolding framed
 framed-facts b least f v e =
-    let l : List Reading =
-    unless (leb least (length b)) f
-    ∷ unless (eqb (wordAt b 0 + 2) (length b)) f
-    ∷ unless (eqb (byteAt b 2) 1) v
-    ∷ []
-    in
+    let l : List Reading = tests (frameTests b least f v) in
     record {
       frame = le-test _ _ f (test l e 0);
       framed = eq-test _ _ f (test l e 1);
@@ -70,3 +76,44 @@ rows-facts b width limit f v c e =
       count = le-test _ _ c (test l e 1);
       sized = eq-test _ _ c (test l e 2);
     }
+
+pub sound-unsound : (r : Refusal) → Sound ≡ Unsound r → ⊥
+sound-unsound r e = let z : _≡_ {A = ℕ} 0 1 = cc in omega arith
+
+-- tests one behind the other, by number
+
+first-last : (l : List Reading) (x : Reading) → firstOf (l ++ (x ∷ [])) ≡ andThen (firstOf l) x
+first-last [] Sound = refl
+first-last [] (Unsound r) = refl
+first-last (Sound ∷ l) x = first-last l x
+first-last (Unsound r ∷ l) x = refl
+
+module _ (f : ℕ → Reading) where
+  pub first-passed : (n : ℕ) → ((i : ℕ) → i < n → f i ≡ Sound) → firstOf (tab f n) ≡ Sound
+  unfolding tab
+  first-passed zero h = refl
+  first-passed (suc n) h = first-last (tab f n) (f n) ∙ rw (first-passed n (λ i l. h i (omega arith)), h n (omega arith))
+
+  pub first-refused : (n i : ℕ) (r : Refusal) → i < n → ((k : ℕ) → k < i → f k ≡ Sound) → f i ≡ Unsound r → firstOf (tab f n) ≡ Unsound r
+  unfolding tab
+  first-refused zero i r l h e = absurd (omega arith)
+  first-refused (suc n) i r l h e = first-last (tab f n) (f n) ∙ go (decLt i n) (λ k. first-refused n i r k h e)
+    where
+      go : Dec (i < n) → (i < n → firstOf (tab f n) ≡ Unsound r) → andThen (firstOf (tab f n)) (f n) ≡ Unsound r
+      go (yes k) again = rw (again k)
+      go (no k) again = let q : i ≡ n = omega arith in rw (first-passed n (λ j p. h j (omega arith)), ← q, e)
+
+  pub passed-each : (n : ℕ) → firstOf (tab f n) ≡ Sound → (i : ℕ) → i < n → f i ≡ Sound
+  passed-each n e i l = sym (getD-tab f Sound n i l) ∙ test (tab f n) e i
+
+  pub refused-which : (n : ℕ) (r : Refusal) → firstOf (tab f n) ≡ Unsound r → (i : ℕ) × (i < n) × ((k : ℕ) → k < i → f k ≡ Sound) × (f i ≡ Unsound r)
+  unfolding tab
+  refused-which zero r e = absurd (sound-unsound r e)
+  refused-which (suc n) r e = go (firstOf (tab f n)) refl (λ h. refused-which n r h) (sym (first-last (tab f n) (f n)) ∙ e)
+    where
+      Which : ℕ → Type 0
+      Which n = (i : ℕ) × (i < n) × ((k : ℕ) → k < i → f k ≡ Sound) × (f i ≡ Unsound r)
+
+      go : (x : Reading) → firstOf (tab f n) ≡ x → (firstOf (tab f n) ≡ Unsound r → Which n) → andThen x (f n) ≡ Unsound r → Which (suc n)
+      go Sound p again h = (n, omega arith, passed-each n p, h)
+      go (Unsound q) p again h = let w : Which n = again (p ∙ h) in (w .0, omega (arith, w .1), w .2, w .3)

@@ -1,10 +1,16 @@
 -- What reading and writing promise of an answer, in document 01's number, second and third value.
-use Prim.Native.Nat.{ℕ}
+use Prim.Native.Nat.{ℕ, _<_, _≤_}
 use mathlib.Core.Path.{_≡_}
+use mathlib.Core.Logic.{_↔_}
 use mathlib.Core.List.{List}
+use Rattle.model.specs.Limits.{sizeLimit}
 use Rattle.model.specs.Room.{Lent}
+use Rattle.model.specs.Size.{size}
+use Rattle.model.specs.Reach.{Reached, LowestUnreached}
+use Rattle.model.specs.Table.{statesAt, tableScan, monitorAt}
 use Rattle.model.specs.Numbers.{values, refusalValues, readingValues, writingValues}
 use Rattle.model.specs.declared.Refusal.{Refusal}
+use Rattle.model.specs.declared.Refusal.the-variants.{TableState}
 use Rattle.model.specs.declared.Reading.{Reading}
 use Rattle.model.specs.declared.Reading.the-variants.{Sound, Unsound}
 use Rattle.model.specs.declared.Writing.{Writing}
@@ -14,6 +20,11 @@ use Rattle.model.specs.declared.Writing.{Writing}
 pub record Reads {P : Type 0} (given : Reading) (whole none : P) (answer : Reading) (parts : P) : Type 0 where
   pub sound : given ≡ Sound → (readingValues answer ≡ values 0 0 0) × (parts ≡ whole)
   pub refused : (why : Refusal) → given ≡ Unsound why → (readingValues answer ≡ refusalValues why) × (parts ≡ none)
+
+-- "Refuse with 17, after 16, a table in which some state cannot be reached from state 0 [..]; second value the lowest such state" (document 02, R-8)
+pub record RefusesUnreached (b : List ℕ) (answer : Reading) : Type 0 where
+  pub sound : answer ≡ Sound → (s : ℕ) → s < statesAt b → Reached (monitorAt b) s
+  pub refused : (s : ℕ) → (answer ≡ Unsound (TableState s)) ↔ ((tableScan b ≡ Sound) × (size (monitorAt b) ≤ sizeLimit) × LowestUnreached (monitorAt b) s)
 
 -- answer and room are the definition's
 pub record Writes (given : Lent) (answer : Writing) (room : List ℕ) : Type 0 where

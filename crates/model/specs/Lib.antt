@@ -7,6 +7,7 @@ pub mod Monitor
 pub mod Trace
 pub mod Room
 pub mod Size
+pub mod Reach
 pub mod Table
 pub mod Recording
 pub mod Witness

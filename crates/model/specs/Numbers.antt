@@ -1,7 +1,7 @@
 -- "Numbers the desk reads back": the number, second and third value of each answer.
 use Prim.Native.Nat.{ℕ}
 use Rattle.model.specs.declared.Refusal.{Refusal}
-use Rattle.model.specs.declared.Refusal.the-variants.{TableFrame, TableVersion, TableCount, TableLength, TableField, TableGuard, TableSize, RecordingFrame, RecordingVersion, RecordingCount, RecordingRange, RecordingOrder, Scratch, WitnessRoom, WriteRoom, WitnessFrame, WitnessVersion, WitnessCount, WitnessRow}
+use Rattle.model.specs.declared.Refusal.the-variants.{TableFrame, TableVersion, TableCount, TableLength, TableField, TableGuard, TableSize, TableState, RecordingFrame, RecordingVersion, RecordingCount, RecordingRange, RecordingOrder, Scratch, WitnessRoom, WriteRoom, WitnessFrame, WitnessVersion, WitnessCount, WitnessRow}
 use Rattle.model.specs.declared.Reading.{Reading}
 use Rattle.model.specs.declared.Reading.the-variants.{Sound, Unsound}
 use Rattle.model.specs.declared.Writing.{Writing}
@@ -27,6 +27,7 @@ refusalValues (TableLength offset) = values 13 offset 0
 refusalValues (TableField offset) = values 14 offset 0
 refusalValues (TableGuard offset) = values 15 offset 0
 refusalValues TableSize = values 16 0 0
+refusalValues (TableState state) = values 17 state 0
 refusalValues RecordingFrame = values 20 0 0
 refusalValues RecordingVersion = values 21 2 0
 refusalValues RecordingCount = values 22 3 0

@@ -13,6 +13,7 @@ use Rattle.model.specs.Guard.{Guard, guardAt, endsAt, guardOf}
 use Rattle.model.specs.Monitor.{Monitor, Transition}
 use Rattle.model.specs.Room.{Lent, write}
 use Rattle.model.specs.Size.{size}
+use Rattle.model.specs.Reach.{statesAnswer}
 use Rattle.model.specs.declared.TableParts.{TableParts}
 use Rattle.model.specs.declared.TableReading.{TableReading}
 use Rattle.model.specs.declared.Reading.{Reading}
@@ -211,12 +212,13 @@ tableScan b =
     ∷ transitionRecords (transitionsAt b) b (kindAt (kindsAt b))
     ∷ [])
 
--- the numbers 10 to 16, in their order
+-- the numbers 10 to 17, in their order
 unfoldable pub tableAnswer : List ℕ → Reading
 tableAnswer b =
     firstOf
     (tableScan b
     ∷ unless (leb (size (monitorOf (tableParts b))) sizeLimit) TableSize
+    ∷ statesAnswer (monitorOf (tableParts b))
     ∷ [])
 
 unfoldable pub readTable : List ℕ → TableReading

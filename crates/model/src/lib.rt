@@ -99,6 +99,7 @@ pub enum Refusal {
     TableField { offset: u64 },
     TableGuard { offset: u64 },
     TableSize,
+    TableState { state: u64 },
     RecordingFrame,
     RecordingVersion,
     RecordingCount,

@@ -37,6 +37,7 @@ pub fn refusal_numbers(refusal: Refusal) -> Answer
         Refusal::TableField { offset } => numbered(14, offset, 0),
         Refusal::TableGuard { offset } => numbered(15, offset, 0),
         Refusal::TableSize => numbered(16, 0, 0),
+        Refusal::TableState { state } => numbered(17, state, 0),
         Refusal::RecordingFrame => numbered(20, 0, 0),
         Refusal::RecordingVersion => numbered(21, 2, 0),
         Refusal::RecordingCount => numbered(22, 3, 0),

@@ -7,6 +7,7 @@ mod enumerate;
 mod monitor;
 mod permitted;
 mod preference;
+mod reach;
 mod trace;
 mod works;
 
@@ -15,5 +16,6 @@ pub use enumerate::{first_dead_instant, ruled_out, witnesses};
 pub use monitor::Monitor;
 pub use permitted::permitted_by_checker;
 pub use preference::preference;
+pub use reach::lowest_unreached;
 pub use trace::{is_mutation, is_packet_trace, shares_the_air, traces, Trace};
 pub use works::works;

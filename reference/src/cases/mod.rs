@@ -20,14 +20,15 @@ use crate::desk;
 use crate::generate::{calls, writings, Rng};
 use crate::limits;
 use crate::narrowed::NARROWED;
-use crate::papers::{PAPERS, SMALL_MONITOR};
+use crate::papers::{recording, PAPERS, SMALL_MONITOR};
+use crate::reaching;
 use crate::set;
 use crate::situation::Space;
 use crate::table;
 use crate::writing::{Parts, Writing};
 
 /// As many random calls as this, of which few are long.
-const CALLS: usize = 8_000;
+const CALLS: usize = 8_200;
 const LONG: usize = 3_000;
 const MOST_LONG: usize = 60;
 /// What the batch program lends at most.
@@ -36,12 +37,12 @@ const MOST_ROOM: usize = 24_000;
 const MOST_FILE: usize = 70_000;
 /// Every number of the paper's list comes at least so often.
 const LEAST: usize = 20;
-const NUMBERS: [u64; 22] =
-    [0, 1, 2, 10, 11, 12, 13, 14, 15, 16, 20, 21, 22, 23, 24, 30, 31, 33, 40, 41, 42, 43];
+const NUMBERS: [u64; 23] =
+    [0, 1, 2, 10, 11, 12, 13, 14, 15, 16, 17, 20, 21, 22, 23, 24, 30, 31, 33, 40, 41, 42, 43];
 /// As many random writings of parts as this, and the numbers that come as often from writing, and
 /// from writing and reading back.
 const WRITINGS: usize = 900;
-const WRITTEN: [u64; 11] = [0, 12, 14, 15, 16, 22, 23, 24, 33, 42, 43];
+const WRITTEN: [u64; 12] = [0, 12, 14, 15, 16, 17, 22, 23, 24, 33, 42, 43];
 
 /// How often each number was answered.
 pub type Numbers = BTreeMap<u64, usize>;
@@ -53,6 +54,8 @@ pub struct Cases {
     pub from_files: Numbers,
     pub from_writing: Numbers,
     pub from_back: Numbers,
+    /// How often each state was named with 17, from files and parts.
+    pub dead_states: Numbers,
     /// How often a set was counted that has so many bytes behind its whole words, one or more.
     /// The first work is always 1; a cost above it had a set counted.
     pub last_words: BTreeMap<usize, usize>,
@@ -89,6 +92,9 @@ impl Cases {
             let (table, recording) = (it.table(), it.recording());
             self.validate(table.clone(), recording.clone(), 10_000)?;
             self.call(Call::Check { table, recording, witness: it.witness.to_vec() })?;
+        }
+        for it in reaching::tables() {
+            self.desk_files(&it.bytes, &recording(&limits::HEARD), 10_000)?;
         }
         for input in [vec![], vec![0; 3], vec![0; 4], vec![1; 8_192], vec![1; 8_193]] {
             self.desk(&input)?;
@@ -134,7 +140,7 @@ impl Cases {
 
     /// Through the desk too, and with enough lent for the recordings of the papers.
     fn validate(&mut self, table: Vec<u8>, recording: Vec<u8>, budget: u32) -> io::Result<()> {
-        self.desk(&[&table[..], &recording[..], &budget.to_be_bytes()[..]].concat())?;
+        self.desk_files(&table, &recording, budget)?;
         let (scratch, room) = (vec![0; 100], vec![0; 90]);
         self.call(Call::Validate { table, recording, budget, scratch, room })
     }
@@ -188,6 +194,9 @@ impl Cases {
         answer: Answer,
         bytes: impl Iterator<Item = &'a u8>,
     ) -> io::Result<()> {
+        if answer.number == 17 {
+            *self.dead_states.entry(answer.second).or_default() += 1;
+        }
         let sum = bytes.fold(1, |sum, byte| add(sum, *byte));
         writeln!(self.output, "{} {} {} {sum}", answer.number, answer.second, answer.third)
     }
@@ -197,13 +206,17 @@ impl Cases {
         self.output.write_all(desk::report(input).as_bytes())
     }
 
+    fn desk_files(&mut self, table: &[u8], recording: &[u8], budget: u32) -> io::Result<()> {
+        self.desk(&[table, recording, &budget.to_be_bytes()].concat())
+    }
+
     /// Some validations go through the desk too.
     fn desk_of(&mut self, call: &Call, made: usize) -> io::Result<()> {
         match call {
             Call::Validate { table, recording, budget, .. }
                 if made.is_multiple_of(4) && table.len() + recording.len() < LONG =>
             {
-                self.desk(&[&table[..], &recording[..], &budget.to_be_bytes()[..]].concat())
+                self.desk_files(table, recording, *budget)
             }
             _ => Ok(()),
         }

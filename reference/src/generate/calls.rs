@@ -2,6 +2,7 @@
 
 use super::buffers::{dirty, length_near};
 use super::crossed::busy_air;
+use super::dead_states::dead_states;
 use super::encode::{encode_recording, encode_table, encode_witness};
 use super::learn::learn;
 use super::recordings::{any_rows, overheard, spoil_rows};
@@ -117,7 +118,7 @@ fn last_time(rng: &mut Rng, table: &Table) -> u16 {
 }
 
 fn spoil(rng: &mut Rng, base: &mut Base) {
-    match rng.below(9) {
+    match rng.below(10) {
         0 | 1 => base.table_bytes = encode_table(&spoil_table(rng, &base.table)),
         2 | 3 => base.table_bytes = spoil_bytes(rng, &base.table_bytes),
         4 | 5 => {
@@ -126,6 +127,7 @@ fn spoil(rng: &mut Rng, base: &mut Base) {
         }
         6 => base.recording_bytes = spoil_bytes(rng, &base.recording_bytes),
         7 => std::mem::swap(&mut base.table_bytes, &mut base.recording_bytes),
+        8 => base.table_bytes = encode_table(&dead_states(rng, &base.table)),
         _ => match rng.one_in(2) {
             true => base.table_bytes = any_bytes(rng),
             false => base.recording_bytes = any_bytes(rng),

@@ -3,6 +3,7 @@
 mod buffers;
 mod calls;
 mod crossed;
+mod dead_states;
 mod encode;
 mod learn;
 mod parts;
@@ -16,6 +17,7 @@ mod witnesses;
 pub use buffers::{dirty, length_near};
 pub use calls::calls;
 pub use crossed::{busy_air, cross};
+pub use dead_states::dead_states;
 pub use encode::{encode_recording, encode_table, encode_witness};
 pub use parts::writings;
 pub use recordings::{any_rows, overheard, spoil_rows};

@@ -2,6 +2,7 @@
 
 use super::buffers::length_near;
 use super::crossed::cross;
+use super::dead_states::dead_states;
 use super::encode::encode_table;
 use super::recordings::{any_rows, spoil_rows};
 use super::rng::Rng;
@@ -48,6 +49,7 @@ fn table_parts(rng: &mut Rng, table: &Table) -> Parts {
     let mut parts = TableParts::of(&match rng.below(12) {
         0..=3 => spoil_table(rng, table),
         4 => any_table(rng, &Shape { kinds: 3, transitions: 6, ..Shape::LARGE }),
+        5 => dead_states(rng, table),
         _ => table.clone(),
     });
     parts.kinds.truncate(COUNT_LIMITS[3].1);
@@ -88,11 +90,13 @@ fn beyond(rng: &mut Rng, parts: &mut TableParts) {
     }
 }
 
-/// Mostly against the table itself, at times against a spoilt one.
+/// Mostly against the table itself, at times against a spoilt one or one with dead states.
 fn recording_parts(rng: &mut Rng, table: &Table, heard: &recording::Recording) -> Parts {
     let mut bytes = encode_table(table);
-    if rng.one_in(12) {
-        bytes = spoil_bytes(rng, &bytes);
+    match rng.below(24) {
+        0 | 1 => bytes = spoil_bytes(rng, &bytes),
+        2 => bytes = encode_table(&dead_states(rng, table)),
+        _ => {}
     }
     let rows = match rng.one_in(2) {
         true => heard.rows.clone(),

@@ -38,6 +38,13 @@ impl Rng {
         (self.draw() >> 56) as u8
     }
 
+    /// Every order is as likely as any other.
+    pub fn shuffle<T>(&mut self, list: &mut [T]) {
+        for place in (1..list.len()).rev() {
+            list.swap(place, self.below(place + 1));
+        }
+    }
+
     pub fn pick<T: Copy>(&mut self, choices: &[T]) -> T {
         choices[self.below(choices.len())]
     }

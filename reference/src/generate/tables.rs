@@ -98,7 +98,8 @@ pub fn protocol(rng: &mut Rng) -> Table {
     Table { states, variables: 0, clocks: 1, kinds, transitions }
 }
 
-/// Sound but for N, which may be above its limit.
+/// Sound but for N, which may be above its limit. There are as many transitions as it takes to
+/// reach every state, or more.
 pub fn any_table(rng: &mut Rng, shape: &Shape) -> Table {
     let count = |rng: &mut Rng, low, most| if shape.full { most } else { rng.between(low, most) };
     let states = count(rng, 1, shape.states);
@@ -114,11 +115,34 @@ pub fn any_table(rng: &mut Rng, shape: &Shape) -> Table {
         kinds: (0..kinds).map(|_| kind(rng, shape)).collect(),
         transitions: Vec::new(),
     };
-    for _ in 0..transitions {
-        let transition = transition(rng, shape, &table);
+    for (from, to) in ends(rng, states, transitions) {
+        let transition = Transition { from, to, ..transition(rng, shape, &table) };
         table.transitions.push(transition);
     }
     table
+}
+
+/// From where to where so many transitions lead, or more if so few cannot reach every state. Each
+/// state is linked to one that was linked before it; the links stand anywhere among the others, or
+/// at times behind them, the last one first.
+fn ends(rng: &mut Rng, states: usize, count: usize) -> Vec<(u8, u8)> {
+    let mut order: Vec<u8> = (0..states as u8).collect();
+    rng.shuffle(&mut order[1..]);
+    // At times they are one long way, and the others lead back along it.
+    let long = rng.one_in(4);
+    let link = |rng: &mut Rng, place: usize| if long { place - 1 } else { rng.below(place) };
+    let mut ends: Vec<(u8, u8)> =
+        (1..states).map(|place| (order[link(rng, place)], order[place])).collect();
+    while ends.len() < count {
+        let from = rng.below(states);
+        let bound = if long { from + 1 } else { states };
+        ends.push((order[from], order[rng.below(bound)]));
+    }
+    match rng.one_in(4) {
+        true => ends.reverse(),
+        false => rng.shuffle(&mut ends),
+    }
+    ends
 }
 
 fn kind(rng: &mut Rng, shape: &Shape) -> Kind {
@@ -126,6 +150,7 @@ fn kind(rng: &mut Rng, shape: &Shape) -> Kind {
     Kind { direction: u8::from(rng.below(5) < 2), airtime: airtime as u8 }
 }
 
+/// All but from where to where it leads.
 fn transition(rng: &mut Rng, shape: &Shape, table: &Table) -> Transition {
     let variables_mask = (1 << table.variables) - 1;
     let set = rng.byte() & rng.byte() & variables_mask;
@@ -136,13 +161,12 @@ fn transition(rng: &mut Rng, shape: &Shape, table: &Table) -> Transition {
         guard.splice(0..0, vec![4; most - guard.len()]);
     }
     Transition {
-        from: rng.below(table.states.into()) as u8,
-        to: rng.below(table.states.into()) as u8,
         kind: rng.below(table.kinds.len()) as u8,
         set,
         clear: rng.byte() & rng.byte() & variables_mask & !set,
         reset: rng.byte() & ((1 << table.clocks) - 1),
         guard,
+        ..Transition::default()
     }
 }
 

@@ -1,8 +1,10 @@
 //! Calls at the limits of the paper, and one beyond each.
 
 mod parts;
+mod states;
 
 pub use parts::writings;
+pub use states::HEARD;
 
 use crate::answer::Answer;
 use crate::call::{Call, ORDINARY};
@@ -91,6 +93,7 @@ pub fn calls() -> Vec<Call> {
     for (airtime, rows) in after_ack() {
         judged(&mut calls, &small_monitor_with(ACK_AIRTIME, airtime), &recording(&rows));
     }
+    calls.extend(states::calls());
     let one = recording(&[(1, DATA)]);
     for table in changed_tables() {
         calls.push(validation(&table, &one, 10_000));

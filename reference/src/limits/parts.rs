@@ -1,6 +1,6 @@
 //! Parts at the limits of the paper, and one beyond each, to be written.
 
-use super::{sized, ROOM, SIZES};
+use super::{sized, states, ROOM, SIZES};
 use crate::generate::encode_table;
 use crate::papers::{small_monitor_with, ACK, DATA, SMALL_MONITOR};
 use crate::parts::{RecordingParts, RowParts, TableParts, WitnessParts, GUARD_PLACES};
@@ -28,7 +28,7 @@ pub fn writings() -> Vec<Writing> {
             }
         }
     }
-    for parts in long_parts() {
+    for parts in long_parts().into_iter().chain(states::parts()) {
         let wanted = parts.wanted().unwrap_or(ROOM);
         writings.push(Writing { parts: parts.clone(), back: false, room: wanted - 1 });
         writings.push(Writing { parts, back: true, room: wanted });
@@ -144,18 +144,21 @@ fn guards() -> Vec<TableParts> {
     tables
 }
 
-/// Every count at its limit, and every guard.
+/// Every count at its limit, and every guard. Each state leads to the next, and the last to itself.
 fn full_table() -> Table {
-    let guard = [vec![4; GUARD_PLACES - 1], vec![0]].concat();
+    let transition = |number: u8| Transition {
+        from: number.min(15),
+        to: (number + 1).min(15),
+        kind: 31,
+        guard: [vec![4; GUARD_PLACES - 1], vec![0]].concat(),
+        ..Transition::default()
+    };
     Table {
         states: 16,
         variables: 4,
         clocks: 2,
         kinds: vec![Kind { direction: 1, airtime: 15 }; 32],
-        transitions: vec![
-            Transition { from: 15, to: 15, kind: 31, guard, ..Default::default() };
-            64
-        ],
+        transitions: (0..64).map(transition).collect(),
     }
 }
 
@@ -164,7 +167,8 @@ fn unsound_tables() -> Vec<Vec<u8>> {
     let changed = [(2, 2), (3, 17), (7, 6), (8, 2), (20, 33)];
     let changed = changed.map(|(place, byte)| small_monitor_with(place, byte));
     let over = encode_table(&sized(1, 0, &[255, 254], 0));
-    [vec![]].into_iter().chain(changed).chain([over]).collect()
+    let dead = small_monitor_with(3, 4);
+    [vec![]].into_iter().chain(changed).chain([over, dead]).collect()
 }
 
 fn rows<R: Copy>(count: u16, rows: &[R]) -> RowParts<R> {

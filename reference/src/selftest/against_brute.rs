@@ -175,18 +175,22 @@ fn validate_one(rng: &mut Rng, small: &Small, truth: &Truth, budget: u32) -> Res
     same("room kept", &short.room[..], &room[..room_wanted - 1])
 }
 
-/// (T+1) x S and 5 + 5(T+n), with N counted from the parts.
+/// (T+1) x S and 5 + 5(T+n).
 fn wanted(small: &Small) -> (usize, usize) {
-    let Small { table, recording, .. } = small;
+    let last = small.recording.last_time();
+    let rows = small.recording.rows.len();
+    ((last + 1) * situations(&small.table).div_ceil(8), 5 + 5 * (last + rows))
+}
+
+/// N, counted from the parts.
+pub fn situations(table: &Table) -> usize {
     let mut situations = usize::from(table.states) << table.variables;
     for clock in 0..usize::from(table.clocks) {
         let limits = table.transitions.iter().map(|it| largest(&it.guard, clock));
         situations *= limits.max().unwrap_or(0) + 2;
     }
     let longest = table.kinds.iter().map(|kind| kind.airtime).max().unwrap_or(0);
-    situations *= usize::from(longest) + 1;
-    let last = recording.last_time();
-    ((last + 1) * situations.div_ceil(8), 5 + 5 * (last + recording.rows.len()))
+    situations * (usize::from(longest) + 1)
 }
 
 /// The largest limit of a clock in a sound guard, by going through its bytes in a row.

@@ -5,6 +5,7 @@ mod against_brute;
 mod checks;
 mod files;
 mod papers;
+mod states;
 
 use std::time::{Duration, Instant};
 
@@ -26,6 +27,9 @@ pub struct Counts {
     pub hunts_left: u64,
     pub checks: u64,
     pub files: u64,
+    /// Tables whose records are in order, and of these the ones with dead states.
+    pub tables: u64,
+    pub dead: u64,
 }
 
 /// Runs until the time is up; an error says what differed.
@@ -38,6 +42,7 @@ pub fn selftest(time: Duration, seed: u64) -> Result<Counts, String> {
         against_brute::test(&mut rng, &mut counts)?;
         checks::test(&mut rng, &mut counts)?;
         files::test(&mut rng, &mut counts)?;
+        states::test(&mut rng, &mut counts)?;
     }
     Ok(counts)
 }
@@ -53,6 +58,7 @@ impl Counts {
              all lists the checker permits enumerated: {} inputs ({} left as too many)\n\
              witnesses checked rule by rule: {}\n\
              files read and written: {}\n\
+             tables' reach against brute force: {} ({} with dead states)\n\
              no difference\n",
             self.papers,
             self.inputs,
@@ -65,7 +71,9 @@ impl Counts {
             self.checker_hunts,
             self.hunts_left,
             self.checks,
-            self.files
+            self.files,
+            self.tables,
+            self.dead
         )
     }
 }

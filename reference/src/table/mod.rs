@@ -2,9 +2,10 @@
 
 mod read;
 mod rules;
+mod states;
 mod write;
 
-pub use read::read;
+pub use read::{read, read_records};
 pub use rules::{COUNT_LIMITS, FIRST_COUNT};
 pub use write::write;
 

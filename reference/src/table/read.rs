@@ -6,6 +6,13 @@ use crate::answer::Refusal;
 use crate::frame::{length_matches, VERSION};
 
 pub fn read(bytes: &[u8]) -> Result<Table, Refusal> {
+    let table = read_records(bytes)?;
+    rules::check_whole(&table)?;
+    Ok(table)
+}
+
+/// Frame, counts and records in order; N and the states that can be reached are not judged.
+pub fn read_records(bytes: &[u8]) -> Result<Table, Refusal> {
     if bytes.len() < FIRST_RECORD || !length_matches(bytes) {
         return Err(Refusal::new(10, 0));
     }
@@ -32,7 +39,6 @@ pub fn read(bytes: &[u8]) -> Result<Table, Refusal> {
     if records.at < bytes.len() {
         return Err(Refusal::new(13, records.at));
     }
-    rules::check_situations(&table)?;
     Ok(table)
 }
 

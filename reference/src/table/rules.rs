@@ -1,6 +1,6 @@
 //! The rules that reading and writing a table share, so that both give the same numbers.
 
-use super::{Kind, Table, Transition};
+use super::{states, Kind, Table, Transition};
 use crate::answer::Refusal;
 use crate::situation::{Space, MOST_SITUATIONS};
 
@@ -52,10 +52,10 @@ pub fn check_guard_form(table: &Table, it: &Transition, offset: usize) -> Result
     table.guard(it).map(|_| ()).ok_or(Refusal::new(15, offset))
 }
 
-/// The last rule, once every record is in order.
-pub fn check_situations(table: &Table) -> Result<(), Refusal> {
+/// The last rules, once every record is in order: N, then states that cannot be reached.
+pub fn check_whole(table: &Table) -> Result<(), Refusal> {
     if Space::of(table).count() > MOST_SITUATIONS {
         return Err(Refusal::new(16, 0));
     }
-    Ok(())
+    states::lowest_dead(table).map_or(Ok(()), |state| Err(Refusal::new(17, state)))
 }

@@ -10,7 +10,7 @@ pub fn write(table: &Table, room: &mut [u8]) -> Answer {
 }
 
 /// Frame and version are always right here and no record can be cut short or left over,
-/// so only the rules of counts, records and N can speak, in the order of reading.
+/// so only the rules of counts, records, N and states can speak, in the order of reading.
 fn judge(table: &Table) -> Result<(), Refusal> {
     rules::check_counts(table.counts())?;
     let mut offset = FIRST_RECORD;
@@ -24,7 +24,7 @@ fn judge(table: &Table) -> Result<(), Refusal> {
         rules::check_guard_form(table, transition, offset)?;
         offset += TRANSITION_BYTES + transition.guard.len();
     }
-    rules::check_situations(table)
+    rules::check_whole(table)
 }
 
 /// Only for judged parts: every count and guard length fits its byte.

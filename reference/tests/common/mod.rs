@@ -35,3 +35,13 @@ pub fn resized(bytes: &[u8], length: usize) -> Vec<u8> {
     body.resize(length - 2, 0);
     file(&body)
 }
+
+/// One clock, one kind to the unit, and states in a row; every transition has this guard.
+pub fn chain(states: u8, variables: u8, guard: &[u8]) -> Vec<u8> {
+    let mut body = vec![1, states, variables, 1, 1, states - 1, 1, 0];
+    for to in 1..states {
+        body.extend([to - 1, to, 0, 0, 0, 0, guard.len() as u8]);
+        body.extend(guard);
+    }
+    file(&body)
+}

@@ -46,26 +46,26 @@ enum-told-3 c = search needs
 numbered-requires-7 : tie.Need-numbered-requires-7
 numbered-requires-7 c κs = search needs
 
-enum-told-4 : tie.Need-enum-told-4
-enum-told-4 c = search needs
+enum-known-refusal-5 : tie.Need-enum-known-refusal-5
+enum-known-refusal-5 c = search needs
 
 numbered-requires-8 : tie.Need-numbered-requires-8
 numbered-requires-8 c κs = search needs
 
-enum-told-5 : tie.Need-enum-told-5
-enum-told-5 c = search needs
+enum-told-4 : tie.Need-enum-told-4
+enum-told-4 c = search needs
 
 numbered-requires-9 : tie.Need-numbered-requires-9
 numbered-requires-9 c κs = search needs
 
-enum-told-6 : tie.Need-enum-told-6
-enum-told-6 c = search needs
+enum-told-5 : tie.Need-enum-told-5
+enum-told-5 c = search needs
 
 numbered-requires-10 : tie.Need-numbered-requires-10
 numbered-requires-10 c κs = search needs
 
-enum-known-refusal-5 : tie.Need-enum-known-refusal-5
-enum-known-refusal-5 c = search needs
+enum-told-6 : tie.Need-enum-told-6
+enum-told-6 c = search needs
 
 numbered-requires-11 : tie.Need-numbered-requires-11
 numbered-requires-11 c κs = search needs
@@ -94,29 +94,35 @@ enum-known-refusal-9 c = search needs
 numbered-requires-15 : tie.Need-numbered-requires-15
 numbered-requires-15 c κs = search needs
 
-enum-told-7 : tie.Need-enum-told-7
-enum-told-7 c = search needs
+enum-known-refusal-10 : tie.Need-enum-known-refusal-10
+enum-known-refusal-10 c = search needs
 
 numbered-requires-16 : tie.Need-numbered-requires-16
 numbered-requires-16 c κs = search needs
 
-enum-told-8 : tie.Need-enum-told-8
-enum-told-8 c = search needs
+enum-told-7 : tie.Need-enum-told-7
+enum-told-7 c = search needs
 
 numbered-requires-17 : tie.Need-numbered-requires-17
 numbered-requires-17 c κs = search needs
 
-enum-told-9 : tie.Need-enum-told-9
-enum-told-9 c = search needs
+enum-told-8 : tie.Need-enum-told-8
+enum-told-8 c = search needs
 
 numbered-requires-18 : tie.Need-numbered-requires-18
 numbered-requires-18 c κs = search needs
 
-enum-known-refusal-10 : tie.Need-enum-known-refusal-10
-enum-known-refusal-10 c = search needs
+enum-told-9 : tie.Need-enum-told-9
+enum-told-9 c = search needs
 
 numbered-requires-19 : tie.Need-numbered-requires-19
 numbered-requires-19 c κs = search needs
+
+enum-known-refusal-11 : tie.Need-enum-known-refusal-11
+enum-known-refusal-11 c = search needs
+
+numbered-requires-20 : tie.Need-numbered-requires-20
+numbered-requires-20 c κs = search needs
 
 returns : tie.Need-returns
 returns c = c .numbered .ensures ∙ sym (ap refusalValues (c .before .enum-told .given .1))
@@ -140,16 +146,16 @@ returns-7 : tie.Need-returns-7
 returns-7 c = c .numbered7 .ensures ∙ sym (ap refusalValues (c .before .enum-told3 .given .1))
 
 returns-8 : tie.Need-returns-8
-returns-8 c = c .numbered8 .ensures ∙ sym (ap refusalValues (c .before .enum-told4 .given .1))
+returns-8 c = c .numbered8 .ensures ∙ sym (ap refusalValues (c .before .before .refusal5 .given .1))
 
 returns-9 : tie.Need-returns-9
-returns-9 c = c .numbered9 .ensures ∙ sym (ap refusalValues (c .before .enum-told5 .given .1))
+returns-9 c = c .numbered9 .ensures ∙ sym (ap refusalValues (c .before .enum-told4 .given .1))
 
 returns-10 : tie.Need-returns-10
-returns-10 c = c .numbered10 .ensures ∙ sym (ap refusalValues (c .before .enum-told6 .given .1))
+returns-10 c = c .numbered10 .ensures ∙ sym (ap refusalValues (c .before .enum-told5 .given .1))
 
 returns-11 : tie.Need-returns-11
-returns-11 c = c .numbered11 .ensures ∙ sym (ap refusalValues (c .before .before .refusal5 .given .1))
+returns-11 c = c .numbered11 .ensures ∙ sym (ap refusalValues (c .before .enum-told6 .given .1))
 
 returns-12 : tie.Need-returns-12
 returns-12 c = c .numbered12 .ensures ∙ sym (ap refusalValues (c .before .before .refusal6 .given .1))
@@ -164,16 +170,19 @@ returns-15 : tie.Need-returns-15
 returns-15 c = c .numbered15 .ensures ∙ sym (ap refusalValues (c .before .before .refusal9 .given .1))
 
 returns-16 : tie.Need-returns-16
-returns-16 c = c .numbered16 .ensures ∙ sym (ap refusalValues (c .before .enum-told7 .given .1))
+returns-16 c = c .numbered16 .ensures ∙ sym (ap refusalValues (c .before .before .refusal10 .given .1))
 
 returns-17 : tie.Need-returns-17
-returns-17 c = c .numbered17 .ensures ∙ sym (ap refusalValues (c .before .enum-told8 .given .1))
+returns-17 c = c .numbered17 .ensures ∙ sym (ap refusalValues (c .before .enum-told7 .given .1))
 
 returns-18 : tie.Need-returns-18
-returns-18 c = c .numbered18 .ensures ∙ sym (ap refusalValues (c .before .enum-told9 .given .1))
+returns-18 c = c .numbered18 .ensures ∙ sym (ap refusalValues (c .before .enum-told8 .given .1))
 
 returns-19 : tie.Need-returns-19
-returns-19 c = c .numbered19 .ensures ∙ sym (ap refusalValues (c .before .before .refusal10 .given .1))
+returns-19 c = c .numbered19 .ensures ∙ sym (ap refusalValues (c .before .enum-told9 .given .1))
+
+returns-20 : tie.Need-returns-20
+returns-20 c = c .numbered20 .ensures ∙ sym (ap refusalValues (c .before .before .refusal11 .given .1))
 
 pub refusal-numbers-spec : {M : Type 1} → statement M
 refusal-numbers-spec =
@@ -193,13 +202,13 @@ refusal-numbers-spec =
     numbered-requires-6
     enum-told-3
     numbered-requires-7
-    enum-told-4
-    numbered-requires-8
-    enum-told-5
-    numbered-requires-9
-    enum-told-6
-    numbered-requires-10
     enum-known-refusal-5
+    numbered-requires-8
+    enum-told-4
+    numbered-requires-9
+    enum-told-5
+    numbered-requires-10
+    enum-told-6
     numbered-requires-11
     enum-known-refusal-6
     numbered-requires-12
@@ -209,14 +218,16 @@ refusal-numbers-spec =
     numbered-requires-14
     enum-known-refusal-9
     numbered-requires-15
-    enum-told-7
-    numbered-requires-16
-    enum-told-8
-    numbered-requires-17
-    enum-told-9
-    numbered-requires-18
     enum-known-refusal-10
+    numbered-requires-16
+    enum-told-7
+    numbered-requires-17
+    enum-told-8
+    numbered-requires-18
+    enum-told-9
     numbered-requires-19
+    enum-known-refusal-11
+    numbered-requires-20
     returns
     returns-2
     returns-3
@@ -235,4 +246,5 @@ refusal-numbers-spec =
     returns-16
     returns-17
     returns-18
-    returns-19)
+    returns-19
+    returns-20)

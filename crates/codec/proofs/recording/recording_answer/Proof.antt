@@ -13,14 +13,14 @@ sound-requires c κs = search needs
 
 returns : tie.Need-returns
 returns c = let a = c .before .before .before .before .before .args in
-    turn-stops _ _ _ _ _ (answer-row (a .table .now) (a .b .now)) (c .before .before .table-answer .ensures) (c .before .sound .ensures) (c .if1 .taken)
+    turn-stops _ _ _ _ _ (answer-row (a .table .now) (a .b .now)) (c .before .before .table-answer .ensures .0) (c .before .sound .ensures) (c .if1 .taken)
 
 recording-scan-requires : tie.Need-recording-scan-requires
 recording-scan-requires c κs = search needs
 
 returns-2 : tie.Need-returns-2
 returns-2 c = let a = c .before .before .before .before .before .before .args in
-    c .recording-scan .ensures ∙ sym (turn-goes _ _ _ _ _ (answer-row (a .table .now) (a .b .now)) (c .before .before .before .table-answer .ensures) (c .before .before .sound .ensures) (c .before .if1 .left))
+    c .recording-scan .ensures ∙ sym (turn-goes _ _ _ _ _ (answer-row (a .table .now) (a .b .now)) (c .before .before .before .table-answer .ensures .0) (c .before .before .sound .ensures) (c .before .if1 .left))
 
 pub recording-answer-spec : {M : Type 1} → statement M
 recording-answer-spec =

@@ -1,11 +1,8 @@
-use mathlib.Core.Path.{_≡_, sym, _∙_, refl}
-use Prim.Native.Nat.{_+_, min}
-use Rattle.model.specs.Limits.{sizeLimit}
-use Rattle.model.specs.Size.{size}
+use mathlib.Core.Path.{_≡_, sym, _∙_, ap}
 use Rattle.model.specs.Table.{monitorOf, tableParts}
 use Rattle.model.proofs.AnswerLaws.{table-reads}
 use Rattle.frame.proofs.Answers.{turn-stops, turn-goes, sound-is}
-use Rattle.codec.proofs.Tables.{scan-all, read-refused, read-sound, size-over, size-within}
+use Rattle.codec.proofs.Tables.{scan-all, whole-of, read-refused, read-sound}
 use borrow.Author.Tests.{not-true, not-false}
 use borrow.Author.Needs.{needs}
 use Rattle.codec.proofs.table.read_table.Statement.{statement}
@@ -28,23 +25,26 @@ returns c = let b = c .before .before .before .before .before .args .b .now in
 table-parts-requires : tie.Need-table-parts-requires
 table-parts-requires c κs = sym (c .before .before .table-scan .ensures) ∙ sound-is _ (sym (c .before .sound .ensures) ∙ not-false (c .before .sound .result) (c .if1 .left))
 
-table-size-requires : tie.Need-table-size-requires
-table-size-requires c κs = search needs
+whole-answer-requires : tie.Need-whole-answer-requires
+whole-answer-requires c κs = search needs
+
+sound-requires-2 : tie.Need-sound-requires-2
+sound-requires-2 c κs = search needs
 
 no-table-requires-2 : tie.Need-no-table-requires-2
 no-table-requires-2 c κs = search needs
 
 returns-2 : tie.Need-returns-2
-returns-2 c = let b = c .before .before .before .before .before .before .before .before .args .b .now in
-    let all = turn-goes _ _ _ _ _ (scan-all b) (c .before .before .before .before .before .before .table-scan .ensures) (c .before .before .before .before .before .sound .ensures) (c .before .before .before .before .if1 .left) in
-    let n : c .before .before .table-size .result ≡ min (size (monitorOf (tableParts b))) (sizeLimit + 1) = c .before .before .table-size .ensures ∙ rw (c .before .before .before .table-parts .ensures) in
-    table-reads _ _ (read-refused b _ _ (sym (all ∙ rw (size-over _ _ n (c .before .if2 .taken)))) refl (c .no-table2 .ensures))
+returns-2 c = let b = c .before .before .before .before .before .before .before .before .before .args .b .now in
+    let all = turn-goes _ _ _ _ _ (scan-all b) (c .before .before .before .before .before .before .before .table-scan .ensures) (c .before .before .before .before .before .before .sound .ensures) (c .before .before .before .before .before .if1 .left) in
+    let is = whole-of b _ _ all (c .before .before .before .before .table-parts .ensures) (c .before .before .before .whole-answer .ensures) in
+    table-reads _ _ (read-refused b _ _ is (sym (c .before .before .sound2 .ensures) ∙ not-true (c .before .before .sound2 .result) (c .before .if2 .taken)) (c .no-table2 .ensures))
 
 returns-3 : tie.Need-returns-3
-returns-3 c = let b = c .before .before .before .before .before .before .before .args .b .now in
-    let all = turn-goes _ _ _ _ _ (scan-all b) (c .before .before .before .before .before .table-scan .ensures) (c .before .before .before .before .sound .ensures) (c .before .before .before .if1 .left) in
-    let n : c .before .table-size .result ≡ min (size (monitorOf (tableParts b))) (sizeLimit + 1) = c .before .table-size .ensures ∙ rw (c .before .before .table-parts .ensures) in
-    table-reads _ _ (read-sound b _ (all ∙ rw (size-within _ _ n (c .if2 .left))) (c .before .before .table-parts .ensures))
+returns-3 c = let b = c .before .before .before .before .before .before .before .before .args .b .now in
+    let all = turn-goes _ _ _ _ _ (scan-all b) (c .before .before .before .before .before .before .table-scan .ensures) (c .before .before .before .before .before .sound .ensures) (c .before .before .before .before .if1 .left) in
+    let is = whole-of b _ _ all (c .before .before .before .table-parts .ensures) (c .before .before .whole-answer .ensures) in
+    table-reads _ _ (read-sound b _ _ is (sound-is _ (sym (c .before .sound2 .ensures) ∙ not-false (c .before .sound2 .result) (c .if2 .left))) (c .before .before .before .table-parts .ensures))
 
 pub read-table-spec : {M : Type 1} → statement M
 read-table-spec =
@@ -55,7 +55,8 @@ read-table-spec =
     no-table-requires
     returns
     table-parts-requires
-    table-size-requires
+    whole-answer-requires
+    sound-requires-2
     no-table-requires-2
     returns-2
     returns-3)

@@ -54,7 +54,7 @@ returns-2 c = let a = c .before .before .before .before .before .before .before 
     let n = c .before .before .before .before .before .before .before .before .encode .result in
     let same : n - 0 ≡ n = omega arith in
     let bytes = taken (tableBytes (a .t)) (replicate tableLimit 0) _ (n - 0) (c .before .before .before .before .before .before .before .before .encode .ensures .0) (sym (c .before .before .before .before .before .before .before .before .encode .ensures .1) ∙ sym same) in
-    write-late (a .t) (a .room .now) _ _ bytes (c .before .before .before .before .table-answer .ensures) _ _ (c .before .before .put .ensures)
+    write-late (a .t) (a .room .now) _ _ bytes (c .before .before .before .before .table-answer .ensures .0) _ _ (c .before .before .put .ensures)
 
 pub write-table-spec : {M : Type 1} → statement M
 write-table-spec =

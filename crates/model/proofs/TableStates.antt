@@ -1,0 +1,106 @@
+-- R-8 of a table's bytes: 17 is given "after 16", where the other numbers do not apply, and by the states alone.
+use Prim.Native.Nat.{ℕ, zero, suc, _+_, _<_, _≤_}
+use native.Mathlib.Omega.{arith}
+use mathlib.Core.Path.{_≡_, refl, sym, ap, subst, _∙_}
+use mathlib.Core.List.{List, [], _∷_}
+use mathlib.Core.Bool.{Bool, true, false, _&&_}
+use lib.ListN.{length}
+use lib.Dec.{leb, ltb, eqb}
+use borrow.Author.Tests.{leb-true, ltb-true, le-leb}
+use Rattle.model.specs.Limits.{sizeLimit}
+use Rattle.model.specs.First.{unless, andThen, firstOf}
+use Rattle.model.specs.Frame.{framed}
+use Rattle.model.specs.Reach.{LowestUnreached, statesAnswer}
+use Rattle.model.specs.Size.{size}
+use Rattle.model.specs.Table.{countsOf, tableCounts, kindRecord, kindRecords, transitionFields, guardRecord, transitionRecord, transitionRecords, kindsAt, kindAt, transitionsAt, guardLengthAt, tableParts, tableScan, tableAnswer, monitorOf, monitorAt}
+use Rattle.model.specs.Numbers.{refusalValues, readingValues}
+use Rattle.model.specs.Answers.{RefusesUnreached}
+use Rattle.model.specs.declared.Reading.{Reading}
+use Rattle.model.specs.declared.Reading.the-variants.{Sound, Unsound}
+use Rattle.model.specs.declared.Refusal.{Refusal}
+use Rattle.model.specs.declared.Refusal.the-variants.{TableFrame, TableVersion, TableLength, TableSize, TableState}
+use Rattle.model.proofs.Basics.{and-left, and-right}
+use Rattle.model.proofs.Tests.{le-test, test, tests, frameTests}
+use Rattle.model.proofs.TableForm.{countTests, kindTests, fieldTests, guardTests}
+use Rattle.model.proofs.Reaching.{states-judged}
+
+-- a number below 17, or none
+record Earlier (x : Reading) : Type 0 where
+  number : readingValues x .number < 17
+
+none-earlier : Earlier Sound
+none-earlier = record { number = omega arith }
+
+then-earlier : {x y : Reading} → Earlier x → Earlier y → Earlier (andThen x y)
+then-earlier {x} {y} p q = go x p
+  where
+    go : (x : Reading) → Earlier x → Earlier (andThen x y)
+    go Sound h = q
+    go (Unsound r) h = h
+
+unless-earlier : (t : Bool) (r : Refusal) → ltb (refusalValues r .number) 17 ≡ true → Earlier (unless t r)
+unless-earlier true r h = none-earlier
+unless-earlier false r h = record { number = ltb-true (refusalValues r .number) 17 h }
+
+-- the refusals of a list of tests are earlier
+early : List (Bool × Refusal) → Bool
+early [] = true
+early (x ∷ l) = ltb (refusalValues (x .1) .number) 17 && early l
+
+tests-earlier : (l : List (Bool × Refusal)) → early l ≡ true → Earlier (firstOf (tests l))
+unfolding early
+tests-earlier [] h = none-earlier
+tests-earlier (x ∷ l) h = then-earlier (unless-earlier (x .0) (x .1) (and-left _ _ h)) (tests-earlier l (and-right (ltb (refusalValues (x .1) .number) 17) (early l) h))
+
+kind-earlier : (b : List ℕ) (at : ℕ) → Earlier (kindRecord b at)
+unfolding kindRecord early
+kind-earlier b at = tests-earlier (kindTests b at) refl
+
+kinds-earlier : (n : ℕ) (b : List ℕ) (at : ℕ) → Earlier (kindRecords n b at)
+unfolding kindRecords
+kinds-earlier zero b at = none-earlier
+kinds-earlier (suc n) b at = then-earlier (kind-earlier b at) (then-earlier (kinds-earlier n b (at + 2)) none-earlier)
+
+transition-earlier : (b : List ℕ) (at : ℕ) → Earlier (transitionRecord b at)
+unfolding transitionRecord transitionFields guardRecord early
+transition-earlier b at =
+    then-earlier (unless-earlier (leb (at + 7) (length b)) (TableLength at) refl)
+    (then-earlier (tests-earlier (fieldTests b at) refl) (then-earlier (tests-earlier (guardTests b at) refl) none-earlier))
+
+transitions-earlier : (n : ℕ) (b : List ℕ) (at : ℕ) → Earlier (transitionRecords n b at)
+unfolding transitionRecords
+transitions-earlier zero b at = unless-earlier (eqb at (length b)) (TableLength at) refl
+transitions-earlier (suc n) b at =
+    then-earlier (transition-earlier b at) (then-earlier (transitions-earlier n b (at + 7 + guardLengthAt b at)) none-earlier)
+
+scan-earlier : (b : List ℕ) → Earlier (tableScan b)
+unfolding tableScan framed countsOf early
+scan-earlier b =
+    then-earlier (tests-earlier (frameTests b 8 TableFrame TableVersion) refl)
+    (then-earlier (tests-earlier (countTests b) refl)
+    (then-earlier (kinds-earlier (kindsAt b) b (kindAt 0))
+    (then-earlier (transitions-earlier (transitionsAt b) b (kindAt (kindsAt b))) none-earlier)))
+
+-- who answers 17: not the scan, not the size
+last-state : (x y z : Reading) (s : ℕ) → Earlier x → Earlier y → andThen x (andThen y (andThen z Sound)) ≡ Unsound (TableState s)
+    → (x ≡ Sound) × (y ≡ Sound) × (z ≡ Unsound (TableState s))
+last-state (Unsound r) y z s p q e = absurd (omega (arith, p .number, ap (λ (w : Reading). readingValues w .number) e))
+last-state Sound (Unsound r) z s p q e = absurd (omega (arith, q .number, ap (λ (w : Reading). readingValues w .number) e))
+last-state Sound Sound (Unsound r) s p q e = (refl, refl, e)
+last-state Sound Sound Sound s p q e = (refl, refl, e)
+
+pub refuses-unreached : (b : List ℕ) → RefusesUnreached b (tableAnswer b)
+unfolding tableAnswer monitorOf tableParts
+refuses-unreached b =
+    record {
+      sound = λ e s l. states-judged (monitorAt b) .sound .0 (test all e 2) s l;
+      refused = λ s. (there s, λ w. rw (w .0, le-leb (size (monitorAt b)) sizeLimit (w .1), states-judged (monitorAt b) .refused s .1 (w .2)));
+    }
+  where
+    all : List Reading
+    all = tableScan b ∷ unless (leb (size (monitorAt b)) sizeLimit) TableSize ∷ statesAnswer (monitorAt b) ∷ []
+
+    there : (s : ℕ) → firstOf all ≡ Unsound (TableState s) → (tableScan b ≡ Sound) × (size (monitorAt b) ≤ sizeLimit) × LowestUnreached (monitorAt b) s
+    there s e =
+        let w = last-state (tableScan b) _ (statesAnswer (monitorAt b)) s (scan-earlier b) (unless-earlier (leb (size (monitorAt b)) sizeLimit) TableSize refl) e in
+        (w .0, le-test _ _ TableSize (w .1), states-judged (monitorAt b) .refused s .0 (w .2))

@@ -1,0 +1,67 @@
+-- Rounds over all transitions: at least the states that as many steps lead to are in the set, and only reached ones.
+use Prim.Native.Nat.{ℕ, suc}
+use mathlib.Core.Path.{_≡_, refl, sym, ap, subst, _∙_}
+use mathlib.Core.Logic.{⊎-elim}
+use mathlib.Core.List.{List}
+use mathlib.Core.Bool.{Bool, true, false, false≢true}
+use lib.ListN.{length}
+use lib.Dec.{eqb}
+use borrow.Author.Tests.{eqb-true, eq-eqb}
+use Rattle.model.specs.Monitor.{Monitor, Transition}
+use Rattle.model.specs.Reach.{Reached, initial, led, among, reachedIn, isReached}
+use Rattle.model.specs.Table.{transitionIn, monitorOf}
+use Rattle.model.specs.declared.TableParts.{TableParts}
+use Rattle.model.proofs.Basics.{length-tab}
+use Rattle.model.proofs.Reaching.{zero-there, zero-only, step-back, reached-found, found-reached}
+use Rattle.bits.specs.Member.{mem}
+use Rattle.reach.specs.Spreading.{setBytes, AllReached, Spread}
+
+pub record Closing (m : Monitor) (rounds : ℕ) (set : List ℕ) : Type 0 where
+  pub size : length set ≡ setBytes
+  pub reached : AllReached m set
+  pub found : (s : ℕ) → among s (reachedIn rounds (m .transitions)) ≡ true → mem set s ≡ true
+
+both-ways : (a b : Bool) → (a ≡ true → b ≡ true) → (b ≡ true → a ≡ true) → a ≡ b
+both-ways true b h k = sym (h refl)
+both-ways false true h k = k refl
+both-ways false false h k = refl
+
+module _ (m : Monitor) where
+  pub closing-first : (set : List ℕ) → length set ≡ setBytes → ((s : ℕ) → mem set s ≡ eqb s 0) → Closing m 0 set
+  closing-first set n e =
+      record {
+        size = n;
+        reached = λ s h. subst (λ (x : ℕ). Reached m x) (sym (eqb-true s 0 (sym (e s) ∙ h))) initial;
+        found = λ s h. e s ∙ eq-eqb s 0 (zero-only (m .transitions) s h);
+      }
+
+  pub closing-next : (rounds : ℕ) (before after : List ℕ) (grown : Bool) → Closing m rounds before → Spread m (m .transitions) before after grown → Closing m (suc rounds) after
+  closing-next rounds before after grown c s =
+      record {
+        size = s .size ∙ c .size;
+        reached = s .only (c .reached);
+        found = λ x h.
+            ⊎-elim (λ q. ap (λ (y : ℕ). mem after y) q ∙ s .kept 0 (c .found 0 (zero-there (m .transitions) rounds)))
+            (λ w. ap (λ (y : ℕ). mem after y) (w .3) ∙ s .there (w .0) (w .1) (c .found (w .0 .source) (w .2)))
+            (step-back (m .transitions) rounds x h);
+      }
+
+  pub closing-all : (rounds : ℕ) (set : List ℕ) → rounds ≡ length (m .transitions) → Closing m rounds set → (s : ℕ) → mem set s ≡ isReached m s
+  unfolding isReached
+  closing-all rounds set e c s =
+      both-ways (mem set s) (isReached m s) (λ h. reached-found m (c .reached s h)) (λ h. c .found s (ap (λ (n : ℕ). among s (reachedIn n (m .transitions))) e ∙ h))
+
+  -- a round that adds nothing leaves nothing to add
+  pub closing-still : (rounds : ℕ) (before after : List ℕ) (grown : Bool) → Closing m rounds before → Spread m (m .transitions) before after grown → grown ≡ false → (s : ℕ) → mem after s ≡ isReached m s
+  closing-still rounds before after grown c s e x = both-ways (mem after x) (isReached m x) (λ h. reached-found m (s .only (c .reached) x h)) (λ h. there (found-reached m x h))
+    where
+      first : mem after 0 ≡ true
+      first = s .kept 0 (c .found 0 (zero-there (m .transitions) rounds))
+
+      there : {x : ℕ} → Reached m x → mem after x ≡ true
+      there initial = first
+      there (led t i r) = s .there t i (ap (λ (l : List ℕ). mem l (t .source)) (sym (s .still e)) ∙ there r)
+
+pub transitions-many : (t : TableParts) (n : ℕ) → n ≡ t .transitions → n ≡ length (monitorOf t .transitions)
+unfolding monitorOf
+transitions-many t n e = e ∙ sym (length-tab (transitionIn t) (t .transitions))

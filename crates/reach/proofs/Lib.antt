@@ -1,0 +1,3 @@
+pub mod Spreads
+pub mod Closes
+pub mod Absent

@@ -1,0 +1,99 @@
+// The states that a table's transitions lead to from state 0, guards ignored (document 02, R-8), for any parts.
+use bits::put;
+use bits::test;
+use model::Reading;
+use model::Refusal;
+use model::TableParts;
+use wire::byte;
+ghost use mathlib.Core.Path.{_≡_};
+ghost use mathlib.Core.Bool.{_||_};
+ghost use Prim.Native.Nat.{ℕ};
+ghost use lib.Dec.{eqb};
+ghost use lib.ListN.{length};
+ghost use Rattle.model.specs.Bytes.{tab};
+ghost use Rattle.model.specs.First.{unless, firstOf};
+ghost use Rattle.model.specs.Reach.{StatesJudged, isReached, statesAnswer};
+ghost use Rattle.model.specs.Table.{monitorOf};
+ghost use Rattle.model.specs.declared.Refusal.the-variants.{TableState};
+ghost use Rattle.bits.specs.Member.{mem};
+ghost use Rattle.reach.specs.Spreading.{setBytes, Led, Spread};
+
+// Bytes of a set that has a place for every number that fits a byte.
+const SET: usize = 32;
+
+// Puts the target into the set if the source is in it. Did it come?
+fn lead(set: &mut [u8], source: u8, target: u8) -> bool
+    requires { ⌜ length (now set) ≡ setBytes ⌝ }
+    ensures { λ r. ⌜ Led source target (now (set .entry)) (now (set .exit)) r ⌝ }
+{
+    if !test(set, source as usize) {
+        return false;
+    }
+    if test(set, target as usize) {
+        return false;
+    }
+    put(set, target as usize);
+    true
+}
+
+fn either(a: bool, b: bool) -> bool
+    ensures { λ r. ⌜ r ≡ (a || b) ⌝ }
+{
+    if a { true } else { b }
+}
+
+// Tries each transition once, in turn. Did a state come?
+fn spread(t: TableParts, set: &mut [u8]) -> bool
+    requires { ⌜ length (now set) ≡ setBytes ⌝ }
+    ensures { λ r. ⌜ Spread (monitorOf t) (monitorOf t .transitions) (now (set .entry)) (now (set .exit)) r ⌝ }
+{
+    let n = t.transitions as usize;
+    let mut grown = false;
+    let mut j = 0;
+    while j < n {
+        let new = lead(set, byte(&t.sources, j), byte(&t.targets, j));
+        grown = either(grown, new);
+        j += 1;
+    }
+    grown
+}
+
+// From state 0 alone to all that are reached: a round for each transition, unless a round adds none.
+fn close(t: TableParts, set: &mut [u8])
+    requires { ⌜ (length (now set) ≡ setBytes) × ((s : ℕ) → mem (now set) s ≡ eqb s 0) ⌝ }
+    ensures { λ _. ⌜ ((s : ℕ) → mem (now (set .exit)) s ≡ isReached (monitorOf t) s) ⌝ }
+{
+    let n = t.transitions;
+    let mut round = 0;
+    while round < n {
+        if !spread(t, set) {
+            return;
+        }
+        round += 1;
+    }
+}
+
+// The lowest state that is not in the set.
+fn first_absent(set: &[u8], states: u8) -> Reading
+    ensures { λ r. ⌜ r ≡ firstOf (tab (λ s. unless (mem (now (set .entry)) s) (TableState s)) states) ⌝ }
+{
+    let mut s = 0;
+    while s < states {
+        if !test(set, s as usize) {
+            return Reading::Unsound(Refusal::TableState { state: s as u64 });
+        }
+        s += 1;
+    }
+    Reading::Sound
+}
+
+// 17, or no number.
+pub fn states_answer(t: TableParts) -> Reading
+    ensures { λ r. ⌜ r ≡ statesAnswer (monitorOf t) ⌝ }
+    ensures { λ r. ⌜ StatesJudged (monitorOf t) r ⌝ }
+{
+    let mut set = [0u8; SET];
+    put(&mut set, 0);
+    close(t, &mut set);
+    first_absent(&set, t.states)
+}

@@ -1,0 +1,49 @@
+//! Tables whose records are in order: N and the states that can be reached, against the definitions.
+
+use super::against_brute::situations;
+use super::{same, Counts};
+use crate::answer::{Answer, Refusal};
+use crate::brute::lowest_unreached;
+use crate::check::check_witness;
+use crate::compare::hex;
+use crate::generate::{any_table, dead_states, encode_table, Rng, Shape};
+use crate::rewrite::{rewrite_recording, rewrite_table};
+use crate::situation::MOST_SITUATIONS;
+use crate::table::{self, Table};
+use crate::validate::validate;
+
+pub fn test(rng: &mut Rng, counts: &mut Counts) -> Result<(), String> {
+    let shape = rng.pick(&[Shape::TINY, Shape::MIDDLE, Shape::LARGE]);
+    let reached = any_table(rng, &shape);
+    let changed = dead_states(rng, &reached);
+    let twice = dead_states(rng, &changed);
+    for table in [reached, changed, twice] {
+        let expected = expected(&table);
+        counts.tables += 1;
+        counts.dead += u64::from(expected.is_some_and(|it| it.number == 17));
+        let bytes = encode_table(&table);
+        test_one(&table, &bytes, expected).map_err(|it| format!("{it}\ntable: {}", hex(&bytes)))?;
+    }
+    Ok(())
+}
+
+fn expected(table: &Table) -> Option<Refusal> {
+    match situations(table) > MOST_SITUATIONS {
+        true => Some(Refusal::new(16, 0)),
+        false => lowest_unreached(table).map(|state| Refusal::new(17, state)),
+    }
+}
+
+/// The same refusal from every call, or what comes next if no room is lent and the recording is
+/// no file.
+fn test_one(table: &Table, bytes: &[u8], expected: Option<Refusal>) -> Result<(), String> {
+    same("read", table::read(bytes), expected.map_or(Ok(table.clone()), Err))?;
+    let or = |next: Answer| expected.map_or(next, Answer::from);
+    let no_room = or(Answer::new(33, bytes.len() as u64, 0));
+    same("write", table::write(table, &mut []), no_room)?;
+    same("rewrite", rewrite_table(bytes, &mut []), no_room)?;
+    let no_recording = or(Answer::new(20, 0, 0));
+    same("recording", rewrite_recording(bytes, &[], &mut []), no_recording)?;
+    same("validate", validate(bytes, &[], 0, &mut [], &mut []), no_recording)?;
+    same("check", check_witness(bytes, &[], &[]), no_recording)
+}
