@@ -27,7 +27,7 @@ reads-by given whole none answer parts same are =
 
 -- what the three readings promise
 
-pub table-reads : (b : List ℕ) (x : TableReading) → x ≡ readTable b 
+pub table-reads : (b : List ℕ) (x : TableReading) → x ≡ readTable b
     → (x ≡ readTable b) × (Reads (tableAnswer b) (tableParts b) noTable (x .answer) (x .parts) × RefusesUnreached b (x .answer))
 unfolding readTable
 table-reads b x e =

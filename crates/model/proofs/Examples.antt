@@ -47,7 +47,7 @@ unfolding dirtyScratch dirtyRoom
 judged answer zeros witness =
     record { answer = answer; scratch = replicate zeros 0 ++ drop zeros dirtyScratch; room = witness ++ drop (length witness) dirtyRoom }
 
-refused : Values → Run
+unfoldable pub refused : Values → Run
 unfolding dirtyScratch dirtyRoom
 refused answer = record { answer = answer; scratch = dirtyScratch; room = dirtyRoom }
 
@@ -67,7 +67,7 @@ one t k = 0 ∷ 6 ∷ 1 ∷ 0 ∷ 1 ∷ 0 ∷ t ∷ k ∷ []
 unfoldable pub two : (t k u l : ℕ) → List ℕ
 two t k u l = 0 ∷ 9 ∷ 1 ∷ 0 ∷ 2 ∷ 0 ∷ t ∷ k ∷ 0 ∷ u ∷ l ∷ []
 
-pub p5 : List ℕ
+unfoldable pub p5 : List ℕ
 p5 = 0 ∷ 12 ∷ 1 ∷ 0 ∷ 3 ∷ 0 ∷ 1 ∷ 0 ∷ 0 ∷ 3 ∷ 2 ∷ 0 ∷ 6 ∷ 1 ∷ []
 
 pub runs : List Run

@@ -29,4 +29,5 @@ pub mod WalkLaws
 pub mod Examples
 pub mod Counterexample
 pub mod Overheard
+pub mod Unreached
 pub mod AnswerLaws

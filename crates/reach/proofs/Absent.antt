@@ -36,8 +36,8 @@ module _ (set : List ℕ) where
   passed : (s : ℕ) → mem set s ≡ true → tested s ≡ Sound
   passed s e = rw e
 
-  pub all-present : (states s : ℕ) → states ≤ s → ((r : ℕ) → r < s → mem set r ≡ true) → Sound ≡ firstOf (tab tested states)
-  all-present states s h below = sym (first-passed tested states (λ r l. passed r (below r (omega arith))))
+  pub all-present : (states : ℕ) → ((r : ℕ) → r < states → mem set r ≡ true) → Sound ≡ firstOf (tab tested states)
+  all-present states all = sym (first-passed tested states (λ r l. passed r (all r l)))
 
   pub one-absent : (states s : ℕ) → s < states → ((r : ℕ) → r < s → mem set r ≡ true) → mem set s ≡ false → Unsound (TableState s) ≡ firstOf (tab tested states)
   one-absent states s h below e = sym (first-refused tested states s (TableState s) h (λ r l. passed r (below r l)) (rw e))

@@ -77,12 +77,13 @@ fn close(t: TableParts, set: &mut [u8])
 fn first_absent(set: &[u8], states: u8) -> Reading
     ensures { λ r. ⌜ r ≡ firstOf (tab (λ s. unless (mem (now (set .entry)) s) (TableState s)) states) ⌝ }
 {
-    let mut s = 0;
-    while s < states {
+    let mut left = states;
+    while 0 < left {
+        let s = states - left;
         if !test(set, s as usize) {
             return Reading::Unsound(Refusal::TableState { state: s as u64 });
         }
-        s += 1;
+        left -= 1;
     }
     Reading::Sound
 }
