@@ -25,6 +25,8 @@ extern "C" {
  * every lent byte untouched:
  *
  *    10 to 16   the table is not sound         second: where (document 01)
+ *    17         a state of the table cannot    second: the lowest such state
+ *               be reached from state 0
  *    20 to 24   the recording is not sound     second: where; for 23 and 24 the row, from 0
  *    30         scratch too short              second: bytes wanted
  *    31         witness room too short         second: bytes wanted

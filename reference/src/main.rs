@@ -92,7 +92,7 @@ fn write_cases(folder: &Path) -> Result<(), String> {
         ("from files", &made.from_files),
         ("from writing", &made.from_writing),
         ("from writing and reading back", &made.from_back),
-        ("dead states", &made.dead_states),
+        ("unreached states", &made.unreached_states),
     ];
     for (from, numbers) in tallies {
         let times = numbers.iter().map(|(number, times)| format!("{number} x {times}"));

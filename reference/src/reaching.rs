@@ -1,4 +1,4 @@
-//! Tables of R-8: all states can be reached from state 0, or some are dead.
+//! Tables of R-8: all states can be reached from state 0, or some are unreached.
 
 use crate::answer::Refusal;
 use crate::generate::encode_table;
@@ -29,18 +29,18 @@ const MOST_TRANSITIONS: usize = 64;
 /// Guards that never hold: not true, at least 5 and at most 3, a variable and not that variable.
 const NEVER: [&[u8]; 3] = [&[4, 0], &[5, 2, 0, 5, 1, 0, 3], &[5, 3, 0, 4, 3, 0]];
 
-/// States, links in the order of the table, and the lowest dead state.
+/// States, links in the order of the table, and the lowest unreached state.
 const FEW_LINKS: &[(&str, u8, &[Link], Option<usize>)] = &[
     ("one state and no transition", 1, &[], None),
     ("two states and no transition", 2, &[], Some(1)),
     ("16 states and no transition", 16, &[], Some(1)),
     ("state 0 leads to itself alone", 2, &[(0, 0)], Some(1)),
-    ("a dead state leads to itself", 2, &[(0, 0), (1, 1)], Some(1)),
+    ("an unreached state leads to itself", 2, &[(0, 0), (1, 1)], Some(1)),
     ("a state between leads to itself alone", 3, &[(0, 2), (1, 1)], Some(1)),
     ("the last state leads to itself and to 0", 3, &[(0, 1), (2, 2), (2, 0)], Some(2)),
     ("a state leads to itself before it is reached", 2, &[(1, 1), (0, 1)], None),
     ("several transitions between the same two", 2, &[(0, 1), (0, 1), (1, 0), (0, 1)], None),
-    ("two dead states lead to each other", 3, &[(0, 0), (1, 2), (2, 1)], Some(1)),
+    ("two unreached states lead to each other", 3, &[(0, 0), (1, 2), (2, 1)], Some(1)),
     ("three do, and to 0", 4, &[(1, 2), (2, 3), (3, 1), (1, 0), (3, 0)], Some(1)),
     ("two do, and to others", 5, &[(0, 1), (1, 3), (2, 4), (4, 2), (4, 1), (2, 0)], Some(2)),
     ("the last three do", 6, &[(3, 4), (4, 5), (5, 3), (5, 1), (0, 1), (1, 2)], Some(3)),
@@ -50,7 +50,7 @@ const FEW_LINKS: &[(&str, u8, &[Link], Option<usize>)] = &[
     ("all go back from the last", 3, &[(2, 1), (1, 0)], Some(1)),
     ("two ways each", 3, &[(2, 1), (1, 2), (1, 0), (0, 1)], None),
     ("lower states through the highest", 4, &[(1, 2), (3, 1), (0, 3)], None),
-    ("lower states through a dead one", 4, &[(1, 2), (3, 1), (0, 0)], Some(1)),
+    ("lower states through an unreached one", 4, &[(1, 2), (3, 1), (0, 0)], Some(1)),
     ("the lowest of two apart", 5, &[(0, 1), (1, 3), (4, 2), (4, 1)], Some(2)),
     ("two ways to one state, none to another", 5, &[(0, 1), (0, 2), (1, 4), (2, 4)], Some(3)),
 ];
@@ -58,12 +58,12 @@ const FEW_LINKS: &[(&str, u8, &[Link], Option<usize>)] = &[
 pub fn tables() -> Vec<Reaching> {
     let mut tables: Vec<Reaching> = FEW_LINKS
         .iter()
-        .map(|(name, states, links, dead)| named(*name, linked(*states, links), *dead))
+        .map(|(name, states, links, unreached)| named(*name, linked(*states, links), *unreached))
         .collect();
     tables.extend(chains());
     tables.extend(cut_chains());
-    tables.extend(one_dead());
-    tables.extend(some_dead());
+    tables.extend(one_unreached());
+    tables.extend(some_unreached());
     tables.extend(most_transitions());
     tables.extend(guarded());
     tables.extend(at_the_limit());
@@ -71,8 +71,8 @@ pub fn tables() -> Vec<Reaching> {
     tables
 }
 
-fn named(name: impl Into<String>, table: Table, dead: Option<usize>) -> Reaching {
-    refused(name, table, dead.map(|state| Refusal::new(17, state)))
+fn named(name: impl Into<String>, table: Table, unreached: Option<usize>) -> Reaching {
+    refused(name, table, unreached.map(|state| Refusal::new(17, state)))
 }
 
 fn refused(name: impl Into<String>, table: Table, refusal: Option<Refusal>) -> Reaching {
@@ -108,8 +108,8 @@ fn falling(states: u8) -> Vec<Link> {
 }
 
 /// But for the links to these states.
-fn without(mut links: Vec<Link>, dead: &[u8]) -> Vec<Link> {
-    links.retain(|(_, to)| !dead.contains(to));
+fn without(mut links: Vec<Link>, unreached: &[u8]) -> Vec<Link> {
+    links.retain(|(_, to)| !unreached.contains(to));
     links
 }
 
@@ -133,39 +133,41 @@ fn chains() -> Vec<Reaching> {
 
 /// Chains of 16 that lack one link.
 fn cut_chains() -> Vec<Reaching> {
-    let cut = |order: &str, links: Vec<Link>, dead: u8| {
-        let table = linked(STATES, &without(links, &[dead]));
-        named(format!("{order}, cut before {dead}"), table, Some(dead.into()))
+    let cut = |order: &str, links: Vec<Link>, unreached: u8| {
+        let table = linked(STATES, &without(links, &[unreached]));
+        named(format!("{order}, cut before {unreached}"), table, Some(unreached.into()))
     };
-    let falling = (1..STATES).map(|dead| cut("falling", falling(STATES), dead));
-    let rising = [1, 8, 15].map(|dead| cut("rising", rising(STATES), dead));
+    let falling = (1..STATES).map(|unreached| cut("falling", falling(STATES), unreached));
+    let rising = [1, 8, 15].map(|unreached| cut("rising", rising(STATES), unreached));
     falling.chain(rising).collect()
 }
 
 /// State 0 leads to all others but one, which leads to itself, to another, or nowhere.
-fn one_dead() -> Vec<Reaching> {
-    let one = |dead: u8| {
-        let mut links = without((1..STATES).map(|to| (0, to)).collect(), &[dead]);
-        match dead % 3 {
-            0 => links.insert(0, (dead, dead)),
-            1 => links.push((dead, dead - 1)),
+fn one_unreached() -> Vec<Reaching> {
+    let one = |unreached: u8| {
+        let mut links = without((1..STATES).map(|to| (0, to)).collect(), &[unreached]);
+        match unreached % 3 {
+            0 => links.insert(0, (unreached, unreached)),
+            1 => links.push((unreached, unreached - 1)),
             _ => {}
         }
-        named(format!("only {dead} dead"), linked(STATES, &links), Some(dead.into()))
+        named(format!("only {unreached} unreached"), linked(STATES, &links), Some(unreached.into()))
     };
     (1..STATES).map(one).collect()
 }
 
-fn some_dead() -> Vec<Reaching> {
+fn some_unreached() -> Vec<Reaching> {
     let mut tables = Vec::new();
-    for dead in [&[14, 15][..], &[5, 9, 15], &[15, 7], &[13, 14, 15], &[10, 11], &[4, 12]] {
-        let mut links = without((1..STATES).map(|to| (to / 2, to)).collect(), dead);
+    for unreached in [&[14, 15][..], &[5, 9, 15], &[15, 7], &[13, 14, 15], &[10, 11], &[4, 12]] {
+        let mut links = without((1..STATES).map(|to| (to / 2, to)).collect(), unreached);
         // Those that only they led to stay reached.
-        links.extend((1..STATES).filter(|to| !dead.contains(to)).map(|to| (0, to)));
-        // The dead ones lead to each other, round and round.
-        links.extend((0..dead.len()).map(|it| (dead[it], dead[(it + 1) % dead.len()])));
-        let lowest = dead.iter().min().copied().map(usize::from);
-        tables.push(named(format!("{dead:?} dead"), linked(STATES, &links), lowest));
+        links.extend((1..STATES).filter(|to| !unreached.contains(to)).map(|to| (0, to)));
+        // The unreached ones lead to each other, round and round.
+        links.extend(
+            (0..unreached.len()).map(|it| (unreached[it], unreached[(it + 1) % unreached.len()])),
+        );
+        let lowest = unreached.iter().min().copied().map(usize::from);
+        tables.push(named(format!("{unreached:?} unreached"), linked(STATES, &links), lowest));
     }
     tables
 }
@@ -198,9 +200,9 @@ fn guarded() -> Vec<Reaching> {
     };
     let mut tables = Vec::new();
     for guard in NEVER {
-        let mut add = |name: &str, states: u8, links: &[Link], dead| {
+        let mut add = |name: &str, states: u8, links: &[Link], unreached| {
             let table = with(guard, linked(states, links));
-            tables.push(named(format!("{name} by {guard:?}"), table, dead));
+            tables.push(named(format!("{name} by {guard:?}"), table, unreached));
         };
         add("two states", 2, &[(0, 1)], None);
         add("16 states", STATES, &falling(STATES), None);
@@ -222,14 +224,14 @@ fn at_the_limit() -> Vec<Reaching> {
     let loose = linked(STATES, &[(0, 0)]);
     let two = linked(2, &[(0, 0), (1, 0)]);
     let mut tables = Vec::new();
-    for (name, table, limit, airtime, dead) in [
+    for (name, table, limit, airtime, unreached) in [
         ("whole", whole, 254, 0, None),
         ("cut", cut, 254, 0, Some(15)),
         ("loose", loose, 254, 0, Some(1)),
         ("two states", two, 126, 15, Some(1)),
     ] {
         let at_most = wide(limit, table.clone(), airtime);
-        tables.push(named(format!("N at its limit, {name}"), at_most, dead));
+        tables.push(named(format!("N at its limit, {name}"), at_most, unreached));
         let above = Some(Refusal::new(16, 0));
         let over = wide(limit + 1, table, airtime);
         tables.push(refused(format!("N above its limit, {name}"), over, above));
@@ -237,7 +239,7 @@ fn at_the_limit() -> Vec<Reaching> {
     tables
 }
 
-/// State 1 is dead, and the last record, which starts at 20 and would end at 28, comes first.
+/// State 1 is unreached, and the last record, which starts at 20 and would end at 28, comes first.
 fn unsound_records() -> Vec<Reaching> {
     let table = linked(2, &[(0, 0), (1, 0)]);
     let with = |name: &str, number: u64, change: fn(&mut Transition)| {

@@ -20,8 +20,8 @@ fn every_number_comes_often_and_p5_is_printed_whole() {
         }
     }
     for state in 1..16 {
-        let times = made.dead_states.get(&state);
-        assert!(times.is_some_and(|times| *times >= 20), "dead state {state}");
+        let times = made.unreached_states.get(&state);
+        assert!(times.is_some_and(|times| *times >= 20), "unreached state {state}");
     }
     for bytes in 0..8 {
         let times = made.last_words.get(&bytes);

@@ -21,8 +21,8 @@ fn verdicts() {
     assert_eq!(lines(&[(1, RETRY)], 1), "rejected 1 1\n");
     assert_eq!(lines(&[(1, DATA), (3, ACK), (6, RETRY)], 7), "exhausted 7 5\n");
     assert_eq!(lines(&[(1, DATA), (2, DATA)], 7), "refused 24 1\n");
-    let dead = input(&monitor_with(&[(3, 4)]), &recording(&[(1, DATA), (2, DATA)]), 7);
-    assert_eq!(report(&dead), "refused 17 3\n");
+    let unreached = input(&monitor_with(&[(3, 4)]), &recording(&[(1, DATA), (2, DATA)]), 7);
+    assert_eq!(report(&unreached), "refused 17 3\n");
     let added = "accepted 5 3\nkept 1 0 0\nadded 3 2 1\nkept 4 0 0\n";
     assert_eq!(lines(&[(1, DATA), (4, DATA)], 5), added);
 }

@@ -177,7 +177,7 @@ fn number_16_situations() {
 
 /// State 0 leads to 1 and back. Records beyond the counts lead nowhere.
 #[test]
-fn number_17_dead_states() {
+fn number_17_unreached_states() {
     refused(&with_count(0, 3), 17, 2);
     refused(&with_count(0, 16), 17, 2);
     refused(&with_count(4, 0), 17, 1);

@@ -104,8 +104,8 @@ fn writing() {
     assert_eq!(room, [0, 6, 1, 0, 1, 1, 2, ACK, 0x5A]);
     let unsound = monitor_with(&[(20, 0)]);
     assert_eq!(write(&unsound, &heard(&[(0, 0)]), &mut room), answer(15, 14, 0));
-    let dead = monitor_with(&[(3, 4)]);
-    assert_eq!(write(&dead, &heard(&[(1, ACK); 513]), &mut room), answer(17, 3, 0));
+    let unreached = monitor_with(&[(3, 4)]);
+    assert_eq!(write(&unreached, &heard(&[(1, ACK); 513]), &mut room), answer(17, 3, 0));
 }
 
 /// T is 6 and n is 3: 7 sets of 6 bytes, and 5 + 5 x 9 of room.

@@ -168,7 +168,7 @@ fn number_16_situations() {
 
 /// The small monitor leads from 0 to 1 at 14, from 1 to 2 at 32, from 2 to 1 at 57, and back to 0.
 #[test]
-fn number_17_dead_states() {
+fn number_17_unreached_states() {
     // More states than are led to: the lowest of them.
     refused(&monitor_with(&[(3, 4)]), 17, 3);
     refused(&monitor_with(&[(3, 16)]), 17, 3);
@@ -259,7 +259,7 @@ fn writing_too_many_situations() {
 }
 
 #[test]
-fn writing_dead_states() {
+fn writing_unreached_states() {
     writes(&Table { states: 4, ..parts() }, 17, 3);
     writes(&Table { transitions: Vec::new(), ..parts() }, 17, 1);
     let mut table = parts();

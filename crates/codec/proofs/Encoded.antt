@@ -6,19 +6,17 @@ use native.Mathlib.Decide.{decLe}
 use mathlib.Core.Path.{_≡_, refl, sym, ap, _∙_}
 use mathlib.Core.List.{List, [], _∷_, _++_, append-assoc}
 use lib.ListN.{length, getD, take, drop, length-append, length-take, length-drop, take-append-drop}
-use lib.Dec.{leb}
 use mathlib.Core.Bool.{true, false}
 use borrow.Author.Tests.{le-leb, eq-eqb}
 use lib.Seq.{take-take, take-all, length-take-le}
-use Rattle.model.specs.Limits.{kindLimit, transitionLimit, guardLimit, tableLimit, sizeLimit}
+use Rattle.model.specs.Limits.{kindLimit, transitionLimit, guardLimit, tableLimit}
 use Rattle.model.specs.Bytes.{byteAt, wordAt, wordBytes, joined}
-use Rattle.model.specs.First.{unless, isSound}
+use Rattle.model.specs.First.{isSound}
 use Rattle.model.specs.Frame.{framed}
 use Rattle.model.specs.Answers.{Writes}
 use Rattle.model.specs.Room.{write, over}
-use Rattle.model.specs.Size.{size}
-use Rattle.model.specs.Table.{kindAt, kindBytes, guardBytesIn, transitionBytes, countBytes, tableBody, tableBytes, countsOf, tableCounts, tableParts, tableScan, tableAnswer, monitorOf, writeTable}
-use Rattle.model.specs.declared.Refusal.the-variants.{TableFrame, TableVersion, TableSize}
+use Rattle.model.specs.Table.{kindAt, kindBytes, guardBytesIn, transitionBytes, countBytes, tableBody, tableBytes, countsOf, tableCounts, tableScan, tableAnswer, writeTable}
+use Rattle.model.specs.declared.Refusal.the-variants.{TableFrame, TableVersion}
 use Rattle.model.specs.declared.Reading.{Reading}
 use Rattle.model.specs.declared.Reading.the-variants.{Sound, Unsound}
 use Rattle.model.specs.declared.Refusal.{Refusal}

@@ -1,4 +1,4 @@
--- The test of R-8 finds just the reached states, and 17 names the lowest that is not.
+-- The test of R-8 finds just the reached states.
 use Prim.Native.Nat.{ℕ, zero, suc, _<_, _≤_}
 use native.Mathlib.Omega.{arith}
 use mathlib.Core.Path.{_≡_, refl, sym, ap, subst, _∙_}
@@ -8,15 +8,9 @@ use mathlib.Core.Bool.{Bool, true, false, cond, false≢true}
 use lib.ListN.{length}
 use lib.Dec.{eqb}
 use borrow.Author.Tests.{eqb-true, eq-eqb}
-use Rattle.model.specs.Bytes.{tab}
-use Rattle.model.specs.First.{unless, firstOf}
 use Rattle.model.specs.Monitor.{Monitor, Transition}
-use Rattle.model.specs.Reach.{Reached, initial, led, LowestUnreached, StatesJudged, among, targets, reachedIn, isReached, statesAnswer}
-use Rattle.model.specs.declared.Reading.{Reading}
-use Rattle.model.specs.declared.Reading.the-variants.{Sound, Unsound}
-use Rattle.model.specs.declared.Refusal.the-variants.{TableState}
-use Rattle.model.proofs.Basics.{or-cases, or-left, or-right, unless-sound}
-use Rattle.model.proofs.Tests.{sound-unsound, first-passed, first-refused, passed-each, refused-which}
+use Rattle.model.specs.Reach.{Reached, initial, led, among, targets, reachedIn, isReached}
+use Rattle.model.proofs.Basics.{or-cases, or-left, or-right}
 
 -- lists of states
 
@@ -140,7 +134,7 @@ module _ (ts : List Transition) where
   settled = ⊎-elim (λ e. e) (λ h. absurd (omega (arith, targets-few (reachedIn (length ts) ts) ts))) (growing (length ts))
 
 module _ (m : Monitor) where
-  pub reached-found : {s : ℕ} → Reached m s → isReached m s ≡ true
+  reached-found : {s : ℕ} → Reached m s → isReached m s ≡ true
   unfolding isReached
   reached-found initial = zero-there (m .transitions) (length (m .transitions))
   reached-found (led t i r) =
@@ -152,44 +146,7 @@ module _ (m : Monitor) where
   reached-in (suc n) s e =
       ⊎-elim (λ q. rw q initial) (λ w. rw (w .3) (led (w .0) (w .1) (reached-in n (w .0 .source) (w .2)))) (step-back (m .transitions) n s e)
 
-  pub found-reached : (s : ℕ) → isReached m s ≡ true → Reached m s
+  -- a path of transitions leads to a state exactly if the test finds it
+  pub reached-test : (s : ℕ) → Reached m s ↔ (isReached m s ≡ true)
   unfolding isReached
-  found-reached s e = reached-in (length (m .transitions)) s e
-
-  -- the test of one state
-  abbrev tested : ℕ → Reading
-  tested s = unless (isReached m s) (TableState s)
-
-  passed-reached : (s : ℕ) → tested s ≡ Sound → Reached m s
-  passed-reached s e = found-reached s (unless-sound (isReached m s) (TableState s) e)
-
-  reached-passed : (s : ℕ) → Reached m s → tested s ≡ Sound
-  reached-passed s r = rw (reached-found r)
-
-  unreached-refused : (s : ℕ) → (Reached m s → ⊥) → tested s ≡ Unsound (TableState s)
-  unreached-refused s away = go (isReached m s) (found-reached s)
-    where
-      go : (b : Bool) → (b ≡ true → Reached m s) → unless b (TableState s) ≡ Unsound (TableState s)
-      go true h = absurd (away (h refl))
-      go false h = refl
-
-  refused-unreached : (s r : ℕ) → tested s ≡ Unsound (TableState r) → (s ≡ r) × (Reached m s → ⊥)
-  refused-unreached s r e = go (isReached m s) (λ h. reached-found h) e
-    where
-      go : (b : Bool) → (Reached m s → b ≡ true) → unless b (TableState s) ≡ Unsound (TableState r) → (s ≡ r) × (Reached m s → ⊥)
-      go true h q = absurd (sound-unsound (TableState r) q)
-      go false h q = (cc, λ x. false≢true (h x))
-
-  pub states-judged : StatesJudged m (statesAnswer m)
-  unfolding statesAnswer
-  states-judged =
-      record {
-        sound = (λ e s l. passed-reached s (passed-each tested (m .states) e s l), λ all. first-passed tested (m .states) (λ s l. reached-passed s (all s l)));
-        refused = λ s. (lowest s, λ u. first-refused tested (m .states) s (TableState s) (u .state) (λ r l. reached-passed r (u .lower r l)) (unreached-refused s (u .unreached)));
-      }
-    where
-      lowest : (s : ℕ) → firstOf (tab tested (m .states)) ≡ Unsound (TableState s) → LowestUnreached m s
-      lowest s e =
-          let w = refused-which tested (m .states) (TableState s) e in
-          let same : w .0 ≡ s = refused-unreached (w .0) s (w .3) .0 in
-          subst (λ (x : ℕ). LowestUnreached m x) same (record { state = w .1; unreached = refused-unreached (w .0) s (w .3) .1; lower = λ r l. passed-reached r (w .2 r l) })
+  reached-test s = (λ r. reached-found r, reached-in (length (m .transitions)) s)

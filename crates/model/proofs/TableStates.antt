@@ -1,28 +1,71 @@
--- R-8 of a table's bytes: 17 is given "after 16", where the other numbers do not apply, and by the states alone.
+-- 17 in the words of R-8: of a monitor, and of a table's bytes, where it comes "after 16".
 use Prim.Native.Nat.{ℕ, zero, suc, _+_, _<_, _≤_}
 use native.Mathlib.Omega.{arith}
-use mathlib.Core.Path.{_≡_, refl, sym, ap, subst, _∙_}
+use mathlib.Core.Path.{_≡_, refl, ap, subst}
 use mathlib.Core.List.{List, [], _∷_}
-use mathlib.Core.Bool.{Bool, true, false, _&&_}
+use mathlib.Core.Bool.{Bool, true, false, _&&_, false≢true}
 use lib.ListN.{length}
 use lib.Dec.{leb, ltb, eqb}
-use borrow.Author.Tests.{leb-true, ltb-true, le-leb}
+use borrow.Author.Tests.{ltb-true, le-leb}
+use Rattle.model.specs.Bytes.{tab}
 use Rattle.model.specs.Limits.{sizeLimit}
 use Rattle.model.specs.First.{unless, andThen, firstOf}
 use Rattle.model.specs.Frame.{framed}
-use Rattle.model.specs.Reach.{LowestUnreached, statesAnswer}
+use Rattle.model.specs.Monitor.{Monitor}
+use Rattle.model.specs.Reach.{Reached, LowestUnreached, StatesJudged, isReached, statesAnswer}
 use Rattle.model.specs.Size.{size}
-use Rattle.model.specs.Table.{countsOf, tableCounts, kindRecord, kindRecords, transitionFields, guardRecord, transitionRecord, transitionRecords, kindsAt, kindAt, transitionsAt, guardLengthAt, tableParts, tableScan, tableAnswer, monitorOf, monitorAt}
+use Rattle.model.specs.Table.{countsOf, kindRecord, kindRecords, transitionFields, guardRecord, transitionRecord, transitionRecords, kindsAt, kindAt, transitionsAt, guardLengthAt, tableParts, tableScan, tableAnswer, monitorOf, monitorAt}
 use Rattle.model.specs.Numbers.{refusalValues, readingValues}
 use Rattle.model.specs.Answers.{RefusesUnreached}
 use Rattle.model.specs.declared.Reading.{Reading}
 use Rattle.model.specs.declared.Reading.the-variants.{Sound, Unsound}
 use Rattle.model.specs.declared.Refusal.{Refusal}
 use Rattle.model.specs.declared.Refusal.the-variants.{TableFrame, TableVersion, TableLength, TableSize, TableState}
-use Rattle.model.proofs.Basics.{and-left, and-right}
-use Rattle.model.proofs.Tests.{le-test, test, tests, frameTests}
+use Rattle.model.proofs.Basics.{and-left, and-right, unless-sound}
+use Rattle.model.proofs.Tests.{le-test, test, tests, frameTests, sound-unsound, first-passed, first-refused, passed-each, refused-which}
 use Rattle.model.proofs.TableForm.{countTests, kindTests, fieldTests, guardTests}
-use Rattle.model.proofs.Reaching.{states-judged}
+use Rattle.model.proofs.Reaching.{reached-test}
+
+module _ (m : Monitor) where
+  -- the test of one state
+  abbrev tested : ℕ → Reading
+  tested s = unless (isReached m s) (TableState s)
+
+  passed-reached : (s : ℕ) → tested s ≡ Sound → Reached m s
+  passed-reached s e = reached-test m s .1 (unless-sound (isReached m s) (TableState s) e)
+
+  reached-passed : (s : ℕ) → Reached m s → tested s ≡ Sound
+  reached-passed s r = rw (reached-test m s .0 r)
+
+  unreached-refused : (s : ℕ) → (Reached m s → ⊥) → tested s ≡ Unsound (TableState s)
+  unreached-refused s away = go (isReached m s) (reached-test m s .1)
+    where
+      go : (b : Bool) → (b ≡ true → Reached m s) → unless b (TableState s) ≡ Unsound (TableState s)
+      go true h = absurd (away (h refl))
+      go false h = refl
+
+  refused-unreached : (s r : ℕ) → tested s ≡ Unsound (TableState r) → (s ≡ r) × (Reached m s → ⊥)
+  refused-unreached s r e = go (isReached m s) (reached-test m s .0) e
+    where
+      go : (b : Bool) → (Reached m s → b ≡ true) → unless b (TableState s) ≡ Unsound (TableState r) → (s ≡ r) × (Reached m s → ⊥)
+      go true h q = absurd (sound-unsound (TableState r) q)
+      go false h q = (cc, λ x. false≢true (h x))
+
+  pub states-judged : StatesJudged m (statesAnswer m)
+  unfolding statesAnswer
+  states-judged =
+      record {
+        sound = (λ e s l. passed-reached s (passed-each tested (m .states) e s l), λ all. first-passed tested (m .states) (λ s l. reached-passed s (all s l)));
+        refused = λ s. (lowest s, λ u. first-refused tested (m .states) s (TableState s) (u .state) (λ r l. reached-passed r (u .lower r l)) (unreached-refused s (u .unreached)));
+      }
+    where
+      lowest : (s : ℕ) → firstOf (tab tested (m .states)) ≡ Unsound (TableState s) → LowestUnreached m s
+      lowest s e =
+          let w = refused-which tested (m .states) (TableState s) e in
+          let same : w .0 ≡ s = refused-unreached (w .0) s (w .3) .0 in
+          subst (λ (x : ℕ). LowestUnreached m x) same (record { state = w .1; unreached = refused-unreached (w .0) s (w .3) .1; lower = λ r l. passed-reached r (w .2 r l) })
+
+-- The other numbers of a table are not 17.
 
 -- a number below 17, or none
 record Earlier (x : Reading) : Type 0 where

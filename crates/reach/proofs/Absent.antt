@@ -1,12 +1,12 @@
 -- The lowest state that is not in a set, and 17.
-use Prim.Native.Nat.{ℕ, suc, _+_, _<_, _≤_}
+use Prim.Native.Nat.{ℕ, suc, _+_, _<_}
 use native.Mathlib.Omega.{arith}
 use native.Mathlib.Decide.{ℕ-discrete}
 use mathlib.Core.Path.{_≡_, sym, ap, subst, _∙_}
-use mathlib.Core.List.{List, [], _∷_}
+use mathlib.Core.List.{List}
 use mathlib.Core.Bool.{Bool, true, false}
 use lib.Dec.{eqb}
-use lib.ListN.{length, replicate}
+use lib.ListN.{replicate}
 use borrow.Author.Tests.{eq-eqb, ne-eqb}
 use Rattle.model.specs.Bytes.{tab}
 use Rattle.model.specs.First.{unless, firstOf}
@@ -16,11 +16,10 @@ use Rattle.model.specs.declared.Reading.{Reading}
 use Rattle.model.specs.declared.Reading.the-variants.{Sound, Unsound}
 use Rattle.model.specs.declared.Refusal.the-variants.{TableState}
 use Rattle.model.proofs.Places.{tab-same}
-use Rattle.model.proofs.Reaching.{states-judged}
+use Rattle.model.proofs.TableStates.{states-judged}
 use Rattle.model.proofs.Tests.{first-passed, first-refused}
 use Rattle.bits.specs.Member.{mem, PutIn}
 use Rattle.bits.proofs.Laws.{mem-zeros}
-use Rattle.reach.specs.Spreading.{setBytes}
 
 module _ (set : List ℕ) where
   abbrev tested : ℕ → Reading

@@ -3,16 +3,16 @@ use Prim.Native.Nat.{ℕ, suc}
 use mathlib.Core.Path.{_≡_, refl, sym, ap, subst, _∙_}
 use mathlib.Core.Logic.{⊎-elim}
 use mathlib.Core.List.{List}
-use mathlib.Core.Bool.{Bool, true, false, false≢true}
+use mathlib.Core.Bool.{Bool, true, false}
 use lib.ListN.{length}
 use lib.Dec.{eqb}
 use borrow.Author.Tests.{eqb-true, eq-eqb}
-use Rattle.model.specs.Monitor.{Monitor, Transition}
+use Rattle.model.specs.Monitor.{Monitor}
 use Rattle.model.specs.Reach.{Reached, initial, led, among, reachedIn, isReached}
 use Rattle.model.specs.Table.{transitionIn, monitorOf}
 use Rattle.model.specs.declared.TableParts.{TableParts}
 use Rattle.model.proofs.Basics.{length-tab}
-use Rattle.model.proofs.Reaching.{zero-there, zero-only, step-back, reached-found, found-reached}
+use Rattle.model.proofs.Reaching.{zero-there, zero-only, step-back, reached-test}
 use Rattle.bits.specs.Member.{mem}
 use Rattle.reach.specs.Spreading.{setBytes, AllReached, Spread}
 
@@ -49,11 +49,11 @@ module _ (m : Monitor) where
   pub closing-all : (rounds : ℕ) (set : List ℕ) → rounds ≡ length (m .transitions) → Closing m rounds set → (s : ℕ) → mem set s ≡ isReached m s
   unfolding isReached
   closing-all rounds set e c s =
-      both-ways (mem set s) (isReached m s) (λ h. reached-found m (c .reached s h)) (λ h. c .found s (ap (λ (n : ℕ). among s (reachedIn n (m .transitions))) e ∙ h))
+      both-ways (mem set s) (isReached m s) (λ h. reached-test m s .0 (c .reached s h)) (λ h. c .found s (ap (λ (n : ℕ). among s (reachedIn n (m .transitions))) e ∙ h))
 
   -- a round that adds nothing leaves nothing to add
   pub closing-still : (rounds : ℕ) (before after : List ℕ) (grown : Bool) → Closing m rounds before → Spread m (m .transitions) before after grown → grown ≡ false → (s : ℕ) → mem after s ≡ isReached m s
-  closing-still rounds before after grown c s e x = both-ways (mem after x) (isReached m x) (λ h. reached-found m (s .only (c .reached) x h)) (λ h. there (found-reached m x h))
+  closing-still rounds before after grown c s e x = both-ways (mem after x) (isReached m x) (λ h. reached-test m x .0 (s .only (c .reached) x h)) (λ h. there (reached-test m x .1 h))
     where
       first : mem after 0 ≡ true
       first = s .kept 0 (c .found 0 (zero-there (m .transitions) rounds))

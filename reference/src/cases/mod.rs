@@ -55,7 +55,7 @@ pub struct Cases {
     pub from_writing: Numbers,
     pub from_back: Numbers,
     /// How often each state was named with 17, from files and parts.
-    pub dead_states: Numbers,
+    pub unreached_states: Numbers,
     /// How often a set was counted that has so many bytes behind its whole words, one or more.
     /// The first work is always 1; a cost above it had a set counted.
     pub last_words: BTreeMap<usize, usize>,
@@ -195,7 +195,7 @@ impl Cases {
         bytes: impl Iterator<Item = &'a u8>,
     ) -> io::Result<()> {
         if answer.number == 17 {
-            *self.dead_states.entry(answer.second).or_default() += 1;
+            *self.unreached_states.entry(answer.second).or_default() += 1;
         }
         let sum = bytes.fold(1, |sum, byte| add(sum, *byte));
         writeln!(self.output, "{} {} {} {sum}", answer.number, answer.second, answer.third)

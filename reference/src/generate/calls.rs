@@ -2,7 +2,6 @@
 
 use super::buffers::{dirty, length_near};
 use super::crossed::busy_air;
-use super::dead_states::dead_states;
 use super::encode::{encode_recording, encode_table, encode_witness};
 use super::learn::learn;
 use super::recordings::{any_rows, overheard, spoil_rows};
@@ -10,6 +9,7 @@ use super::rng::Rng;
 use super::spoil::{any_bytes, spoil_bytes};
 use super::spoil_tables::spoil_table;
 use super::tables::{any_table, sound_table, Shape};
+use super::unreached_states::unreached_states;
 use super::witnesses::{guessed, spoil_witness};
 use crate::answer::Answer;
 use crate::call::Call;
@@ -127,7 +127,7 @@ fn spoil(rng: &mut Rng, base: &mut Base) {
         }
         6 => base.recording_bytes = spoil_bytes(rng, &base.recording_bytes),
         7 => std::mem::swap(&mut base.table_bytes, &mut base.recording_bytes),
-        8 => base.table_bytes = encode_table(&dead_states(rng, &base.table)),
+        8 => base.table_bytes = encode_table(&unreached_states(rng, &base.table)),
         _ => match rng.one_in(2) {
             true => base.table_bytes = any_bytes(rng),
             false => base.recording_bytes = any_bytes(rng),

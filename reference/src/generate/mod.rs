@@ -3,7 +3,6 @@
 mod buffers;
 mod calls;
 mod crossed;
-mod dead_states;
 mod encode;
 mod learn;
 mod parts;
@@ -12,12 +11,12 @@ mod rng;
 mod spoil;
 mod spoil_tables;
 mod tables;
+mod unreached_states;
 mod witnesses;
 
 pub use buffers::{dirty, length_near};
 pub use calls::calls;
 pub use crossed::{busy_air, cross};
-pub use dead_states::dead_states;
 pub use encode::{encode_recording, encode_table, encode_witness};
 pub use parts::writings;
 pub use recordings::{any_rows, overheard, spoil_rows};
@@ -25,4 +24,5 @@ pub use rng::Rng;
 pub use spoil::{any_bytes, spoil_bytes};
 pub use spoil_tables::spoil_table;
 pub use tables::{any_table, sound_table, Shape};
+pub use unreached_states::unreached_states;
 pub use witnesses::{guessed, spoil_witness};

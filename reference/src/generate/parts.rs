@@ -2,13 +2,13 @@
 
 use super::buffers::length_near;
 use super::crossed::cross;
-use super::dead_states::dead_states;
 use super::encode::encode_table;
 use super::recordings::{any_rows, spoil_rows};
 use super::rng::Rng;
 use super::spoil::spoil_bytes;
 use super::spoil_tables::spoil_table;
 use super::tables::{any_table, sound_table, Shape};
+use super::unreached_states::unreached_states;
 use super::witnesses::{guessed, spoil_witness};
 use crate::parts::{Placed, RowParts, TableParts, GUARD_PLACES};
 use crate::recording::{self, Heard};
@@ -49,7 +49,7 @@ fn table_parts(rng: &mut Rng, table: &Table) -> Parts {
     let mut parts = TableParts::of(&match rng.below(12) {
         0..=3 => spoil_table(rng, table),
         4 => any_table(rng, &Shape { kinds: 3, transitions: 6, ..Shape::LARGE }),
-        5 => dead_states(rng, table),
+        5 => unreached_states(rng, table),
         _ => table.clone(),
     });
     parts.kinds.truncate(COUNT_LIMITS[3].1);
@@ -90,12 +90,12 @@ fn beyond(rng: &mut Rng, parts: &mut TableParts) {
     }
 }
 
-/// Mostly against the table itself, at times against a spoilt one or one with dead states.
+/// Mostly against the table itself, at times against a spoilt one or one with unreached states.
 fn recording_parts(rng: &mut Rng, table: &Table, heard: &recording::Recording) -> Parts {
     let mut bytes = encode_table(table);
     match rng.below(24) {
         0 | 1 => bytes = spoil_bytes(rng, &bytes),
-        2 => bytes = encode_table(&dead_states(rng, table)),
+        2 => bytes = encode_table(&unreached_states(rng, table)),
         _ => {}
     }
     let rows = match rng.one_in(2) {

@@ -167,8 +167,8 @@ fn unsound_tables() -> Vec<Vec<u8>> {
     let changed = [(2, 2), (3, 17), (7, 6), (8, 2), (20, 33)];
     let changed = changed.map(|(place, byte)| small_monitor_with(place, byte));
     let over = encode_table(&sized(1, 0, &[255, 254], 0));
-    let dead = small_monitor_with(3, 4);
-    [vec![]].into_iter().chain(changed).chain([over, dead]).collect()
+    let unreached = small_monitor_with(3, 4);
+    [vec![]].into_iter().chain(changed).chain([over, unreached]).collect()
 }
 
 fn rows<R: Copy>(count: u16, rows: &[R]) -> RowParts<R> {

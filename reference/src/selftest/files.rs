@@ -5,9 +5,9 @@ use super::{same, Counts};
 use crate::answer::{Answer, Refusal};
 use crate::compare::hex;
 use crate::generate::{
-    any_bytes, cross, dead_states, dirty, encode_recording, encode_table, encode_witness, guessed,
-    length_near, overheard, sound_table, spoil_bytes, spoil_rows, spoil_table, spoil_witness, Rng,
-    Shape,
+    any_bytes, cross, dirty, encode_recording, encode_table, encode_witness, guessed, length_near,
+    overheard, sound_table, spoil_bytes, spoil_rows, spoil_table, spoil_witness, unreached_states,
+    Rng, Shape,
 };
 use crate::rewrite::{rewrite_recording, rewrite_table, rewrite_witness};
 use crate::{recording, table, witness};
@@ -26,7 +26,7 @@ pub fn test(rng: &mut Rng, counts: &mut Counts) -> Result<(), String> {
     let guess_bytes = encode_witness(&guess);
     same("witness in form", witness::read(&guess_bytes), Ok(guess.clone()))?;
 
-    for spoilt in [spoil_table(rng, &sound), dead_states(rng, &sound)] {
+    for spoilt in [spoil_table(rng, &sound), unreached_states(rng, &sound)] {
         tables(rng, &spoilt)?;
     }
     let spoilt = spoil_rows(rng, &sound, &heard);

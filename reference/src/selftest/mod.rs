@@ -27,9 +27,9 @@ pub struct Counts {
     pub hunts_left: u64,
     pub checks: u64,
     pub files: u64,
-    /// Tables whose records are in order, and of these the ones with dead states.
+    /// Tables whose records are in order, and of these the ones with unreached states.
     pub tables: u64,
-    pub dead: u64,
+    pub unreached: u64,
 }
 
 /// Runs until the time is up; an error says what differed.
@@ -58,7 +58,7 @@ impl Counts {
              all lists the checker permits enumerated: {} inputs ({} left as too many)\n\
              witnesses checked rule by rule: {}\n\
              files read and written: {}\n\
-             tables' reach against brute force: {} ({} with dead states)\n\
+             tables' reach against brute force: {} ({} with unreached states)\n\
              no difference\n",
             self.papers,
             self.inputs,
@@ -73,7 +73,7 @@ impl Counts {
             self.checks,
             self.files,
             self.tables,
-            self.dead
+            self.unreached
         )
     }
 }

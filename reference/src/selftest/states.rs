@@ -6,7 +6,7 @@ use crate::answer::{Answer, Refusal};
 use crate::brute::lowest_unreached;
 use crate::check::check_witness;
 use crate::compare::hex;
-use crate::generate::{any_table, dead_states, encode_table, Rng, Shape};
+use crate::generate::{any_table, encode_table, unreached_states, Rng, Shape};
 use crate::rewrite::{rewrite_recording, rewrite_table};
 use crate::situation::MOST_SITUATIONS;
 use crate::table::{self, Table};
@@ -15,12 +15,12 @@ use crate::validate::validate;
 pub fn test(rng: &mut Rng, counts: &mut Counts) -> Result<(), String> {
     let shape = rng.pick(&[Shape::TINY, Shape::MIDDLE, Shape::LARGE]);
     let reached = any_table(rng, &shape);
-    let changed = dead_states(rng, &reached);
-    let twice = dead_states(rng, &changed);
+    let changed = unreached_states(rng, &reached);
+    let twice = unreached_states(rng, &changed);
     for table in [reached, changed, twice] {
         let expected = expected(&table);
         counts.tables += 1;
-        counts.dead += u64::from(expected.is_some_and(|it| it.number == 17));
+        counts.unreached += u64::from(expected.is_some_and(|it| it.number == 17));
         let bytes = encode_table(&table);
         test_one(&table, &bytes, expected).map_err(|it| format!("{it}\ntable: {}", hex(&bytes)))?;
     }

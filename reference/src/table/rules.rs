@@ -57,5 +57,5 @@ pub fn check_whole(table: &Table) -> Result<(), Refusal> {
     if Space::of(table).count() > MOST_SITUATIONS {
         return Err(Refusal::new(16, 0));
     }
-    states::lowest_dead(table).map_or(Ok(()), |state| Err(Refusal::new(17, state)))
+    states::lowest_unreached(table).map_or(Ok(()), |state| Err(Refusal::new(17, state)))
 }

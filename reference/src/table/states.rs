@@ -4,7 +4,7 @@ use super::Table;
 
 /// The lowest state that no way along transitions from state 0 leads to, whatever their guards.
 /// Of a table whose counts and records are in order.
-pub fn lowest_dead(table: &Table) -> Option<usize> {
+pub fn lowest_unreached(table: &Table) -> Option<usize> {
     let mut reached = vec![false; usize::from(table.states)];
     reached[0] = true;
     let mut waiting = vec![0];

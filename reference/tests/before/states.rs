@@ -58,7 +58,7 @@ pub const OTHERS: [Rule; 12] = [
     rule!("tried fourteen times, in order", |table| judged(table, passed(table, 14))),
     rule!("the highest is named", |table| {
         let reached = reached(table, all_rounds(table));
-        situations(table).and(dead(reached.iter().rposition(|reached| !reached)))
+        situations(table).and(unreached(reached.iter().rposition(|reached| !reached)))
     }),
     rule!("17 before 16", |table| {
         lowest(&reached(table, all_rounds(table))).and(situations(table))
@@ -113,10 +113,10 @@ fn judged(table: &Table, reached: Vec<bool>) -> Result<(), Refusal> {
 }
 
 fn lowest(reached: &[bool]) -> Result<(), Refusal> {
-    dead(reached.iter().position(|reached| !reached))
+    unreached(reached.iter().position(|reached| !reached))
 }
 
-fn dead(state: Option<usize>) -> Result<(), Refusal> {
+fn unreached(state: Option<usize>) -> Result<(), Refusal> {
     state.map_or(Ok(()), |state| Err(Refusal::new(17, state)))
 }
 

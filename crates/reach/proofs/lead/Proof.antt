@@ -1,10 +1,8 @@
 -- `reach::lead` meets its contract.
 use native.Mathlib.Omega.{arith}
-use mathlib.Core.Path.{_≡_, sym, _∙_}
-use mathlib.Core.Bool.{true, false}
+use mathlib.Core.Path.{sym, _∙_}
 use borrow.Author.Tests.{not-true, not-false}
 use borrow.Author.Needs.{needs}
-use Rattle.bits.specs.Member.{mem}
 use Rattle.reach.proofs.Spreads.{led-away, led-already, led-put}
 use Rattle.reach.proofs.lead.Statement.{statement}
 use Rattle.reach.proofs.lead.Tie as tie

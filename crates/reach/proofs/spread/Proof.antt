@@ -6,7 +6,7 @@ use lib.ListN.{length}
 use borrow.Author.Needs.{needs}
 use Rattle.model.specs.Bytes.{tab}
 use Rattle.model.specs.Table.{transitionIn, monitorOf}
-use Rattle.reach.specs.Spreading.{setBytes, Spread}
+use Rattle.reach.specs.Spreading.{Spread}
 use Rattle.reach.proofs.Spreads.{spread-first, spread-next, spread-whole}
 use Rattle.reach.proofs.spread.Statement.{statement}
 use Rattle.reach.proofs.spread.Tie as tie

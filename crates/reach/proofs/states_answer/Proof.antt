@@ -1,5 +1,4 @@
 -- `reach::states_answer` meets its contract.
-use mathlib.Core.Path.{_≡_}
 use borrow.Author.Needs.{needs}
 use Rattle.model.specs.Table.{monitorOf}
 use Rattle.reach.proofs.Absent.{answered, zero-alone}

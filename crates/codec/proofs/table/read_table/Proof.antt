@@ -1,5 +1,4 @@
-use mathlib.Core.Path.{_≡_, sym, _∙_, ap}
-use Rattle.model.specs.Table.{monitorOf, tableParts}
+use mathlib.Core.Path.{sym, _∙_}
 use Rattle.model.proofs.AnswerLaws.{table-reads}
 use Rattle.frame.proofs.Answers.{turn-stops, turn-goes, sound-is}
 use Rattle.codec.proofs.Tables.{scan-all, whole-of, read-refused, read-sound}

@@ -1,5 +1,3 @@
-use native.Mathlib.Omega.{arith}
-use mathlib.Core.Path.{sym}
 use borrow.Author.Needs.{needs}
 use Rattle.codec.proofs.Tables.{size-over, size-within}
 use Rattle.codec.proofs.table.size_answer.Statement.{statement}

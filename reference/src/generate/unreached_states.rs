@@ -5,7 +5,7 @@ use crate::table::{Table, COUNT_LIMITS};
 
 /// A sound table changed so that, nearly always, some state cannot be reached. At times N is above
 /// its limit too.
-pub fn dead_states(rng: &mut Rng, table: &Table) -> Table {
+pub fn unreached_states(rng: &mut Rng, table: &Table) -> Table {
     let mut table = table.clone();
     match rng.below(8) {
         0 => more_states(rng, &mut table),
@@ -39,16 +39,16 @@ fn more_states(rng: &mut Rng, table: &mut Table) {
 }
 
 /// Nothing leads to one or some states but themselves. They may lead to each other, to themselves
-/// and out; what only they led to is dead too.
+/// and out; what only they led to is unreached too.
 fn cut_off(rng: &mut Rng, table: &mut Table) {
     let one = rng.between(1, usize::from(table.states) - 1) as u8;
     let some = rng.one_in(2);
-    let (dead, reached): (Vec<u8>, Vec<u8>) =
+    let (unreached, reached): (Vec<u8>, Vec<u8>) =
         (0..table.states).partition(|state| *state == one || (some && *state > 0 && rng.one_in(3)));
     for it in &mut table.transitions {
-        if reached.contains(&it.from) && dead.contains(&it.to) {
+        if reached.contains(&it.from) && unreached.contains(&it.to) {
             match rng.one_in(2) {
-                true => it.from = rng.pick(&dead),
+                true => it.from = rng.pick(&unreached),
                 false => it.to = rng.pick(&reached),
             }
         }

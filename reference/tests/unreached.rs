@@ -47,8 +47,8 @@ fn tables_are_refused_as_is_said() {
         let expected = it.refusal.map_or(Ok(it.table.clone()), Err);
         assert_eq!(read(&it.bytes), expected, "{}", it.name);
         if it.refusal.is_none_or(|refusal| refusal.number == 17) {
-            let dead = it.refusal.map(|refusal| refusal.value as usize);
-            assert_eq!(lowest_unreached(&it.table), dead, "{}", it.name);
+            let unreached = it.refusal.map(|refusal| refusal.value as usize);
+            assert_eq!(lowest_unreached(&it.table), unreached, "{}", it.name);
         }
         if it.is_whole() {
             let no_room = Answer::new(33, it.bytes.len() as u64, 0);
