@@ -9,14 +9,14 @@ use mathlib.Core.Bool.{Bool, true, false, _&&_}
 use lib.Dec.{leb, ltb}
 use lib.ListN.{length, getD, take, drop, length-take}
 use borrow.Author.Tests.{le-leb, lt-leb}
-use Rattle.model.specs.Limits.{stateLimit, variableLimit, clockLimit, kindLimit, transitionLimit, guardLimit, sizeLimit}
+use Rattle.model.specs.Limits.{kindLimit, transitionLimit, guardLimit, sizeLimit}
 use Rattle.model.specs.Bytes.{byteAt, joined, padded}
 use Rattle.model.specs.First.{unless, andThen, firstOf, isSound}
 use Rattle.model.specs.Frame.{framed}
 use Rattle.model.specs.Monitor.{Monitor}
 use Rattle.model.specs.Size.{size}
 use Rattle.model.specs.Reach.{statesAnswer}
-use Rattle.model.specs.Table.{countsOf, tableCounts, kindRecords, apart, transitionFields, guardRecord, transitionRecord, transitionRecords, statesAt, variablesAt, clocksAt, kindsAt, transitionsAt, kindAt, transitionAt, guardLengthAt, guardPlace, tableScan, tableAnswer, tableParts, noTable, readTable, monitorOf}
+use Rattle.model.specs.Table.{countsOf, tableCounts, kindRecords, apart, transitionFields, guardRecord, transitionRecord, transitionRecords, statesAt, variablesAt, clocksAt, kindsAt, transitionsAt, kindAt, transitionAt, guardLengthAt, guardPlace, tableScan, wholeAnswer, tableAnswer, tableParts, noTable, readTable, monitorOf}
 use Rattle.model.specs.declared.TableParts.{TableParts}
 use Rattle.model.specs.declared.TableReading.{TableReading}
 use Rattle.model.specs.declared.Refusal.the-variants.{TableSize, TableFrame, TableVersion, TableCount, TableLength, TableField}
@@ -24,8 +24,8 @@ use Rattle.model.specs.declared.Refusal.{Refusal}
 use Rattle.model.specs.declared.Reading.{Reading}
 use Rattle.model.specs.declared.Reading.the-variants.{Sound}
 use Rattle.model.proofs.Basics.{andThen-left, andThen-right}
-use Rattle.model.proofs.Tests.{test, le-test}
-use Rattle.model.proofs.TableForm.{sound-transition}
+use Rattle.model.proofs.Tests.{test, le-test, tests}
+use Rattle.model.proofs.TableForm.{countTests, sound-transition}
 use Rattle.wire.specs.Placed.{placed}
 use Rattle.frame.proofs.Columns.{joined-long, padded-long, place-more}
 use Rattle.frame.proofs.Answers.{then-sound}
@@ -38,16 +38,7 @@ counts-are b s v c k t es ev ec ek et = rw (es, ev, ec, ek, et)
 pub counts-bound : (s v c k t : ℕ) → countsOf s v c k t ≡ Sound → (k ≤ kindLimit) × (t ≤ transitionLimit)
 unfolding countsOf
 counts-bound s v c k t h =
-    let l : List Reading =
-    unless (leb 1 s) (TableCount 3)
-    ∷ unless (leb s stateLimit) (TableCount 3)
-    ∷ unless (leb v variableLimit) (TableCount 4)
-    ∷ unless (leb c clockLimit) (TableCount 5)
-    ∷ unless (leb 1 k) (TableCount 6)
-    ∷ unless (leb k kindLimit) (TableCount 6)
-    ∷ unless (leb t transitionLimit) (TableCount 7)
-    ∷ []
-    in
+    let l : List Reading = tests (countTests s v c k t) in
     (le-test _ _ (TableCount 6) (test l h 5), le-test _ _ (TableCount 7) (test l h 6))
 
 -- the fields of a record, by the two tests that the code makes
@@ -81,18 +72,15 @@ fields-row b at es ev ec ek e0 e1 e2 e3 e4 e5 p q =
     (apart (variablesAt b) (byteAt b (at + 3)) (byteAt b (at + 4)))
     (TableField at))
 
-abbrev wholeAnswer : Monitor → Reading
-wholeAnswer m = andThen (unless (leb (size m) sizeLimit) TableSize) (statesAnswer m)
-
 module _ (b : List ℕ) where
   pub record-row : (at : ℕ) → transitionRecord b at ≡ andThen (unless (leb (at + 7) (length b)) (TableLength at)) (andThen (transitionFields b at) (guardRecord b at))
   unfolding transitionRecord
   record-row at = simp then-sound
 
-  -- 16 comes after the scan, and 17 last
+  -- 16 and 17 come after the scan
   pub scan-all : tableAnswer b ≡ andThen (tableScan b) (wholeAnswer (monitorOf (tableParts b)))
   unfolding tableAnswer
-  scan-all = rw (then-sound (statesAnswer (monitorOf (tableParts b))))
+  scan-all = simp then-sound
 
   pub record-bound : (at : ℕ) → transitionRecord b at ≡ Sound → (guardLengthAt b at ≤ guardLimit) × (at + 7 + guardLengthAt b at ≤ length b)
   record-bound at h = let t = sound-transition b at h in (t .few, t .fits)
@@ -172,6 +160,11 @@ read-sound b r p e h q = rw (← e, h, q)
 -- 16 and 17 of the parts that were read
 pub whole-of : (b : List ℕ) (r : Reading) (p : TableParts) → tableAnswer b ≡ wholeAnswer (monitorOf (tableParts b)) → p ≡ tableParts b → r ≡ wholeAnswer (monitorOf p) → r ≡ tableAnswer b
 whole-of b r p all e is = is ∙ ap (λ (t : TableParts). wholeAnswer (monitorOf t)) e ∙ sym all
+
+-- 16, then 17
+pub whole-all : (m : Monitor) → wholeAnswer m ≡ andThen (unless (leb (size m) sizeLimit) TableSize) (statesAnswer m)
+unfolding wholeAnswer
+whole-all m = rw (then-sound (statesAnswer m))
 
 -- N that was cut at one above the limit
 pub size-over : (n r : ℕ) → r ≡ min n (sizeLimit + 1) → sizeLimit < r → leb n sizeLimit ≡ false

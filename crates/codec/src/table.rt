@@ -28,16 +28,15 @@ ghost use mathlib.Core.List.{List, _++_};
 ghost use lib.ListN.{length};
 ghost use lib.Dec.{leb, ltb, eqb};
 ghost use Rattle.model.specs.Answers.{Reads, RefusesUnreached, Writes};
-ghost use Rattle.model.specs.First.{unless, andThen};
+ghost use Rattle.model.specs.First.{unless};
 ghost use Rattle.model.specs.Limits.{kindLimit, transitionLimit, guardLimit, sizeLimit, tableLimit};
 ghost use Rattle.model.specs.Size.{size};
-ghost use Rattle.model.specs.Reach.{statesAnswer};
 ghost use Rattle.model.specs.Bytes.{wordBytes, joined, padded};
 ghost use Rattle.model.specs.Room.{over};
 ghost use Rattle.wire.specs.Placed.{placed};
 ghost use Rattle.model.specs.declared.Reading.the-variants.{Sound};
 ghost use Rattle.model.specs.declared.Refusal.the-variants.{TableSize};
-ghost use Rattle.model.specs.Table.{countsOf, kindRecord, kindRecords, apart, transitionFields, guardRecord, transitionRecord, transitionRecords, kindsAt, kindAt, transitionsAt, kindColumn, transitionColumn, guardPlace, tableParts, noTable, tableScan, tableAnswer, readTable, monitorOf, kindBytes, fieldBytes, guardBytesIn, transitionBytes, countBytes, tableBytes, writeTable};
+ghost use Rattle.model.specs.Table.{countsOf, kindRecord, kindRecords, apart, transitionFields, guardRecord, transitionRecord, transitionRecords, kindsAt, kindAt, transitionsAt, kindColumn, transitionColumn, guardPlace, tableParts, noTable, tableScan, wholeAnswer, tableAnswer, readTable, monitorOf, kindBytes, fieldBytes, guardBytesIn, transitionBytes, countBytes, tableBytes, writeTable};
 
 // Limits of counts and of a guard's length, which are bytes.
 const KINDS: u8 = KIND_LIMIT as u8;
@@ -384,7 +383,7 @@ fn size_answer(t: TableParts) -> Reading
 
 // 16, then 17: what is asked of the whole table.
 fn whole_answer(t: TableParts) -> Reading
-    ensures { λ r. ⌜ r ≡ andThen (unless (leb (size (monitorOf t)) sizeLimit) TableSize) (statesAnswer (monitorOf t)) ⌝ }
+    ensures { λ r. ⌜ r ≡ wholeAnswer (monitorOf t) ⌝ }
 {
     let size = size_answer(t);
     let states = states_answer(t);

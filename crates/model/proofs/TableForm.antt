@@ -18,7 +18,7 @@ use Rattle.model.specs.Guard.{upTo, guardAt, endsAt, guardOf}
 use Rattle.model.specs.Monitor.{Transition}
 use Rattle.model.specs.Size.{size}
 use Rattle.model.specs.Reach.{statesAnswer}
-use Rattle.model.specs.Table.{guardIn, transitionIn, monitorOf, statesAt, variablesAt, clocksAt, kindsAt, transitionsAt, tableCounts, countsOf, kindRecord, kindRecords, apart, guardLengthAt, transitionFields, guardRecord, transitionRecord, transitionRecords, kindAt, transitionAt, guardPlace, tableParts, tableScan, tableAnswer, SoundTable, monitorAt}
+use Rattle.model.specs.Table.{guardIn, transitionIn, monitorOf, statesAt, variablesAt, clocksAt, kindsAt, transitionsAt, tableCounts, countsOf, kindRecord, kindRecords, apart, guardLengthAt, transitionFields, guardRecord, transitionRecord, transitionRecords, kindAt, transitionAt, guardPlace, tableParts, tableScan, wholeAnswer, tableAnswer, SoundTable, monitorAt}
 use Rattle.model.specs.declared.Reading.{Reading}
 use Rattle.model.specs.declared.Reading.the-variants.{Sound}
 use Rattle.model.specs.declared.Refusal.{Refusal}
@@ -39,21 +39,21 @@ pub record SoundCounts (b : List ℕ) : Type 0 where
   pub kinds : kindsAt b ≤ kindLimit
   pub transitions : transitionsAt b ≤ transitionLimit
 
-abbrev pub countTests : List ℕ → List (Bool × Refusal)
-countTests b =
-    (leb 1 (statesAt b), TableCount 3)
-    ∷ (leb (statesAt b) stateLimit, TableCount 3)
-    ∷ (leb (variablesAt b) variableLimit, TableCount 4)
-    ∷ (leb (clocksAt b) clockLimit, TableCount 5)
-    ∷ (leb 1 (kindsAt b), TableCount 6)
-    ∷ (leb (kindsAt b) kindLimit, TableCount 6)
-    ∷ (leb (transitionsAt b) transitionLimit, TableCount 7)
+abbrev pub countTests : (states variables clocks kinds transitions : ℕ) → List (Bool × Refusal)
+countTests states variables clocks kinds transitions =
+    (leb 1 states, TableCount 3)
+    ∷ (leb states stateLimit, TableCount 3)
+    ∷ (leb variables variableLimit, TableCount 4)
+    ∷ (leb clocks clockLimit, TableCount 5)
+    ∷ (leb 1 kinds, TableCount 6)
+    ∷ (leb kinds kindLimit, TableCount 6)
+    ∷ (leb transitions transitionLimit, TableCount 7)
     ∷ []
 
 counts : (b : List ℕ) → tableCounts b ≡ Sound → SoundCounts b
 unfolding countsOf
 counts b e =
-    let l : List Reading = tests (countTests b) in
+    let l : List Reading = tests (countTests (statesAt b) (variablesAt b) (clocksAt b) (kindsAt b) (transitionsAt b)) in
     record {
       states-some = le-test _ _ (TableCount 3) (test l e 0);
       states = le-test _ _ (TableCount 3) (test l e 1);
@@ -189,14 +189,11 @@ pub record TableFacts (b : List ℕ) : Type 0 where
   pub small : size (monitorAt b) ≤ sizeLimit
 
 pub table-facts : (b : List ℕ) → SoundTable b → TableFacts b
-unfolding tableAnswer tableScan transitionAt
+unfolding tableAnswer wholeAnswer tableScan transitionAt
 table-facts b e =
-    let all : List Reading =
-    tableScan b
-    ∷ unless (leb (size (monitorOf (tableParts b))) sizeLimit) TableSize
-    ∷ statesAnswer (monitorOf (tableParts b))
-    ∷ []
-    in
+    let m = monitorOf (tableParts b) in
+    let all : List Reading = tableScan b ∷ wholeAnswer m ∷ [] in
+    let whole : List Reading = unless (leb (size m) sizeLimit) TableSize ∷ statesAnswer m ∷ [] in
     let l : List Reading =
     framed b 8 TableFrame TableVersion
     ∷ tableCounts b
@@ -211,7 +208,7 @@ table-facts b e =
       kind = λ i h. kinds-sound (kindsAt b) b 0 i (test l s 2) (omega arith) (omega arith);
       transition = λ j h. transitions-sound (transitionsAt b) b 0 j (test l s 3) (omega arith) (omega arith);
       end = ap (λ (x : ℕ). transitionAt b x) (sym (zero-add (transitionsAt b))) ∙ transitions-end (transitionsAt b) b 0 (test l s 3);
-      small = le-test _ _ TableSize (test all e 1);
+      small = le-test _ _ TableSize (test whole (test all e 1) 0);
     }
 
 -- the parts, where the counts reach

@@ -14,7 +14,7 @@ use Rattle.model.specs.Frame.{framed}
 use Rattle.model.specs.Monitor.{Monitor}
 use Rattle.model.specs.Reach.{Reached, LowestUnreached, StatesJudged, isReached, statesAnswer}
 use Rattle.model.specs.Size.{size}
-use Rattle.model.specs.Table.{countsOf, kindRecord, kindRecords, transitionFields, guardRecord, transitionRecord, transitionRecords, kindsAt, kindAt, transitionsAt, guardLengthAt, tableParts, tableScan, tableAnswer, monitorOf, monitorAt}
+use Rattle.model.specs.Table.{statesAt, variablesAt, clocksAt, countsOf, kindRecord, kindRecords, transitionFields, guardRecord, transitionRecord, transitionRecords, kindsAt, kindAt, transitionsAt, guardLengthAt, tableParts, tableScan, wholeAnswer, tableAnswer, monitorOf, monitorAt}
 use Rattle.model.specs.Numbers.{refusalValues, readingValues}
 use Rattle.model.specs.Answers.{RefusesUnreached}
 use Rattle.model.specs.declared.Reading.{Reading}
@@ -120,30 +120,35 @@ scan-earlier : (b : List ℕ) → Earlier (tableScan b)
 unfolding tableScan framed countsOf early
 scan-earlier b =
     then-earlier (tests-earlier (frameTests b 8 TableFrame TableVersion) refl)
-    (then-earlier (tests-earlier (countTests b) refl)
+    (then-earlier (tests-earlier (countTests (statesAt b) (variablesAt b) (clocksAt b) (kindsAt b) (transitionsAt b)) refl)
     (then-earlier (kinds-earlier (kindsAt b) b (kindAt 0))
     (then-earlier (transitions-earlier (transitionsAt b) b (kindAt (kindsAt b))) none-earlier)))
 
--- who answers 17: not the scan, not the size
-last-state : (x y z : Reading) (s : ℕ) → Earlier x → Earlier y → andThen x (andThen y (andThen z Sound)) ≡ Unsound (TableState s)
-    → (x ≡ Sound) × (y ≡ Sound) × (z ≡ Unsound (TableState s))
-last-state (Unsound r) y z s p q e = absurd (omega (arith, p .number, ap (λ (w : Reading). readingValues w .number) e))
-last-state Sound (Unsound r) z s p q e = absurd (omega (arith, q .number, ap (λ (w : Reading). readingValues w .number) e))
-last-state Sound Sound (Unsound r) s p q e = (refl, refl, e)
-last-state Sound Sound Sound s p q e = (refl, refl, e)
+-- an earlier number goes before 17
+behind-earlier : (x y : Reading) (s : ℕ) → Earlier x → firstOf (x ∷ y ∷ []) ≡ Unsound (TableState s) → (x ≡ Sound) × (y ≡ Unsound (TableState s))
+behind-earlier (Unsound r) y s h e = absurd (omega (arith, h .number, ap (λ (w : Reading). readingValues w .number) e))
+behind-earlier Sound (Unsound r) s h e = (refl, e)
+behind-earlier Sound Sound s h e = (refl, e)
 
 pub refuses-unreached : (b : List ℕ) → RefusesUnreached b (tableAnswer b)
-unfolding tableAnswer monitorOf tableParts
+unfolding tableAnswer wholeAnswer monitorOf tableParts
 refuses-unreached b =
     record {
-      sound = λ e s l. states-judged (monitorAt b) .sound .0 (test all e 2) s l;
-      refused = λ s. (there s, λ w. rw (w .0, le-leb (size (monitorAt b)) sizeLimit (w .1), states-judged (monitorAt b) .refused s .1 (w .2)));
+      sound = λ e s l. states-judged m .sound .0 (test whole (test (tableScan b ∷ wholeAnswer m ∷ []) e 1) 1) s l;
+      refused = λ s. (there s, λ w. rw (w .0, le-leb (size m) sizeLimit (w .1), states-judged m .refused s .1 (w .2)));
     }
   where
-    all : List Reading
-    all = tableScan b ∷ unless (leb (size (monitorAt b)) sizeLimit) TableSize ∷ statesAnswer (monitorAt b) ∷ []
+    m : Monitor
+    m = monitorAt b
 
-    there : (s : ℕ) → firstOf all ≡ Unsound (TableState s) → (tableScan b ≡ Sound) × (size (monitorAt b) ≤ sizeLimit) × LowestUnreached (monitorAt b) s
+    within : Reading
+    within = unless (leb (size m) sizeLimit) TableSize
+
+    whole : List Reading
+    whole = within ∷ statesAnswer m ∷ []
+
+    there : (s : ℕ) → firstOf (tableScan b ∷ firstOf whole ∷ []) ≡ Unsound (TableState s) → (tableScan b ≡ Sound) × (size m ≤ sizeLimit) × LowestUnreached m s
     there s e =
-        let w = last-state (tableScan b) _ (statesAnswer (monitorAt b)) s (scan-earlier b) (unless-earlier (leb (size (monitorAt b)) sizeLimit) TableSize refl) e in
-        (w .0, le-test _ _ TableSize (w .1), states-judged (monitorAt b) .refused s .0 (w .2))
+        let scanned = behind-earlier (tableScan b) (firstOf whole) s (scan-earlier b) e in
+        let sized = behind-earlier within (statesAnswer m) s (unless-earlier (leb (size m) sizeLimit) TableSize refl) (scanned .1) in
+        (scanned .0, le-test _ _ TableSize (sized .0), states-judged m .refused s .0 (sized .1))

@@ -1,4 +1,4 @@
--- What passing a list of tests tells of each, and what a frame that passes ensures.
+-- What passing a list of tests tells of each, which of them refuses, and what a frame that passes ensures.
 use Prim.Native.Nat.{ℕ, zero, suc, _+_, _*_, _<_, _≤_}
 use native.Mathlib.Omega.{arith}
 use native.Mathlib.Decide.{decLt}
@@ -31,12 +31,12 @@ lt-test a b r e = ltb-true a b (unless-sound (ltb a b) r e)
 pub eq-test : (a b : ℕ) (r : Refusal) → unless (eqb a b) r ≡ Sound → a ≡ b
 eq-test a b r e = eqb-true a b (unless-sound (eqb a b) r e)
 
--- what a frame that passes ensures
-
 -- a test is a condition and the refusal where it fails
 abbrev pub tests : List (Bool × Refusal) → List Reading
 tests [] = []
 tests (x ∷ l) = unless (x .0) (x .1) ∷ tests l
+
+-- what a frame that passes ensures
 
 abbrev pub frameTests : List ℕ → ℕ → (frame version : Refusal) → List (Bool × Refusal)
 frameTests b least f v = (leb least (length b), f) ∷ (eqb (wordAt b 0 + 2) (length b), f) ∷ (eqb (byteAt b 2) 1, v) ∷ []

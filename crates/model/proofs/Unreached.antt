@@ -22,9 +22,9 @@ link source target = source ∷ target ∷ 0 ∷ 0 ∷ 0 ∷ 0 ∷ 1 ∷ 0 ∷ [
 never : ℕ → ℕ → List ℕ
 never source target = source ∷ target ∷ 0 ∷ 0 ∷ 0 ∷ 0 ∷ 2 ∷ 4 ∷ 0 ∷ []
 
--- from state 0 to itself while clock 0 is at most T
-while : ℕ → List ℕ
-while T = 0 ∷ 0 ∷ 0 ∷ 0 ∷ 0 ∷ 0 ∷ 3 ∷ 1 ∷ 0 ∷ T ∷ []
+-- from state 0 to itself, while clock 0 is at most T
+clocked : ℕ → List ℕ
+clocked T = 0 ∷ 0 ∷ 0 ∷ 0 ∷ 0 ∷ 0 ∷ 3 ∷ 1 ∷ 0 ∷ T ∷ []
 
 -- n - 1 to n, .. 1 to 2, 0 to 1
 falling : ℕ → List ℕ
@@ -36,39 +36,26 @@ falling (suc n) = link n (suc n) ++ falling n
 linked : (states variables clocks count : ℕ) → (records : List ℕ) → List ℕ
 linked states variables clocks count records = wordBytes (8 + length records) ++ (1 ∷ states ∷ variables ∷ clocks ∷ 1 ∷ count ∷ 0 ∷ 0 ∷ records)
 
-pub tables : List (List ℕ)
-unfolding link never while falling linked
-tables =
-    linked 1 0 0 0 []
-    ∷ linked 2 0 0 0 []
-    ∷ linked 16 0 0 15 (falling 15)
-    ∷ linked 16 0 0 14 (falling 14)
-    ∷ linked 16 0 0 15 (set (falling 15) 56 8)
-    ∷ linked 3 0 0 2 (link 1 2 ++ link 2 1)
-    ∷ linked 2 0 0 1 (never 0 1)
-    ∷ linked 16 4 1 1 (while 254)
-    ∷ linked 16 4 1 1 (while 255)
+-- One state and no transition, two; a chain whose links stand in falling order, whole, without the link to its last state, and with the one to state 8 from 8 itself;
+-- a cycle to which nothing leads; a state behind a guard that never holds; N 65,536, and N above it, where 16 comes first
+pub cases : List (List ℕ × Values)
+unfolding link never clocked falling linked
+cases =
+    (linked 1 0 0 0 [], values 0 0 0)
+    ∷ (linked 2 0 0 0 [], values 17 1 0)
+    ∷ (linked 16 0 0 15 (falling 15), values 0 0 0)
+    ∷ (linked 16 0 0 14 (falling 14), values 17 15 0)
+    ∷ (linked 16 0 0 15 (set (falling 15) 56 8), values 17 8 0)
+    ∷ (linked 3 0 0 2 (link 1 2 ++ link 2 1), values 17 1 0)
+    ∷ (linked 2 0 0 1 (never 0 1), values 0 0 0)
+    ∷ (linked 16 4 1 1 (clocked 254), values 17 1 0)
+    ∷ (linked 16 4 1 1 (clocked 255), values 16 0 0)
     ∷ []
 
--- One state and no transition; two; a chain whose links stand in falling order, whole, without its last state's link, and with that of state 8 from 8 itself; a cycle
--- to which nothing leads; a state behind a guard that never holds; N 65,536; and N above it, where 16 comes first
-pub answers : List Values
-answers =
-    values 0 0 0
-    ∷ values 17 1 0
-    ∷ values 0 0 0
-    ∷ values 17 15 0
-    ∷ values 17 8 0
-    ∷ values 17 1 0
-    ∷ values 0 0 0
-    ∷ values 17 1 0
-    ∷ values 16 0 0
-    ∷ []
+pub record Answered : Type 0 where
+  pub judged : run vendor p5 10000 ≡ refused (values 17 3 0)
+  pub read : map (λ c. readingValues (tableAnswer (c .0))) cases ≡ map (λ c. c .1) cases
 
-pub record Refused : Type 0 where
-  pub vendors : run vendor p5 10000 ≡ refused (values 17 3 0)
-  pub answered : map (λ b. readingValues (tableAnswer b)) tables ≡ answers
-
-pub unreached : Refused
-unfolding run refused vendor table p5 tables answers
-unreached = record { vendors = refl; answered = refl }
+pub unreached : Answered
+unfolding run refused vendor table p5 cases
+unreached = record { judged = refl; read = refl }

@@ -1,4 +1,4 @@
--- "Numbers the desk reads back": the number, second and third value of each answer.
+-- "Numbers the desk reads back", with those of document 02's requests: the number, second and third value of each answer.
 use Prim.Native.Nat.{ℕ}
 use Rattle.model.specs.declared.Refusal.{Refusal}
 use Rattle.model.specs.declared.Refusal.the-variants.{TableFrame, TableVersion, TableCount, TableLength, TableField, TableGuard, TableSize, TableState, RecordingFrame, RecordingVersion, RecordingCount, RecordingRange, RecordingOrder, Scratch, WitnessRoom, WriteRoom, WitnessFrame, WitnessVersion, WitnessCount, WitnessRow}

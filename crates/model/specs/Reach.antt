@@ -18,7 +18,7 @@ pub data Reached (m : Monitor) : ℕ → Type 0 where
   initial : Reached m 0
   led : (t : Transition) → List·Memᴰ t (m .transitions) → Reached m (t .source) → Reached m (t .target)
 
--- "the lowest such state": it cannot be reached, and each lower one is
+-- "the lowest such state": it cannot be reached, and each lower state is reached
 pub record LowestUnreached (m : Monitor) (s : ℕ) : Type 0 where
   pub state : s < m .states
   pub unreached : Reached m s → ⊥

@@ -212,13 +212,20 @@ tableScan b =
     ∷ transitionRecords (transitionsAt b) b (kindAt (kindsAt b))
     ∷ [])
 
+-- the numbers 16 and 17, of the whole table: N, states that cannot be reached
+unfoldable pub wholeAnswer : Monitor → Reading
+wholeAnswer m =
+    firstOf
+    (unless (leb (size m) sizeLimit) TableSize
+    ∷ statesAnswer m
+    ∷ [])
+
 -- the numbers 10 to 17, in their order
 unfoldable pub tableAnswer : List ℕ → Reading
 tableAnswer b =
     firstOf
     (tableScan b
-    ∷ unless (leb (size (monitorOf (tableParts b))) sizeLimit) TableSize
-    ∷ statesAnswer (monitorOf (tableParts b))
+    ∷ wholeAnswer (monitorOf (tableParts b))
     ∷ [])
 
 unfoldable pub readTable : List ℕ → TableReading

@@ -90,7 +90,7 @@ pub struct Situation {
     pub air: u8,
 }
 
-// Why an input is refused: document 01's numbers from 10 on, in its order.
+// Why an input is refused: document 01's numbers from 10 on, with those of document 02's requests (17), in their order.
 pub enum Refusal {
     TableFrame,
     TableVersion,

@@ -1,4 +1,4 @@
-// Document 01's table of numbers: the number, second and third value of each answer.
+// Document 01's table of numbers, and those of document 02's requests: the number, second and third value of each answer.
 ghost use mathlib.Core.Path.{_≡_};
 ghost use Rattle.model.specs.Numbers.{values, refusalValues, readingValues, writingValues, checkingValues, verdictValues};
 ghost use Rattle.numbers.specs.Told.{told};

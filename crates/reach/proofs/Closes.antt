@@ -14,10 +14,10 @@ use Rattle.model.specs.declared.TableParts.{TableParts}
 use Rattle.model.proofs.Basics.{length-tab}
 use Rattle.model.proofs.Reaching.{zero-there, zero-only, step-back, reached-test}
 use Rattle.bits.specs.Member.{mem}
-use Rattle.reach.specs.Spreading.{setBytes, AllReached, Spread}
+use Rattle.reach.specs.Spreading.{stateBytes, AllReached, Spread}
 
 pub record Closing (m : Monitor) (rounds : ℕ) (set : List ℕ) : Type 0 where
-  pub size : length set ≡ setBytes
+  pub size : length set ≡ stateBytes
   pub reached : AllReached m set
   pub found : (s : ℕ) → among s (reachedIn rounds (m .transitions)) ≡ true → mem set s ≡ true
 
@@ -27,7 +27,7 @@ both-ways false true h k = k refl
 both-ways false false h k = refl
 
 module _ (m : Monitor) where
-  pub closing-first : (set : List ℕ) → length set ≡ setBytes → ((s : ℕ) → mem set s ≡ eqb s 0) → Closing m 0 set
+  pub closing-first : (set : List ℕ) → length set ≡ stateBytes → ((s : ℕ) → mem set s ≡ eqb s 0) → Closing m 0 set
   closing-first set n e =
       record {
         size = n;

@@ -14,7 +14,7 @@ use Rattle.model.specs.Reach.{led}
 use Rattle.model.specs.Table.{transitionIn, monitorOf}
 use Rattle.model.specs.declared.TableParts.{TableParts}
 use Rattle.bits.specs.Member.{mem, PutIn}
-use Rattle.reach.specs.Spreading.{setBytes, Led, Spread}
+use Rattle.reach.specs.Spreading.{stateBytes, Led, Spread}
 
 -- one transition
 
@@ -25,7 +25,7 @@ module _ (source target : ℕ) (before : List ℕ) where
   pub led-already : mem before target ≡ true → Led source target before before false
   led-already e = record { size = refl; kept = λ s h. h; there = λ h. e; only = λ s h. inl h; still = λ h. refl }
 
-  pub led-put : (after : List ℕ) → length before ≡ setBytes → target < 256 → mem before source ≡ true → PutIn target before after → Led source target before after true
+  pub led-put : (after : List ℕ) → length before ≡ stateBytes → target < 256 → mem before source ≡ true → PutIn target before after → Led source target before after true
   led-put after n l e p =
       record {
         size = p .size;

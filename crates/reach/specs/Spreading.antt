@@ -9,11 +9,11 @@ use Rattle.model.specs.Monitor.{Monitor, Transition}
 use Rattle.model.specs.Reach.{Reached}
 use Rattle.bits.specs.Member.{mem}
 
--- places for 256 states
-abbrev pub setBytes : ℕ
-setBytes = 32
+-- a place for every number that fits a byte
+abbrev pub stateBytes : ℕ
+stateBytes = 32
 
--- one transition: its target is there if its source was, and nothing else comes. fresh: something came
+-- one transition: its target is there if its source was, and nothing else comes. fresh: it is new
 pub record Led (source target : ℕ) (before after : List ℕ) (fresh : Bool) : Type 0 where
   pub size : length after ≡ length before
   pub kept : (s : ℕ) → mem before s ≡ true → mem after s ≡ true
@@ -25,7 +25,7 @@ pub record Led (source target : ℕ) (before after : List ℕ) (fresh : Bool) : 
 abbrev pub AllReached : Monitor → List ℕ → Type 0
 AllReached m set = (s : ℕ) → mem set s ≡ true → Reached m s
 
--- some of the monitor's transitions in turn
+-- some of the monitor's transitions in turn. grown: a state is new
 pub record Spread (m : Monitor) (ts : List Transition) (before after : List ℕ) (grown : Bool) : Type 0 where
   pub size : length after ≡ length before
   pub kept : (s : ℕ) → mem before s ≡ true → mem after s ≡ true

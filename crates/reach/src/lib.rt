@@ -16,14 +16,14 @@ ghost use Rattle.model.specs.Reach.{StatesJudged, isReached, statesAnswer};
 ghost use Rattle.model.specs.Table.{monitorOf};
 ghost use Rattle.model.specs.declared.Refusal.the-variants.{TableState};
 ghost use Rattle.bits.specs.Member.{mem};
-ghost use Rattle.reach.specs.Spreading.{setBytes, Led, Spread};
+ghost use Rattle.reach.specs.Spreading.{stateBytes, Led, Spread};
 
-// Bytes of a set that has a place for every number that fits a byte.
-const SET: usize = 32;
+// Bytes of a set of states: a place for every number that fits a byte.
+const STATE_BYTES: usize = 32;
 
-// Puts the target into the set if the source is in it. Did it come?
+// Puts the target into the set if the source is in it. Is it new there?
 fn lead(set: &mut [u8], source: u8, target: u8) -> bool
-    requires { ⌜ length (now set) ≡ setBytes ⌝ }
+    requires { ⌜ length (now set) ≡ stateBytes ⌝ }
     ensures { λ r. ⌜ Led source target (now (set .entry)) (now (set .exit)) r ⌝ }
 {
     if !test(set, source as usize) {
@@ -42,9 +42,9 @@ fn either(a: bool, b: bool) -> bool
     if a { true } else { b }
 }
 
-// Tries each transition once, in turn. Did a state come?
+// Tries each transition once, in turn. Is a state new?
 fn spread(t: TableParts, set: &mut [u8]) -> bool
-    requires { ⌜ length (now set) ≡ setBytes ⌝ }
+    requires { ⌜ length (now set) ≡ stateBytes ⌝ }
     ensures { λ r. ⌜ Spread (monitorOf t) (monitorOf t .transitions) (now (set .entry)) (now (set .exit)) r ⌝ }
 {
     let n = t.transitions as usize;
@@ -60,7 +60,7 @@ fn spread(t: TableParts, set: &mut [u8]) -> bool
 
 // From state 0 alone to all that are reached: a round for each transition, unless a round adds none.
 fn close(t: TableParts, set: &mut [u8])
-    requires { ⌜ (length (now set) ≡ setBytes) × ((s : ℕ) → mem (now set) s ≡ eqb s 0) ⌝ }
+    requires { ⌜ (length (now set) ≡ stateBytes) × ((s : ℕ) → mem (now set) s ≡ eqb s 0) ⌝ }
     ensures { λ _. ⌜ ((s : ℕ) → mem (now (set .exit)) s ≡ isReached (monitorOf t) s) ⌝ }
 {
     let n = t.transitions;
@@ -88,12 +88,12 @@ fn first_absent(set: &[u8], states: u8) -> Reading
     Reading::Sound
 }
 
-// 17, or no number.
+// 17 with the lowest state that cannot be reached, or no number.
 pub fn states_answer(t: TableParts) -> Reading
     ensures { λ r. ⌜ r ≡ statesAnswer (monitorOf t) ⌝ }
     ensures { λ r. ⌜ StatesJudged (monitorOf t) r ⌝ }
 {
-    let mut set = [0u8; SET];
+    let mut set = [0u8; STATE_BYTES];
     put(&mut set, 0);
     close(t, &mut set);
     first_absent(&set, t.states)
