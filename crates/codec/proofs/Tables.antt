@@ -12,20 +12,19 @@ use borrow.Author.Tests.{le-leb, lt-leb}
 use Rattle.model.specs.Limits.{kindLimit, transitionLimit, guardLimit, sizeLimit}
 use Rattle.model.specs.Bytes.{byteAt, joined, padded}
 use Rattle.model.specs.First.{unless, andThen, firstOf, isSound}
-use Rattle.model.specs.Frame.{framed}
 use Rattle.model.specs.Monitor.{Monitor}
 use Rattle.model.specs.Size.{size}
 use Rattle.model.specs.Reach.{statesAnswer}
-use Rattle.model.specs.Table.{countsOf, tableCounts, kindRecords, apart, transitionFields, guardRecord, transitionRecord, transitionRecords, statesAt, variablesAt, clocksAt, kindsAt, transitionsAt, kindAt, transitionAt, guardLengthAt, guardPlace, tableScan, wholeAnswer, tableAnswer, tableParts, noTable, readTable, monitorOf}
+use Rattle.model.specs.Table.{countsOf, tableCounts, apart, transitionFields, guardRecord, transitionRecord, transitionRecords, statesAt, variablesAt, clocksAt, kindsAt, transitionsAt, kindAt, transitionAt, guardLengthAt, guardPlace, tableScan, wholeAnswer, tableAnswer, tableParts, noTable, readTable, monitorOf}
 use Rattle.model.specs.declared.TableParts.{TableParts}
 use Rattle.model.specs.declared.TableReading.{TableReading}
-use Rattle.model.specs.declared.Refusal.the-variants.{TableSize, TableFrame, TableVersion, TableCount, TableLength, TableField}
+use Rattle.model.specs.declared.Refusal.the-variants.{TableSize, TableCount, TableLength, TableField}
 use Rattle.model.specs.declared.Refusal.{Refusal}
 use Rattle.model.specs.declared.Reading.{Reading}
 use Rattle.model.specs.declared.Reading.the-variants.{Sound}
 use Rattle.model.proofs.Basics.{andThen-left, andThen-right}
 use Rattle.model.proofs.Tests.{test, le-test, tests}
-use Rattle.model.proofs.TableForm.{countTests, sound-transition}
+use Rattle.model.proofs.TableForm.{countTests, scanTests, sound-transition}
 use Rattle.wire.specs.Placed.{placed}
 use Rattle.frame.proofs.Columns.{joined-long, padded-long, place-more}
 use Rattle.frame.proofs.Answers.{then-sound}
@@ -86,24 +85,14 @@ module _ (b : List ℕ) where
   record-bound at h = let t = sound-transition b at h in (t .few, t .fits)
 
   module _ (sound : tableScan b ≡ Sound) where
-    scan-tests : List Reading
-    scan-tests =
-        framed b 8 TableFrame TableVersion
-        ∷ tableCounts b
-        ∷ kindRecords (kindsAt b) b (kindAt 0)
-        ∷ transitionRecords (transitionsAt b) b (kindAt (kindsAt b))
-        ∷ []
-
-    scan-test : (i : ℕ) → getD scan-tests i Sound ≡ Sound
-    unfolding tableScan scan-tests
-    scan-test i = test scan-tests sound i
+    scan-test : (i : ℕ) → getD (scanTests b) i Sound ≡ Sound
+    unfolding tableScan
+    scan-test i = test (scanTests b) sound i
 
     pub scan-bounds : (kindsAt b ≤ kindLimit) × (transitionsAt b ≤ transitionLimit)
-    unfolding scan-tests
     scan-bounds = counts-bound _ _ _ _ _ (scan-test 1)
 
     scan-transitions : transitionRecords (transitionsAt b) b (kindAt (kindsAt b)) ≡ Sound
-    unfolding scan-tests
     scan-transitions = scan-test 3
 
     -- from each record on, what is left is sound

@@ -18,6 +18,7 @@ use Rattle.model.specs.Table.{monitorAt}
 use Rattle.model.specs.Recording.{packetsAt}
 use Rattle.model.specs.Situation.{moveLimit, firstNumber, recordedAt}
 use Rattle.model.specs.Layers.{count}
+use Rattle.model.proofs.Basics.{same-test}
 use Rattle.model.proofs.LayerLaws.{Given, length-layer, layer-suc}
 use Rattle.bits.specs.Member.{mem}
 use Rattle.bits.specs.Counting.{tally, population, Counted}
@@ -30,12 +31,6 @@ use Rattle.engine.specs.declared.measures.Measures.{Measures}
 use Rattle.engine.specs.Setting.{RowHolds, LayersUpTo}
 use Rattle.engine.specs.Forwarding.{Filled, Turn, Turned}
 use Rattle.engine.proofs.Rows.{next-row, row-before, product, stepOf, possible}
-
--- two tests that pass together are the same
-same-test : (a b : Bool) → (a ≡ true → b ≡ true) → (b ≡ true → a ≡ true) → a ≡ b
-same-test true b f g = sym (f refl)
-same-test false true f g = absurd (false≢true (g refl))
-same-test false false f g = refl
 
 -- a set's count is a tally
 

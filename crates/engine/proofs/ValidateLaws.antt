@@ -24,6 +24,7 @@ use Rattle.model.specs.declared.Verdict.the-variants.{Accepted, Rejected, Exhau
 use Rattle.model.specs.declared.TableParts.{TableParts}
 use Rattle.model.specs.declared.TableReading.{TableReading}
 use Rattle.model.proofs.Basics.{length-tab}
+use Rattle.model.proofs.Tests.{sound-unsound}
 use Rattle.model.proofs.TableForm.{table-facts}
 use Rattle.model.proofs.RecordingForm.{sound-table, packetAt, packets-tab}
 use Rattle.model.proofs.Judgement.{sound-judged}
@@ -67,11 +68,8 @@ module _ (table recording : List ℕ) (budget : ℕ) (scratch room : List ℕ) w
         numbers = ap verdictValues (sym (validation-refused why e));
         cleared = ap (λ (v : Verdict). scratchBy v (scratchWanted table recording) scratch) (sym (validation-refused why e));
         written = ap (λ (v : Verdict). roomBy v (witnessBytes (preferred (monitorAt table) (packetsAt recording))) room) (sym (validation-refused why e));
-        judged = λ s. absurd (never (sym s ∙ e));
+        judged = λ s. absurd (sound-unsound why (sym s ∙ e));
       }
-    where
-      never : Sound ≡ Unsound why → ⊥
-      never q = let z : _≡_ {A = ℕ} 0 1 = cc in omega arith
 
   pub unread : (why : Refusal) → recordingAnswer table recording ≡ Unsound why → Validates table recording budget scratch room scratch room (Refused why)
   unfolding refusal

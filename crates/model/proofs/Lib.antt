@@ -5,6 +5,9 @@ pub mod Tests
 pub mod Reaching
 pub mod GuardForm
 pub mod TableForm
+pub mod Missing
+pub mod NumberLaws
+pub mod ScanNumbers
 pub mod TableStates
 pub mod TableTrip
 pub mod RecordingForm

@@ -188,19 +188,21 @@ pub record TableFacts (b : List ℕ) : Type 0 where
   pub end : transitionAt b (transitionsAt b) ≡ length b
   pub small : size (monitorAt b) ≤ sizeLimit
 
+abbrev pub scanTests : List ℕ → List Reading
+scanTests b =
+    framed b 8 TableFrame TableVersion
+    ∷ tableCounts b
+    ∷ kindRecords (kindsAt b) b (kindAt 0)
+    ∷ transitionRecords (transitionsAt b) b (kindAt (kindsAt b))
+    ∷ []
+
 pub table-facts : (b : List ℕ) → SoundTable b → TableFacts b
 unfolding tableAnswer wholeAnswer tableScan transitionAt
 table-facts b e =
     let m = monitorOf (tableParts b) in
     let all : List Reading = tableScan b ∷ wholeAnswer m ∷ [] in
     let whole : List Reading = unless (leb (size m) sizeLimit) TableSize ∷ statesAnswer m ∷ [] in
-    let l : List Reading =
-    framed b 8 TableFrame TableVersion
-    ∷ tableCounts b
-    ∷ kindRecords (kindsAt b) b (kindAt 0)
-    ∷ transitionRecords (transitionsAt b) b (kindAt (kindsAt b))
-    ∷ []
-    in
+    let l : List Reading = scanTests b in
     let s : firstOf l ≡ Sound = test all e 0 in
     record {
       head = framed-facts b 8 TableFrame TableVersion (test l s 0);

@@ -49,6 +49,9 @@ reachedIn (suc n) ts = 0 ∷ targets ts (reachedIn n ts)
 unfoldable pub isReached : Monitor → ℕ → Bool
 isReached m s = among s (reachedIn (length (m .transitions)) (m .transitions))
 
--- 17, state by state from 0 up
+-- 17 with the lowest state that is not found, of so many
+unfoldable pub lowestMissing : (ℕ → Bool) → ℕ → Reading
+lowestMissing found states = firstOf (tab (λ s. unless (found s) (TableState s)) states)
+
 unfoldable pub statesAnswer : Monitor → Reading
-statesAnswer m = firstOf (tab (λ s. unless (isReached m s) (TableState s)) (m .states))
+statesAnswer m = lowestMissing (isReached m) (m .states)

@@ -14,19 +14,19 @@ use Rattle.model.specs.Reach.{led}
 use Rattle.model.specs.Table.{transitionIn, monitorOf}
 use Rattle.model.specs.declared.TableParts.{TableParts}
 use Rattle.bits.specs.Member.{mem, PutIn}
-use Rattle.reach.specs.Spreading.{stateBytes, Led, Spread}
+use Rattle.reach.specs.Spreading.{stateBytes, Tried, Spread}
 
 -- one transition
 
 module _ (source target : ℕ) (before : List ℕ) where
-  pub led-away : mem before source ≡ false → Led source target before before false
-  led-away e = record { size = refl; kept = λ s h. h; there = λ h. absurd (false≢true (sym e ∙ h)); only = λ s h. inl h; still = λ h. refl }
+  pub tried-away : mem before source ≡ false → Tried source target before before false
+  tried-away e = record { size = refl; kept = λ s h. h; there = λ h. absurd (false≢true (sym e ∙ h)); only = λ s h. inl h; still = λ h. refl }
 
-  pub led-already : mem before target ≡ true → Led source target before before false
-  led-already e = record { size = refl; kept = λ s h. h; there = λ h. e; only = λ s h. inl h; still = λ h. refl }
+  pub tried-already : mem before target ≡ true → Tried source target before before false
+  tried-already e = record { size = refl; kept = λ s h. h; there = λ h. e; only = λ s h. inl h; still = λ h. refl }
 
-  pub led-put : (after : List ℕ) → length before ≡ stateBytes → target < 256 → mem before source ≡ true → PutIn target before after → Led source target before after true
-  led-put after n l e p =
+  pub tried-put : (after : List ℕ) → length before ≡ stateBytes → target < 256 → mem before source ≡ true → PutIn target before after → Tried source target before after true
+  tried-put after n l e p =
       record {
         size = p .size;
         kept = λ s h. on s (ℕ-discrete s target) (λ q. h);
@@ -58,7 +58,7 @@ spread-none m set = record { size = refl; kept = λ s h. h; there = λ t i h. ab
 
 pub spread-more :
     (m : Monitor) (ts : List Transition) (t : Transition) (before set after : List ℕ) (grown fresh : Bool) → List·Memᴰ t (m .transitions)
-    → Spread m ts before set grown → Led (t .source) (t .target) set after fresh → Spread m (ts ++ (t ∷ [])) before after (grown || fresh)
+    → Spread m ts before set grown → Tried (t .source) (t .target) set after fresh → Spread m (ts ++ (t ∷ [])) before after (grown || fresh)
 spread-more m ts t before set after grown fresh i s l =
     record {
       size = l .size ∙ s .size;
@@ -92,7 +92,7 @@ module _ (t : TableParts) where
 
   pub spread-next :
       (j source target : ℕ) (before set after : List ℕ) (grown fresh now : Bool) → j < t .transitions → source ≡ byteAt (t .sources) j → target ≡ byteAt (t .targets) j
-      → Spread (monitorOf t) (tab (transitionIn t) j) before set grown → Led source target set after fresh
+      → Spread (monitorOf t) (tab (transitionIn t) j) before set grown → Tried source target set after fresh
       → now ≡ (grown || fresh) → Spread (monitorOf t) (tab (transitionIn t) (j + 1)) before after now
   unfolding tab monitorOf transitionIn
   spread-next j source target before set after grown fresh now h p q s l e =

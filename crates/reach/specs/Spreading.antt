@@ -14,7 +14,7 @@ abbrev pub stateBytes : ℕ
 stateBytes = 32
 
 -- one transition: its target is there if its source was, and nothing else comes. fresh: it is new
-pub record Led (source target : ℕ) (before after : List ℕ) (fresh : Bool) : Type 0 where
+pub record Tried (source target : ℕ) (before after : List ℕ) (fresh : Bool) : Type 0 where
   pub size : length after ≡ length before
   pub kept : (s : ℕ) → mem before s ≡ true → mem after s ≡ true
   pub there : mem before source ≡ true → mem after target ≡ true

@@ -10,13 +10,10 @@ ghost use mathlib.Core.Bool.{_||_};
 ghost use Prim.Native.Nat.{ℕ};
 ghost use lib.Dec.{eqb};
 ghost use lib.ListN.{length};
-ghost use Rattle.model.specs.Bytes.{tab};
-ghost use Rattle.model.specs.First.{unless, firstOf};
-ghost use Rattle.model.specs.Reach.{StatesJudged, isReached, statesAnswer};
+ghost use Rattle.model.specs.Reach.{StatesJudged, isReached, lowestMissing, statesAnswer};
 ghost use Rattle.model.specs.Table.{monitorOf};
-ghost use Rattle.model.specs.declared.Refusal.the-variants.{TableState};
 ghost use Rattle.bits.specs.Member.{mem};
-ghost use Rattle.reach.specs.Spreading.{stateBytes, Led, Spread};
+ghost use Rattle.reach.specs.Spreading.{stateBytes, Tried, Spread};
 
 // Bytes of a set of states: a place for every number that fits a byte.
 const STATE_BYTES: usize = 32;
@@ -24,7 +21,7 @@ const STATE_BYTES: usize = 32;
 // Puts the target into the set if the source is in it. Is it new there?
 fn lead(set: &mut [u8], source: u8, target: u8) -> bool
     requires { ⌜ length (now set) ≡ stateBytes ⌝ }
-    ensures { λ r. ⌜ Led source target (now (set .entry)) (now (set .exit)) r ⌝ }
+    ensures { λ r. ⌜ Tried source target (now (set .entry)) (now (set .exit)) r ⌝ }
 {
     if !test(set, source as usize) {
         return false;
@@ -75,7 +72,7 @@ fn close(t: TableParts, set: &mut [u8])
 
 // The lowest state that is not in the set.
 fn first_absent(set: &[u8], states: u8) -> Reading
-    ensures { λ r. ⌜ r ≡ firstOf (tab (λ s. unless (mem (now (set .entry)) s) (TableState s)) states) ⌝ }
+    ensures { λ r. ⌜ r ≡ lowestMissing (mem (now (set .entry))) states ⌝ }
 {
     let mut left = states;
     while 0 < left {

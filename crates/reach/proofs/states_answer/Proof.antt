@@ -1,7 +1,7 @@
 -- `reach::states_answer` meets its contract.
 use borrow.Author.Needs.{needs}
 use Rattle.model.specs.Table.{monitorOf}
-use Rattle.reach.proofs.Absent.{answered, zero-alone}
+use Rattle.reach.proofs.Closes.{answered, zero-alone}
 use Rattle.reach.proofs.states_answer.Statement.{statement}
 use Rattle.reach.proofs.states_answer.Tie as tie
 
@@ -25,7 +25,7 @@ first-absent-requires c κs = search needs
 
 returns : tie.Need-returns
 unfolding monitorOf
-returns c = answered _ (monitorOf (c .before .before .before .before .before .before .before .before .args .t)) _ (c .before .before .before .close .ensures) (c .first-absent .ensures)
+returns c = answered (monitorOf (c .before .before .before .before .before .before .before .before .args .t)) _ _ (c .before .before .before .close .ensures) (c .first-absent .ensures)
 
 pub states-answer-spec : {M : Type 1} → statement M
 states-answer-spec =

@@ -1,0 +1,40 @@
+-- Which answer has the number 0, and which the number 17.
+use Prim.Native.Nat.{ℕ, _≤_}
+use native.Mathlib.Omega.{arith}
+use mathlib.Core.Path.{_≡_, refl, ap, _∙_}
+use Rattle.model.specs.Numbers.{Values, values, refusalValues, readingValues}
+use Rattle.model.specs.declared.Reading.{Reading}
+use Rattle.model.specs.declared.Reading.the-variants.{Sound, Unsound}
+use Rattle.model.specs.declared.Refusal.{Refusal}
+use Rattle.model.specs.declared.Refusal.the-variants.{TableFrame, TableVersion, TableCount, TableLength, TableField, TableGuard, TableSize, TableState, RecordingFrame, RecordingVersion, RecordingCount, RecordingRange, RecordingOrder, Scratch, WitnessRoom, WriteRoom, WitnessFrame, WitnessVersion, WitnessCount, WitnessRow}
+
+-- a refusal's number is 10 or more, and 17 for a state alone
+refusal-number : (r : Refusal) → (10 ≤ refusalValues r .number) × (refusalValues r .number ≡ 17 → r ≡ TableState (refusalValues r .second))
+refusal-number TableFrame = (omega arith, λ e. absurd (omega arith))
+refusal-number TableVersion = (omega arith, λ e. absurd (omega arith))
+refusal-number (TableCount n) = (omega arith, λ e. absurd (omega arith))
+refusal-number (TableLength n) = (omega arith, λ e. absurd (omega arith))
+refusal-number (TableField n) = (omega arith, λ e. absurd (omega arith))
+refusal-number (TableGuard n) = (omega arith, λ e. absurd (omega arith))
+refusal-number TableSize = (omega arith, λ e. absurd (omega arith))
+refusal-number (TableState n) = (omega arith, λ e. refl)
+refusal-number RecordingFrame = (omega arith, λ e. absurd (omega arith))
+refusal-number RecordingVersion = (omega arith, λ e. absurd (omega arith))
+refusal-number RecordingCount = (omega arith, λ e. absurd (omega arith))
+refusal-number (RecordingRange n) = (omega arith, λ e. absurd (omega arith))
+refusal-number (RecordingOrder n) = (omega arith, λ e. absurd (omega arith))
+refusal-number (Scratch n) = (omega arith, λ e. absurd (omega arith))
+refusal-number (WitnessRoom n) = (omega arith, λ e. absurd (omega arith))
+refusal-number (WriteRoom n) = (omega arith, λ e. absurd (omega arith))
+refusal-number WitnessFrame = (omega arith, λ e. absurd (omega arith))
+refusal-number WitnessVersion = (omega arith, λ e. absurd (omega arith))
+refusal-number WitnessCount = (omega arith, λ e. absurd (omega arith))
+refusal-number (WitnessRow n) = (omega arith, λ e. absurd (omega arith))
+
+pub number-0 : (x : Reading) → readingValues x ≡ values 0 0 0 → x ≡ Sound
+number-0 Sound e = refl
+number-0 (Unsound r) e = absurd (omega (arith, ap (λ (v : Values). v .number) e, refusal-number r .0))
+
+pub number-17 : (x : Reading) (s : ℕ) → readingValues x ≡ values 17 s 0 → x ≡ Unsound (TableState s)
+number-17 Sound s e = absurd (omega (arith, ap (λ (v : Values). v .number) e))
+number-17 (Unsound r) s e = ap Unsound (refusal-number r .1 (ap (λ (v : Values). v .number) e) ∙ ap TableState (ap (λ (v : Values). v .second) e))
