@@ -14,6 +14,7 @@ pub mod cases;
 pub mod check;
 pub mod compare;
 pub mod desk;
+pub mod devices;
 pub mod frame;
 pub mod generate;
 pub mod guard;

@@ -98,6 +98,11 @@ fn write_cases(folder: &Path) -> Result<(), String> {
         let times = numbers.iter().map(|(number, times)| format!("{number} x {times}"));
         println!("{from}: {}", times.collect::<Vec<_>>().join(", "));
     }
+    for (from, tally) in [("read", &made.read), ("written", &made.written)] {
+        let versions = [0, 1, 2, 3, 255].map(|it| tally.versions.get(&it).copied().unwrap_or(0));
+        println!("tables {from} of the versions 0, 1, 2, 3 and 255: {versions:?}");
+        println!("devices refused in tables {from}: {:?}", tally.reasons());
+    }
     Ok(())
 }
 

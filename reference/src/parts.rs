@@ -19,6 +19,7 @@ pub struct Placed {
 /// The first places hold what is listed, all others the filler.
 #[derive(Clone, Debug, PartialEq, Eq, Default)]
 pub struct TableParts {
+    pub version: u8,
     /// States, variables, clocks, kinds and transitions.
     pub counts: [u8; 5],
     pub filler: u8,
@@ -48,6 +49,7 @@ impl TableParts {
     /// With 0 in every place that the table does not fill.
     pub fn of(table: &Table) -> TableParts {
         TableParts {
+            version: table.version,
             counts: table.counts().map(|count| count as u8),
             filler: 0,
             kinds: table.kinds.clone(),
@@ -59,6 +61,7 @@ impl TableParts {
     pub fn covered(&self) -> Table {
         let [states, variables, clocks, kinds, transitions] = self.counts;
         Table {
+            version: self.version,
             states,
             variables,
             clocks,
@@ -70,7 +73,8 @@ impl TableParts {
     }
 
     fn kind(&self, place: usize) -> Kind {
-        let filler = Kind { direction: self.filler, airtime: self.filler };
+        let [direction, airtime, device] = [self.filler; 3];
+        let filler = Kind { direction, airtime, device };
         self.kinds.get(place).copied().unwrap_or(filler)
     }
 
@@ -79,13 +83,15 @@ impl TableParts {
         self.transitions.get(place).copied().unwrap_or(filler)
     }
 
-    /// Every number: the counts, then field by field what each place holds.
+    /// Every number: the version and the counts, then field by field what each place holds.
     pub fn numbers(&self) -> Vec<u8> {
         let kinds = || (0..KIND_PLACES).map(|place| self.kind(place));
         let transitions = || (0..TRANSITION_PLACES).map(|place| self.transition(place));
-        let mut numbers = self.counts.to_vec();
+        let mut numbers = vec![self.version];
+        numbers.extend(self.counts);
         numbers.extend(kinds().map(|kind| kind.direction));
         numbers.extend(kinds().map(|kind| kind.airtime));
+        numbers.extend(kinds().map(|kind| kind.device));
         for field in 0..7 {
             numbers.extend(transitions().map(|it| it.fields[field]));
         }

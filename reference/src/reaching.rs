@@ -89,10 +89,11 @@ fn linked(states: u8, links: &[Link]) -> Table {
         ..Transition::default()
     };
     Table {
+        version: 1,
         states,
         variables: 0,
         clocks: 0,
-        kinds: vec![Kind { direction: 0, airtime: 0 }, Kind { direction: 1, airtime: 1 }],
+        kinds: vec![Kind::in_version_1(0, 0), Kind::in_version_1(1, 1)],
         transitions: links.iter().zip([0, 1].into_iter().cycle()).map(transition).collect(),
     }
 }

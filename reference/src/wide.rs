@@ -11,16 +11,17 @@ use crate::table::{Kind, Table, Transition};
 const STATES: u8 = 16;
 /// From the unit with airtime 1 and 0, to it with airtime 1 and 0.
 const KINDS: [Kind; 4] = [
-    Kind { direction: 0, airtime: 1 },
-    Kind { direction: 0, airtime: 0 },
-    Kind { direction: 1, airtime: 1 },
-    Kind { direction: 1, airtime: 0 },
+    Kind::in_version_1(0, 1),
+    Kind::in_version_1(0, 0),
+    Kind::in_version_1(1, 1),
+    Kind::in_version_1(1, 0),
 ];
 /// A row is heard every so many ticks.
 const PACE: u16 = 64;
 
 pub fn wide_table() -> Vec<u8> {
     encode_table(&Table {
+        version: 1,
         states: STATES,
         variables: 4,
         clocks: 2,

@@ -1,6 +1,6 @@
 //! The recorded cases: enough of them, every number often enough, and the paper's own first.
 
-use lutarosa_reference::cases::cases;
+use lutarosa_reference::cases::{cases, IN_FILES, IN_PARTS};
 use lutarosa_reference::limits::{sized, LAST_WORD_BOUNDS, SIZES};
 use lutarosa_reference::set;
 use lutarosa_reference::situation::Space;
@@ -14,7 +14,7 @@ fn every_number_comes_often_and_p5_is_printed_whole() {
     for number in list {
         assert!(made.from_files.get(&number).is_some_and(|times| *times >= 20), "number {number}");
     }
-    for number in [12, 14, 15, 16, 17, 22, 23, 24, 33, 42, 43] {
+    for number in [11, 12, 14, 15, 16, 17, 22, 23, 24, 33, 42, 43] {
         for numbers in [&made.from_writing, &made.from_back] {
             assert!(numbers.get(&number).is_some_and(|times| *times >= 20), "writing {number}");
         }
@@ -22,6 +22,15 @@ fn every_number_comes_often_and_p5_is_printed_whole() {
     for state in 1..16 {
         let times = made.unreached_states.get(&state);
         assert!(times.is_some_and(|times| *times >= 20), "unreached state {state}");
+    }
+    assert!(made.read.is_often(IN_FILES, 20) && made.written.is_often(IN_PARTS, 20));
+    // Each device that a direction may not have is refused at least once.
+    for tally in [&made.read, &made.written] {
+        for (direction, devices) in [(0, 1..=255), (1, 0..=0), (1, 16..=255)] {
+            for device in devices {
+                assert!(tally.refused.contains_key(&(direction, device)), "{direction} {device}");
+            }
+        }
     }
     for bytes in 0..8 {
         let times = made.last_words.get(&bytes);

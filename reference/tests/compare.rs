@@ -3,6 +3,7 @@
 mod before;
 
 use before::air::{BEFORE, NEEDS_NO_AIR, TAKES_NO_AIR};
+use before::devices;
 use before::states::{Rule, OTHERS};
 use lutarosa_reference::answer::Answer;
 use lutarosa_reference::call::{Engine, Validate, ORDINARY};
@@ -203,6 +204,18 @@ fn states_that_cannot_be_reached() {
         finds(rule.name, rule.engine);
     }
     let Rule { name, engine, .. } = &OTHERS[0];
+    finds_validate(name, engine.validate);
+    finds(name, Engine { check: engine.check, ..ORDINARY });
+    finds(name, Engine { rewrite_table: engine.rewrite_table, ..ORDINARY });
+    finds(name, Engine { rewrite_recording: engine.rewrite_recording, ..ORDINARY });
+}
+
+#[test]
+fn versions_and_devices() {
+    for other in devices::OTHERS.iter().filter(|other| other.told[0]) {
+        finds(other.name, other.engine);
+    }
+    let devices::Other { name, engine, .. } = &devices::OTHERS[0];
     finds_validate(name, engine.validate);
     finds(name, Engine { check: engine.check, ..ORDINARY });
     finds(name, Engine { rewrite_table: engine.rewrite_table, ..ORDINARY });

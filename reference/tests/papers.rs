@@ -5,7 +5,9 @@ mod common;
 use common::answer;
 use lutarosa_reference::check::check_witness;
 use lutarosa_reference::desk::report;
-use lutarosa_reference::papers::{recording, ACK, DATA, PAPERS, RETRY, SMALL_MONITOR};
+use lutarosa_reference::papers::{
+    recording, ACK, DATA, PAPERS, RETRY, SMALL_MONITOR, SMALL_MONITOR_2,
+};
 use lutarosa_reference::validate::validate;
 
 const DIRT: u8 = 0xC3;
@@ -82,7 +84,9 @@ fn own_witnesses_are_accepted_and_the_empty_one_is_not() {
 
 #[test]
 fn whole_output_of_p5() {
-    let input = [&SMALL_MONITOR[..], &PAPERS[4].recording(), &10_000u32.to_be_bytes()].concat();
-    let lines = "accepted 13 3\nkept 1 0 0\nremoved 3 2 255\nkept 6 1 2\n";
-    assert_eq!(report(&input), lines);
+    for table in [&SMALL_MONITOR[..], &SMALL_MONITOR_2] {
+        let input = [table, &PAPERS[4].recording(), &10_000u32.to_be_bytes()].concat();
+        let lines = "accepted 13 3\nkept 1 0 0\nremoved 3 2 255\nkept 6 1 2\n";
+        assert_eq!(report(&input), lines);
+    }
 }

@@ -53,9 +53,10 @@ fn table() -> TableParts {
         guard
     };
     TableParts {
+        version: 1,
         counts: [2, 2, 1, 1, 2],
         filler: 0xEE,
-        kinds: vec![Kind { direction: 1, airtime: 15 }, Kind { direction: 9, airtime: 99 }],
+        kinds: vec![Kind::in_version_1(1, 15), Kind { direction: 9, airtime: 99, device: 199 }],
         transitions: vec![
             Placed { fields: [0, 1, 0, 1, 2, 1, 2], guard: guard(&[3, 1]) },
             Placed { fields: [1, 0, 0, 0, 3, 0, 3], guard: guard(&[1, 0, 7]) },
@@ -86,29 +87,82 @@ fn a_table_comes_back_without_what_lies_beyond() {
         &[1, 0, 0, 0, 3, 0, 3, 1, 0, 7],
     ]
     .concat();
-    // 5 counts, 2 columns of 32, 7 of 64, and 64 guards of 32 places from 517 on.
+    // The version, 5 counts, 3 columns of 32, 7 of 64, and 64 guards of 32 places from 550 on.
     let numbers = [
-        (0, 2),
+        (0, 1),
         (1, 2),
-        (2, 1),
+        (2, 2),
         (3, 1),
-        (4, 2),
-        (5, 1),
-        (37, 15),
+        (4, 1),
+        (5, 2),
+        (6, 1),
+        (38, 15),
         (70, 1),
-        (133, 1),
-        (261, 1),
-        (325, 2),
-        (326, 3),
-        (389, 1),
-        (453, 2),
-        (454, 3),
-        (517, 3),
-        (518, 1),
-        (549, 1),
-        (551, 7),
+        (103, 1),
+        (166, 1),
+        (294, 1),
+        (358, 2),
+        (359, 3),
+        (422, 1),
+        (486, 2),
+        (487, 3),
+        (550, 3),
+        (551, 1),
+        (582, 1),
+        (584, 7),
     ];
-    written(&Parts::Table(table()), &bytes, 2_565, &numbers);
+    written(&Parts::Table(table()), &bytes, 2_598, &numbers);
+    // In version 2 the kind has one byte more, and its device is what it was or another.
+    for device in [1, 9, 15] {
+        let head = [&[0, 28, 2, 2, 2, 1, 1, 2, 1, 15, device], &bytes[10..]].concat();
+        let mut parts = TableParts { version: 2, ..table() };
+        parts.kinds[0].device = device;
+        let mut numbers = numbers;
+        (numbers[0].1, numbers[8].1) = (2, device);
+        written(&Parts::Table(parts), &head, 2_598, &numbers);
+    }
+}
+
+/// The kind, to the unit, is at 8 in both versions; a second one is at 10 or 11.
+#[test]
+fn number_14_devices() {
+    let with = |version: u8, direction: u8, device: u8| {
+        let mut parts = TableParts { version, ..table() };
+        parts.kinds[0] = Kind { direction, airtime: 15, device };
+        Parts::Table(parts)
+    };
+    for device in (0..=255).filter(|device| *device != 1) {
+        refused(&with(1, 1, device), 14, 8);
+    }
+    for device in (0..=255).filter(|device| !(1..=15).contains(device)) {
+        refused(&with(2, 1, device), 14, 8);
+    }
+    for device in 1..=255 {
+        refused(&with(1, 0, device), 14, 8);
+        refused(&with(2, 0, device), 14, 8);
+    }
+    for (version, offset) in [(1, 10), (2, 11)] {
+        let mut parts = TableParts { version, ..table() };
+        parts.counts[3] = 2;
+        parts.kinds[1] = Kind { direction: 1, airtime: 0, device: 16 };
+        refused(&Parts::Table(parts.clone()), 14, offset);
+        parts.kinds[1].device = 1;
+        assert_eq!(Parts::Table(parts.clone()).wanted(), Some(if version == 1 { 31 } else { 33 }));
+        // A kind before it that is out of range comes first, one behind it does not.
+        parts.kinds[0].airtime = 16;
+        parts.kinds[1].device = 0;
+        refused(&Parts::Table(parts), 14, 8);
+    }
+}
+
+/// Before the counts, whatever they are.
+#[test]
+fn number_11_version() {
+    for version in [0, 3, 4, 128, 255] {
+        refused(&Parts::Table(TableParts { version, ..table() }), 11, 2);
+        let Parts::Table(parts) = with_count(0, 17) else { unreachable!() };
+        refused(&Parts::Table(TableParts { version, ..parts }), 11, 2);
+    }
 }
 
 #[test]
@@ -119,7 +173,9 @@ fn number_12_whatever_the_records_hold() {
             refused(&with_count(place, *count), 12, 3 + place as u64);
         }
     }
-    refused(&Parts::Table(TableParts::default()), 12, 3);
+    refused(&Parts::Table(TableParts { version: 1, ..TableParts::default() }), 12, 3);
+    refused(&Parts::Table(TableParts { version: 2, ..TableParts::default() }), 12, 3);
+    refused(&Parts::Table(TableParts::default()), 11, 2);
 }
 
 #[test]
@@ -193,6 +249,7 @@ fn number_17_unreached_states() {
 #[test]
 fn the_smallest_table_of_a_filler_alone() {
     let filled = |filler, transitions| TableParts {
+        version: 1,
         counts: [1, 0, 0, 1, transitions],
         filler,
         ..TableParts::default()

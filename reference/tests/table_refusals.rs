@@ -7,7 +7,7 @@ mod common;
 
 use common::{answer, chain, changed, file, monitor_with, resized};
 use lutarosa_reference::answer::Refusal;
-use lutarosa_reference::papers::SMALL_MONITOR;
+use lutarosa_reference::papers::{SMALL_MONITOR, SMALL_MONITOR_2};
 use lutarosa_reference::rewrite::rewrite_table;
 use lutarosa_reference::table::{read, write, Kind, Table, Transition};
 
@@ -48,14 +48,18 @@ fn number_10_frame() {
     refused(&vec![0; 65_538], 10, 0);
     // 65,535 bytes after the length do match.
     let mut longest = vec![0; 65_537];
-    longest[..3].copy_from_slice(&[255, 255, 2]);
+    longest[..3].copy_from_slice(&[255, 255, 3]);
     refused(&longest, 11, 2);
 }
 
 #[test]
 fn number_11_version() {
     refused(&monitor_with(&[(2, 0)]), 11, 2);
-    refused(&monitor_with(&[(2, 2), (3, 0)]), 11, 2);
+    refused(&monitor_with(&[(2, 3), (3, 0)]), 11, 2);
+    refused(&monitor_with(&[(2, 255), (3, 0)]), 11, 2);
+    // Version 2 is known, and then the counts are tried.
+    refused(&monitor_with(&[(2, 2), (3, 0)]), 12, 3);
+    refused(&file(&[2, 1, 0, 0, 1, 65]), 12, 7);
 }
 
 #[test]
@@ -148,6 +152,96 @@ fn guards_of_32_bytes() {
     let ands = [vec![5; 15], vec![0; 16]].concat();
     assert!(read(&table(&ands)).is_ok());
     refused(&table(&ands[..30]), 15, 10);
+}
+
+/// The kinds stand at 8, 11 and 14, and the transitions at 17 and on.
+#[test]
+fn version_2() {
+    let with = |changes: &[(usize, u8)]| changed(&SMALL_MONITOR_2, changes);
+    let table = read(&SMALL_MONITOR_2).unwrap();
+    let parts = Table { version: 1, ..table.clone() };
+    assert_eq!((table.version, parts), (2, read(&SMALL_MONITOR).unwrap()));
+    let mut room = [0x5A; 72];
+    assert_eq!(rewrite_table(&SMALL_MONITOR_2, &mut room), answer(0, 71, 0));
+    assert_eq!(room[..71], SMALL_MONITOR_2);
+    assert_eq!(rewrite_table(&SMALL_MONITOR_2, &mut room[..70]), answer(33, 71, 0));
+    for device in 1..=15 {
+        let bytes = with(&[(16, device)]);
+        assert_eq!(read(&bytes).unwrap().kinds[2], Kind { direction: 1, airtime: 0, device });
+        assert_eq!(rewrite_table(&bytes, &mut room), answer(0, 71, 0));
+        assert_eq!(room[..71], bytes);
+    }
+    for device in [0, 16, 17, 127, 128, 255] {
+        refused(&with(&[(16, device)]), 14, 14);
+    }
+    for device in [1, 2, 15, 16, 255] {
+        refused(&with(&[(10, device)]), 14, 8);
+        refused(&with(&[(13, device)]), 14, 11);
+    }
+    // All three bytes must be there before any is looked at.
+    refused(&resized(&SMALL_MONITOR_2, 8), 13, 8);
+    refused(&resized(&with(&[(8, 9)]), 10), 13, 8);
+    refused(&resized(&SMALL_MONITOR_2, 11), 13, 11);
+    refused(&resized(&SMALL_MONITOR_2, 16), 13, 14);
+    refused(&resized(&SMALL_MONITOR_2, 17), 13, 17);
+    refused(&resized(&SMALL_MONITOR_2, 72), 13, 71);
+    // Transitions are named where they stand.
+    refused(&with(&[(17, 3)]), 14, 17);
+    refused(&with(&[(23, 0)]), 15, 17);
+    refused(&with(&[(60, 3)]), 14, 60);
+    refused(&with(&[(3, 4)]), 17, 3);
+    // The smallest table.
+    assert!(read(&file(&[2, 1, 0, 0, 1, 0, 0, 0, 0])).is_ok());
+    refused(&file(&[2, 1, 0, 0, 1, 0, 0, 0]), 13, 8);
+    refused(&file(&[1, 1, 0, 0, 1, 0, 0, 0, 0]), 13, 10);
+}
+
+/// Kinds from the unit get device 0, kinds to it device 1.
+#[test]
+fn version_1_gives_devices() {
+    let devices: Vec<u8> = parts().kinds.iter().map(|kind| kind.device).collect();
+    assert_eq!((parts().version, devices), (1, vec![0, 0, 1]));
+}
+
+#[test]
+fn writing_versions_and_devices() {
+    writes(&Table { version: 0, ..parts() }, 11, 2);
+    writes(&Table { version: 3, states: 0, ..parts() }, 11, 2);
+    let with = |version: u8, devices: [u8; 3]| {
+        let mut table = Table { version, ..parts() };
+        table.kinds.iter_mut().zip(devices).for_each(|(kind, device)| kind.device = device);
+        table
+    };
+    // Version 1 can tell no other device, version 2 those of the direction.
+    writes(&with(1, [0, 0, 2]), 14, 12);
+    writes(&with(1, [0, 0, 0]), 14, 12);
+    writes(&with(1, [0, 1, 2]), 14, 10);
+    writes(&with(2, [0, 0, 0]), 14, 14);
+    writes(&with(2, [0, 1, 16]), 14, 11);
+    writes(&with(2, [15, 1, 16]), 14, 8);
+    let mut room = [0; 71];
+    assert_eq!(write(&with(2, [0, 0, 2]), &mut room), answer(0, 71, 0));
+    assert_eq!(room[..], changed(&SMALL_MONITOR_2, &[(16, 2)]));
+    // The records behind move with the kinds'.
+    let mut table = with(2, [0, 0, 2]);
+    table.transitions[0].to = 3;
+    writes(&table, 14, 17);
+    // Version 1's device comes before the transition's field.
+    table.version = 1;
+    writes(&table, 14, 12);
+}
+
+/// 8 + 3 x 32 + 39 x 64.
+#[test]
+fn the_longest_table_has_2_600_bytes() {
+    let transition = Transition { guard: [vec![4; 31], vec![0]].concat(), ..Default::default() };
+    let kinds = vec![Kind { direction: 1, airtime: 15, device: 15 }; 32];
+    let transitions = vec![transition; 64];
+    let table = Table { version: 2, states: 1, variables: 0, clocks: 0, kinds, transitions };
+    let mut room = [0; 2_600];
+    assert_eq!(write(&table, &mut room[..2_599]), answer(33, 2_600, 0));
+    assert_eq!(write(&table, &mut room), answer(0, 2_600, 0));
+    assert_eq!(read(&room), Ok(table));
 }
 
 /// 16 x 16 x 256 is 65,536, and with M one higher it is 65,792.

@@ -23,7 +23,7 @@ fn told(rule: &Rule) -> (usize, usize) {
         Err(_) => false,
     };
     let calls = RECORDED.calls.iter().filter(|it| it.run(&rule.engine) != it.run(&ORDINARY));
-    let written = RECORDED.tables.iter().map(|it| encode_table(&it.covered()));
+    let written = RECORDED.tables().map(|it| encode_table(&it.covered()));
     (calls.count(), written.filter(differs).count())
 }
 

@@ -1,5 +1,5 @@
--- Parts as a case's files give them. A file of parts has the layout of what is written, but for two things: where the length would stand is how many
--- records are given, and where the version would stand the filler, which every place holds that no record gives.
+-- Parts as a case's files give them. A file of parts has the layout of what is written, but for three things: where the length would stand is how many
+-- records are given, where the version would stand the filler, which every place holds that no record gives, and a table's version stands behind its counts.
 use Prim.Native.Nat.{ℕ, _+_, _*_}
 use mathlib.Core.List.{List, [], _∷_, _++_}
 use lib.ListN.{replicate}
@@ -17,10 +17,10 @@ fillerAt b = byteAt b 2
 abbrev pub fillerTimeAt : List ℕ → ℕ
 fillerTimeAt b = 257 * fillerAt b
 
--- a table's kinds stand behind its counts; the fields of its transitions, and the places of each guard, are two further files
+-- a table's kinds, three bytes each whatever the version, stand behind it; the fields of its transitions, and the places of each guard, are two further files
 
 abbrev pub kindsGiven : List ℕ → ℕ → List ℕ
-kindsGiven b field = filled (λ i. byteAt b (8 + field + 2 * i)) (byteAt b 0) (replicate kindLimit (fillerAt b))
+kindsGiven b field = filled (λ i. byteAt b (9 + field + 3 * i)) (byteAt b 0) (replicate kindLimit (fillerAt b))
 
 abbrev pub transitionsGiven : List ℕ → List ℕ → ℕ → List ℕ
 transitionsGiven b fields field = filled (λ j. byteAt fields (field + 7 * j)) (byteAt b 1) (replicate transitionLimit (fillerAt b))
@@ -31,6 +31,7 @@ guardsGiven b guards = filled (λ i. byteAt guards (0 + 1 * i)) (guardLimit * by
 unfoldable pub tableGiven : List ℕ → List ℕ → List ℕ → TableParts
 tableGiven b fields guards =
     record {
+      version = byteAt b 8;
       states = byteAt b 3;
       variables = byteAt b 4;
       clocks = byteAt b 5;
@@ -38,6 +39,7 @@ tableGiven b fields guards =
       transitions = byteAt b 7;
       directions = kindsGiven b 0;
       airtimes = kindsGiven b 1;
+      devices = kindsGiven b 2;
       sources = transitionsGiven b fields 0;
       targets = transitionsGiven b fields 1;
       triggers = transitionsGiven b fields 2;
@@ -81,7 +83,7 @@ wordsBytes [] = []
 wordsBytes (w ∷ ws) = wordBytes w ++ wordsBytes ws
 
 abbrev pub kindNumbers : TableParts → List ℕ
-kindNumbers t = (t .states ∷ t .variables ∷ t .clocks ∷ t .kinds ∷ t .transitions ∷ []) ++ t .directions ++ t .airtimes
+kindNumbers t = (t .version ∷ t .states ∷ t .variables ∷ t .clocks ∷ t .kinds ∷ t .transitions ∷ []) ++ t .directions ++ t .airtimes ++ t .devices
 
 abbrev pub transitionNumbers : TableParts → List ℕ
 transitionNumbers t = t .sources ++ t .targets ++ t .triggers ++ t .sets ++ t .clears ++ t .resets ++ t .lengths ++ t .guards

@@ -19,12 +19,12 @@ ghost use Rattle.batch.specs.Parts.{fillerTimeAt, kindsGiven, transition
 const PLACES: u16 = GUARD_LIMIT as u16;
 
 fn kind_column(b: &[u8], field: u8) -> [u8; KIND_LIMIT]
-    requires { ⌜ field ≤ 1 ⌝ }
+    requires { ⌜ field ≤ 2 ⌝ }
     ensures { λ r. ⌜ r ≡ kindsGiven (now (b .entry)) field ⌝ }
 {
     let filler = byte(b, 2);
     let mut column = [filler; KIND_LIMIT];
-    bytes_column(b, 8 + field, 2, byte(b, 0) as u16, &mut column);
+    bytes_column(b, 9 + field, 3, byte(b, 0) as u16, &mut column);
     column
 }
 
@@ -51,6 +51,7 @@ pub fn table_parts<'a>(b: &'a [u8], fields: &'a [u8], guards: &'a [u8]) -> Table
 {
     let directions = kind_column(b, 0);
     let airtimes = kind_column(b, 1);
+    let devices = kind_column(b, 2);
     let sources = transition_column(b, fields, 0);
     let targets = transition_column(b, fields, 1);
     let triggers = transition_column(b, fields, 2);
@@ -60,6 +61,7 @@ pub fn table_parts<'a>(b: &'a [u8], fields: &'a [u8], guards: &'a [u8]) -> Table
     let lengths = transition_column(b, fields, 6);
     let guards = guard_places(b, guards);
     TableParts {
+        version: byte(b, 8),
         states: byte(b, 3),
         variables: byte(b, 4),
         clocks: byte(b, 5),
@@ -67,6 +69,7 @@ pub fn table_parts<'a>(b: &'a [u8], fields: &'a [u8], guards: &'a [u8]) -> Table
         transitions: byte(b, 7),
         directions,
         airtimes,
+        devices,
         sources,
         targets,
         triggers,

@@ -52,10 +52,18 @@ fn sum_words(from: u64, words: &[u16]) -> u64
 fn sum_kinds(t: TableParts) -> u64
     ensures { λ r. ⌜ (r ≡ sumFrom 1 (kindNumbers t)) × (r < 1000003) ⌝ }
 {
-    let counts = [t.states, t.variables, t.clocks, t.kinds, t.transitions];
+    let counts = [
+        t.version,
+        t.states,
+        t.variables,
+        t.clocks,
+        t.kinds,
+        t.transitions,
+    ];
     let total = sum_on(1, &counts);
     let total = sum_on(total, &t.directions);
-    sum_on(total, &t.airtimes)
+    let total = sum_on(total, &t.airtimes);
+    sum_on(total, &t.devices)
 }
 
 fn sum_transitions(from: u64, t: TableParts) -> u64

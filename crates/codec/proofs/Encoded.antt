@@ -1,7 +1,7 @@
 -- The bytes of a table, as they are placed record by record.
 use Prim.Native.Nat.{ℕ, _+_, _-_, _*_, _≤_, _<_, min}
 use native.Mathlib.Omega.{arith}
-use native.Mathlib.Nat.{min-eq-left, min-eq-right}
+use native.Mathlib.Nat.{min-eq-left, min-eq-right, mul-le-mul}
 use native.Mathlib.Decide.{decLe}
 use mathlib.Core.Path.{_≡_, refl, sym, ap, _∙_}
 use mathlib.Core.List.{List, [], _∷_, _++_, append-assoc}
@@ -9,13 +9,14 @@ use lib.ListN.{length, getD, take, drop, length-append, length-take, length-drop
 use mathlib.Core.Bool.{true, false}
 use borrow.Author.Tests.{le-leb, eq-eqb}
 use lib.Seq.{take-take, take-all, length-take-le}
-use Rattle.model.specs.Limits.{kindLimit, transitionLimit, guardLimit, tableLimit}
+use Rattle.model.specs.Limits.{tableVersions, kindLimit, transitionLimit, guardLimit}
 use Rattle.model.specs.Bytes.{byteAt, wordAt, wordBytes, joined}
-use Rattle.model.specs.First.{isSound}
-use Rattle.model.specs.Frame.{framed}
+use Rattle.model.specs.First.{unless, andThen, isSound}
+use Rattle.model.specs.Frame.{isVersion, framed}
 use Rattle.model.specs.Answers.{Writes}
 use Rattle.model.specs.Room.{write, over}
-use Rattle.model.specs.Table.{kindAt, kindBytes, guardBytesIn, transitionBytes, countBytes, tableBody, tableBytes, countsOf, tableCounts, tableScan, tableAnswer, writeTable}
+use Rattle.model.specs.Kinds.{kindAt, kindBytes}
+use Rattle.model.specs.Table.{guardBytesIn, transitionBytes, countBytes, tableBody, tableBytes, tableLimit, countsOf, tableCounts, scanWith, wholeAnswer, monitorOf, tableWritable, writeTable}
 use Rattle.model.specs.declared.Refusal.the-variants.{TableFrame, TableVersion}
 use Rattle.model.specs.declared.Reading.{Reading}
 use Rattle.model.specs.declared.Reading.the-variants.{Sound, Unsound}
@@ -23,9 +24,11 @@ use Rattle.model.specs.declared.Refusal.{Refusal}
 use Rattle.model.specs.declared.Writing.{Writing}
 use Rattle.model.specs.declared.Writing.the-variants.{Unwritten}
 use Rattle.model.specs.declared.TableParts.{TableParts}
+use Rattle.model.proofs.KindForm.{no-wider, kind-length, kinds-length, kind-most}
+use Rattle.model.proofs.TableTrip.{monitor-back}
 use Rattle.wire.specs.Placed.{placed}
 use Rattle.wire.proofs.Room.{placed-behind}
-use Rattle.frame.proofs.Columns.{joined-long, joined-most}
+use Rattle.frame.proofs.Columns.{joined-most}
 use Rattle.frame.proofs.Written.{placed-first, write-refused}
 use Rattle.frame.proofs.Answers.{stops, sound-is}
 use Rattle.codec.proofs.Tables.{scan-all, counts-bound}
@@ -54,8 +57,18 @@ module _ (guards : List ℕ) (j count w : ℕ) (is : w ≡ min count guardLimit)
       count-is : j < transitionLimit → guardLimit * transitionLimit ≤ length guards → guardLimit * j + w - guardLimit * j ≡ length (take (guardLimit * j + w - guardLimit * j) (drop (guardLimit * j) guards))
       count-is h k = sym (length-take (guardLimit * j + w - guardLimit * j) (drop (guardLimit * j) guards) ∙ omega (arith, length-drop (guardLimit * j) guards))
 
-pub kinds-long : (t : TableParts) (head : List ℕ) (i : ℕ) → length head ≡ 8 → length (head ++ joined (kindBytes t) i) ≡ 8 + 2 * i
-kinds-long t head i h = length-append head (joined (kindBytes t) i) ∙ omega (arith, joined-long (kindBytes t) 2 i (λ j k. refl))
+pub kinds-long : (t : TableParts) (head : List ℕ) (i : ℕ) → length head ≡ 8 → length (head ++ joined (kindBytes t) i) ≡ kindAt (t .version) i
+kinds-long t head i h = length-append head (joined (kindBytes t) i) ∙ omega (arith, kinds-length t i)
+
+-- a kind's record ends before the longest table does
+pub kind-room : (t : TableParts) (i : ℕ) → i < kindLimit → kindAt (t .version) i + length (kindBytes t i) ≤ tableLimit
+kind-room t i h =
+    let few : i ≤ 31 = omega arith in
+    omega (arith, kind-length t i, no-wider (t .version), mul-le-mul (no-wider (t .version)) few)
+
+-- the transitions start before the longest table does
+pub kinds-room : (version n : ℕ) → n ≤ kindLimit → kindAt version n ≤ kindAt tableVersions kindLimit
+kinds-room version n h = omega (arith, mul-le-mul (no-wider version) h)
 
 -- a record of two parts, the first of seven bytes
 module _ (head room x y : List ℕ) (at : ℕ) (long : length head ≡ at) (seven : length x ≡ 7) where
@@ -96,8 +109,8 @@ module _ (t : TableParts) where
 
   -- the records, and then what stands before them
   pub encoded : (out one two three head : List ℕ) (end : ℕ) → length out ≡ tableLimit
-      → ((z room : List ℕ) → length z ≡ 8 → kindAt kindLimit ≤ length room → out ≡ over z room → one ≡ over (z ++ kinds) room)
-      → ((z room : List ℕ) → length z ≡ 8 + 2 * t .kinds → tableLimit ≤ length room → one ≡ over z room → (two ≡ over (z ++ transitions) room) × (end ≡ length (z ++ transitions)))
+      → ((z room : List ℕ) → length z ≡ 8 → tableLimit ≤ length room → out ≡ over z room → one ≡ over (z ++ kinds) room)
+      → ((z room : List ℕ) → length z ≡ kindAt (t .version) (t .kinds) → tableLimit ≤ length room → one ≡ over z room → (two ≡ over (z ++ transitions) room) × (end ≡ length (z ++ transitions)))
       → end ≤ tableLimit
       → head ≡ wordBytes (end - 2) ++ countBytes t
       → three ≡ placed head 0 two
@@ -125,14 +138,15 @@ module _ (t : TableParts) where
 
   body-most : t .kinds ≤ 255 → t .transitions ≤ 255 → length (tableBody t) < 65536
   body-most h k =
+      let few : t .kinds < 256 = omega arith in
       let z : List ℕ = 0 ∷ 0 ∷ 0 ∷ 0 ∷ 0 ∷ 0 ∷ 0 ∷ 0 ∷ [] in
-      omega (arith, body-long z refl, length-append (z ++ kinds) transitions, length-append z kinds, joined-long (kindBytes t) 2 (t .kinds) (λ j q. refl), joined-most (transitionBytes t) (7 + guardLimit) (t .transitions) transition-most)
+      omega (arith, body-long z refl, length-append (z ++ kinds) transitions, length-append z kinds, kinds-length t (t .kinds), kind-most (t .version) (t .kinds) few, joined-most (transitionBytes t) (7 + guardLimit) (t .transitions) transition-most)
 
   word-is : length (tableBody t) < 65536 → wordAt (tableBytes t) 0 ≡ length (tableBody t)
   unfolding tableBytes
   word-is h = omega arith
 
-  version-is : byteAt (tableBytes t) 2 ≡ 1
+  version-is : byteAt (tableBytes t) 2 ≡ t .version
   unfolding tableBytes tableBody
   version-is = refl
 
@@ -144,30 +158,42 @@ module _ (t : TableParts) where
   unfolding tableBody
   body-least = omega arith
 
-  frame-sound : length (tableBody t) < 65536 → framed (tableBytes t) 8 TableFrame TableVersion ≡ Sound
+  frame-is : length (tableBody t) < 65536 → framed (tableBytes t) 8 tableVersions TableFrame TableVersion ≡ andThen (unless (isVersion tableVersions (t .version)) TableVersion) Sound
   unfolding framed
-  frame-sound h =
+  frame-is h =
       let all : wordAt (tableBytes t) 0 + 2 ≡ length (tableBytes t) = omega (arith, word-is h, table-long) in
       let least : 8 ≤ length (tableBytes t) = omega (arith, body-least, table-long) in
-      rw (le-leb 8 (length (tableBytes t)) least, eq-eqb (wordAt (tableBytes t) 0 + 2) (length (tableBytes t)) all, eq-eqb (byteAt (tableBytes t) 2) 1 version-is)
+      rw (le-leb 8 (length (tableBytes t)) least, eq-eqb (wordAt (tableBytes t) 0 + 2) (length (tableBytes t)) all, version-is)
 
-  module _ (counts : Reading) (is : counts ≡ countsOf (t .states) (t .variables) (t .clocks) (t .kinds) (t .transitions)) where
-    early : length (tableBody t) < 65536 → isSound counts ≡ false → tableAnswer (tableBytes t) ≡ counts
-    unfolding tableScan
-    early h e =
-        let same : tableCounts (tableBytes t) ≡ counts = counts-same ∙ sym is in
-        let b = tableBytes t in
-        let scan : tableScan b ≡ counts = rw (frame-sound h, same) (stops counts _ e) in
-        scan-all b ∙ rw scan (stops counts _ e)
+  refused-scan : (room : List ℕ) (why : Refusal) → scanWith (t .devices) (tableBytes t) ≡ Unsound why → Writes (writeTable t room) (Unwritten why) room
+  unfolding writeTable
+  refused-scan room why e = write-refused (tableWritable t) (tableBytes t) room why (scan-all (tableBytes t) (t .devices) ∙ rw e)
 
+  -- 11
+  pub write-version : (room : List ℕ) → t .kinds ≤ 255 → t .transitions ≤ 255 → isVersion tableVersions (t .version) ≡ false → Writes (writeTable t room) (Unwritten TableVersion) room
+  unfolding scanWith
+  write-version room h k e = refused-scan room TableVersion (rw (frame-is (body-most h k), e))
+
+  module _ (version : isVersion tableVersions (t .version) ≡ true) (counts : Reading) (is : counts ≡ countsOf (t .states) (t .variables) (t .clocks) (t .kinds) (t .transitions)) where
+    -- 12
     pub write-early : (room : List ℕ) → t .kinds ≤ 255 → t .transitions ≤ 255 → (why : Refusal) → counts ≡ Unsound why → Writes (writeTable t room) (Unwritten why) room
-    unfolding writeTable
-    write-early room h k why e = write-refused (tableAnswer (tableBytes t)) (tableBytes t) room why (early (body-most h k) (ap isSound e) ∙ e)
+    unfolding scanWith
+    write-early room h k why e = let same : tableCounts (tableBytes t) ≡ Unsound why = counts-same ∙ sym is ∙ e in refused-scan room why (rw (frame-is (body-most h k), version, same))
 
     pub counts-within : isSound counts ≡ true → (t .kinds ≤ kindLimit) × (t .transitions ≤ transitionLimit)
     counts-within e = counts-bound (t .states) (t .variables) (t .clocks) (t .kinds) (t .transitions) (sym is ∙ sound-is counts e)
 
-  pub write-late : (room bytes : List ℕ) (answer : Reading) → bytes ≡ tableBytes t → answer ≡ tableAnswer bytes → (r : Writing) (after : List ℕ)
+  pub write-late : (room bytes : List ℕ) (answer : Reading) → bytes ≡ tableBytes t → answer ≡ tableWritable t → (r : Writing) (after : List ℕ)
       → Writes (write answer bytes room) r after → Writes (writeTable t room) r after
   unfolding writeTable
   write-late room bytes answer e g r after w = rw (g, e) at w
+
+  -- the answer from the scan of these bytes, and 16 and 17 of the parts themselves
+  module _ (b : List ℕ) (is : b ≡ tableBytes t) (scan : Reading) (scanned : scan ≡ scanWith (t .devices) b) where
+    pub writable-refused : isSound scan ≡ false → scan ≡ tableWritable t
+    writable-refused e = sym (scan-all (tableBytes t) (t .devices) ∙ rw (← is, ← scanned) (stops scan _ e))
+
+    pub writable-whole : length (t .guards) ≡ guardLimit * transitionLimit → isSound scan ≡ true → (whole : Reading) → whole ≡ wholeAnswer (monitorOf t) → whole ≡ tableWritable t
+    writable-whole full e whole q =
+        let sound : scanWith (t .devices) (tableBytes t) ≡ Sound = ap (scanWith (t .devices)) (sym is) ∙ sym scanned ∙ sound-is scan e in
+        q ∙ ap wholeAnswer (sym (monitor-back t full sound)) ∙ sym (scan-all (tableBytes t) (t .devices) ∙ rw sound)

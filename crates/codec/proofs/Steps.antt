@@ -1,9 +1,9 @@
 -- One turn of each loop that scans.
 use Prim.Native.Nat.{ℕ, suc, _+_, _-_, _*_, _/_, _%_, _^_, _<_, _≤_}
 use native.Mathlib.Omega.{arith}
-use mathlib.Core.Path.{_≡_, sym, _∙_}
+use mathlib.Core.Path.{_≡_, sym, ap, _∙_}
 use mathlib.Core.List.{List}
-use mathlib.Core.Bool.{true, not, _&&_}
+use mathlib.Core.Bool.{true, false, not, _&&_, false≢true}
 use lib.ListN.{length}
 use lib.Dec.{eqb, ltb}
 use lib.Pow.{pow-pos}
@@ -11,21 +11,18 @@ use native.Mathlib.Decide.{decLt}
 use native.Mathlib.Nat.{div-lt-iff-lt-mul}
 use mathlib.Core.Logic.{_↔_}
 use borrow.Author.Tests.{lt-ltb, le-ltb}
-use Rattle.model.specs.First.{unless, andThen}
-use Rattle.model.specs.Table.{kindRecord, kindRecords, apart, transitionRecord, transitionRecords, guardLengthAt}
+use Rattle.model.specs.Bytes.{tab}
+use Rattle.model.specs.First.{unless, andThen, firstOf, isSound}
+use Rattle.model.specs.Table.{apart, transitionRecord, transitionRecords, guardLengthAt}
 use Rattle.model.specs.declared.Refusal.the-variants.{TableLength}
-use Rattle.model.specs.declared.Reading.the-variants.{Sound}
+use Rattle.model.specs.declared.Reading.{Reading}
+use Rattle.model.specs.declared.Reading.the-variants.{Sound, Unsound}
+use Rattle.model.proofs.Tests.{first-refused}
 use Rattle.frame.proofs.Answers.{then-sound}
 
 -- at turn i of n
 pub left : (n i : ℕ) → i < n → n - i ≡ suc (n - (i + 1))
 left n i h = omega arith
-
-pub kinds-turn : (b : List ℕ) (n i : ℕ) → i < n → kindRecords (n - i) b (8 + 2 * i) ≡ andThen (kindRecord b (8 + 2 * i)) (kindRecords (n - (i + 1)) b (8 + 2 * (i + 1)))
-unfolding kindRecords
-kinds-turn b n i h =
-    let next : 8 + 2 * (i + 1) ≡ 8 + 2 * i + 2 = omega arith in
-    rw (left n i h, next, then-sound (kindRecords (n - (i + 1)) b (8 + 2 * i + 2)))
 
 pub transitions-turn : (b : List ℕ) (n i at : ℕ) → i < n
     → transitionRecords (n - i) b at ≡ andThen (transitionRecord b at) (transitionRecords (n - (i + 1)) b (at + 7 + guardLengthAt b at))
@@ -35,10 +32,6 @@ transitions-turn b n i at h = rw (left n i h, then-sound (transitionRecords (n -
 pub transitions-end : (b : List ℕ) (n i at : ℕ) → n ≤ i → transitionRecords (n - i) b at ≡ unless (eqb at (length b)) (TableLength at)
 unfolding transitionRecords
 transitions-end b n i at h = let none : n - i ≡ 0 = omega arith in rw none
-
-pub kinds-end : (b : List ℕ) (n i : ℕ) → n ≤ i → kindRecords (n - i) b (8 + 2 * i) ≡ Sound
-unfolding kindRecords
-kinds-end b n i h = let none : n - i ≡ 0 = omega arith in rw none
 
 pub apart-end : (n i s c : ℕ) → n ≤ i → apart (n - i) s c ≡ true
 unfolding apart
@@ -63,3 +56,17 @@ mask-fits mask count = go (decLt mask (2 ^ count))
     go : Dec (mask < 2 ^ count) → ltb (mask / 2 ^ count) 1 ≡ ltb mask (2 ^ count)
     go (yes h) = lt-ltb _ _ (bound .1 (omega arith)) ∙ sym (lt-ltb _ _ h)
     go (no h) = let k : 2 ^ count ≤ mask = omega arith in le-ltb _ _ (above (λ q. omega (arith, bound .0 q))) ∙ sym (le-ltb _ _ k)
+
+-- tests one behind the other, by number: the first i passed, and number i is r
+
+module _ (f : ℕ → Reading) where
+  pub first-stops : (n i : ℕ) (r : Reading) → i < n → ((k : ℕ) → k < i → f k ≡ Sound) → r ≡ f i → isSound r ≡ false → r ≡ firstOf (tab f n)
+  first-stops n i Sound h passed e away = absurd (false≢true (sym away))
+  first-stops n i (Unsound why) h passed e away = sym (first-refused f n i why h passed (sym e))
+
+  pub passed-more : (i : ℕ) → ((k : ℕ) → k < i → f k ≡ Sound) → f i ≡ Sound → (k : ℕ) → k < i + 1 → f k ≡ Sound
+  passed-more i passed here k h = go (decLt k i)
+    where
+      go : Dec (k < i) → f k ≡ Sound
+      go (yes p) = passed k p
+      go (no p) = let e : k ≡ i = omega arith in ap f e ∙ here

@@ -9,22 +9,23 @@ use mathlib.Core.Bool.{Bool, true, false, _&&_}
 use lib.Dec.{leb, ltb}
 use lib.ListN.{length, getD, take, drop, length-take}
 use borrow.Author.Tests.{le-leb, lt-leb}
-use Rattle.model.specs.Limits.{kindLimit, transitionLimit, guardLimit, sizeLimit}
+use Rattle.model.specs.Limits.{tableVersions, kindLimit, transitionLimit, guardLimit, sizeLimit}
 use Rattle.model.specs.Bytes.{byteAt, joined, padded}
 use Rattle.model.specs.First.{unless, andThen, firstOf, isSound}
+use Rattle.model.specs.Frame.{framed}
 use Rattle.model.specs.Monitor.{Monitor}
 use Rattle.model.specs.Size.{size}
 use Rattle.model.specs.Reach.{statesAnswer}
-use Rattle.model.specs.Table.{countsOf, tableCounts, apart, transitionFields, guardRecord, transitionRecord, transitionRecords, statesAt, variablesAt, clocksAt, kindsAt, transitionsAt, kindAt, transitionAt, guardLengthAt, guardPlace, tableScan, wholeAnswer, tableAnswer, tableParts, noTable, readTable, monitorOf}
+use Rattle.model.specs.Table.{countsOf, tableCounts, apart, transitionFields, guardRecord, transitionRecord, transitionRecords, statesAt, variablesAt, clocksAt, kindsAt, transitionsAt, transitionAt, guardLengthAt, guardPlace, kindRecords, deviceColumn, scanWith, tableScan, wholeAnswer, answerWith, tableAnswer, tableParts, noTable, readTable, monitorOf}
 use Rattle.model.specs.declared.TableParts.{TableParts}
 use Rattle.model.specs.declared.TableReading.{TableReading}
-use Rattle.model.specs.declared.Refusal.the-variants.{TableSize, TableCount, TableLength, TableField}
+use Rattle.model.specs.declared.Refusal.the-variants.{TableFrame, TableVersion, TableSize, TableCount, TableLength, TableField}
 use Rattle.model.specs.declared.Refusal.{Refusal}
 use Rattle.model.specs.declared.Reading.{Reading}
-use Rattle.model.specs.declared.Reading.the-variants.{Sound}
+use Rattle.model.specs.declared.Reading.the-variants.{Sound, Unsound}
 use Rattle.model.proofs.Basics.{andThen-left, andThen-right}
 use Rattle.model.proofs.Tests.{test, le-test, tests}
-use Rattle.model.proofs.TableForm.{countTests, scanTests, sound-transition}
+use Rattle.model.proofs.TableForm.{TableFacts, countTests, scan-facts, places}
 use Rattle.wire.specs.Placed.{placed}
 use Rattle.frame.proofs.Columns.{joined-long, padded-long, place-more}
 use Rattle.frame.proofs.Answers.{then-sound}
@@ -77,38 +78,42 @@ module _ (b : List ℕ) where
   record-row at = simp then-sound
 
   -- 16 and 17 come after the scan
-  pub scan-all : tableAnswer b ≡ andThen (tableScan b) (wholeAnswer (monitorOf (tableParts b)))
-  unfolding tableAnswer
-  scan-all = simp then-sound
+  pub scan-all : (devices : List ℕ) → answerWith devices b ≡ andThen (scanWith devices b) (wholeAnswer (monitorOf (tableParts b)))
+  unfolding answerWith
+  scan-all devices = simp then-sound
 
-  pub record-bound : (at : ℕ) → transitionRecord b at ≡ Sound → (guardLengthAt b at ≤ guardLimit) × (at + 7 + guardLengthAt b at ≤ length b)
-  record-bound at h = let t = sound-transition b at h in (t .few, t .fits)
+  -- the scan asks for devices only where there are no more kinds than a sound table has
+  same-scan : (d e : List ℕ) → (kindsAt b ≤ kindLimit → d ≡ e) → scanWith d b ≡ scanWith e b
+  unfolding scanWith
+  same-scan d e same = ap (andThen (framed b 8 tableVersions TableFrame TableVersion)) (go (tableCounts b) refl)
+    where
+      go :
+          (counts : Reading) → tableCounts b ≡ counts
+          → andThen counts (firstOf (kindRecords d b ∷ transitionRecords (transitionsAt b) b (transitionAt b 0) ∷ []))
+          ≡ andThen counts (firstOf (kindRecords e b ∷ transitionRecords (transitionsAt b) b (transitionAt b 0) ∷ []))
+      go (Unsound r) q = refl
+      go Sound q = rw (same (counts-bound (statesAt b) (variablesAt b) (clocksAt b) (kindsAt b) (transitionsAt b) q .0))
+
+  -- .. of bytes as they are read
+
+  pub read-all : tableAnswer b ≡ andThen (tableScan b) (wholeAnswer (monitorOf (tableParts b)))
+  unfolding tableAnswer tableScan
+  read-all = scan-all (deviceColumn b)
+
+  pub read-scan : (d : List ℕ) → (kindsAt b ≤ kindLimit → d ≡ deviceColumn b) → (r : Reading) → r ≡ scanWith d b → r ≡ tableScan b
+  unfolding tableScan
+  read-scan d same r is = is ∙ same-scan d (deviceColumn b) same
 
   module _ (sound : tableScan b ≡ Sound) where
-    scan-test : (i : ℕ) → getD (scanTests b) i Sound ≡ Sound
+    facts : TableFacts (deviceColumn b) b
     unfolding tableScan
-    scan-test i = test (scanTests b) sound i
+    facts = scan-facts (deviceColumn b) b sound
 
     pub scan-bounds : (kindsAt b ≤ kindLimit) × (transitionsAt b ≤ transitionLimit)
-    scan-bounds = counts-bound _ _ _ _ _ (scan-test 1)
+    scan-bounds = (facts .counts .kinds, facts .counts .transitions)
 
-    scan-transitions : transitionRecords (transitionsAt b) b (kindAt (kindsAt b)) ≡ Sound
-    scan-transitions = scan-test 3
-
-    -- from each record on, what is left is sound
-    scan-from : (j : ℕ) → j ≤ transitionsAt b → transitionRecords (transitionsAt b - j) b (transitionAt b j) ≡ Sound
-    unfolding transitionAt
-    scan-from zero h = rw sub-zero scan-transitions
-    scan-from (suc j) h =
-        let rest = transitionRecords (transitionsAt b - (j + 1)) b (transitionAt b j + 7 + guardLengthAt b (transitionAt b j)) in
-        let e : suc j ≡ j + 1 = sym (add-one j) in
-        rw e (andThen-right (transitionRecord b (transitionAt b j)) rest (sym (transitions-turn b (transitionsAt b) j (transitionAt b j) (omega arith)) ∙ scan-from j (omega arith)))
-
-    pub scan-guard : (j : ℕ) → j < transitionsAt b → (guardLengthAt b (transitionAt b j) ≤ guardLimit) × (transitionAt b j + 7 + guardLengthAt b (transitionAt b j) ≤ length b)
-    scan-guard j h =
-        let at = transitionAt b j in
-        let rest = transitionRecords (transitionsAt b - (j + 1)) b (at + 7 + guardLengthAt b at) in
-        record-bound at (andThen-left (transitionRecord b at) rest (sym (transitions-turn b (transitionsAt b) j at h) ∙ scan-from j (omega arith)))
+    scan-guard : (j : ℕ) → j < transitionsAt b → (guardLengthAt b (transitionAt b j) ≤ guardLimit) × (transitionAt b j + 7 + guardLengthAt b (transitionAt b j) ≤ length b)
+    scan-guard j h = let t = facts .transition j h in (t .few, t .fits)
 
 -- where the next record starts
 pub next-at : (b : List ℕ) (at i l : ℕ) → at ≡ transitionAt b i → l ≡ guardLengthAt b at → at + 7 + l ≡ transitionAt b (i + 1)
@@ -118,12 +123,6 @@ next-at b at i l e h = rw (h, e, add-one)
 place-is : (b : List ℕ) (i at l : ℕ) → at ≡ transitionAt b i → l ≡ guardLengthAt b at → guardPlace b i ≡ padded guardLimit (take l (drop (at + 7) b))
 unfolding guardPlace
 place-is b i at l starts long = rw (long, starts)
-
-place-long : (b : List ℕ) → tableScan b ≡ Sound → (j : ℕ) → j < transitionsAt b → length (guardPlace b j) ≡ guardLimit
-unfolding guardPlace
-place-long b sound j h =
-    let part = drop (transitionAt b j + 7) b in
-    padded-long guardLimit (take (guardLengthAt b (transitionAt b j)) part) (omega (arith, scan-guard b sound j h .0, length-take (guardLengthAt b (transitionAt b j)) part))
 
 -- the guard of record i, which starts at an offset and has a length
 module _ (b : List ℕ) (sound : tableScan b ≡ Sound) (i at l : ℕ) (within : i < transitionsAt b) (starts : at ≡ transitionAt b i) (long : l ≡ guardLengthAt b at) where
@@ -136,7 +135,7 @@ module _ (b : List ℕ) (sound : tableScan b ≡ Sound) (i at l : ℕ) (within :
       let all : at + 7 + l - (at + 7) ≡ l = omega arith in
       let few : transitionsAt b ≤ transitionLimit = scan-bounds b sound .1 in
       let short : length (take l (drop (at + 7) b)) ≤ guardLimit = omega (arith, guard-inside .0, length-take l (drop (at + 7) b)) in
-      rw (all, e) (place-more (guardLimit * transitionLimit) guardLimit (guardPlace b) (take l (drop (at + 7) b)) i (omega arith) short (joined-long (guardPlace b) guardLimit i (λ j h. place-long b sound j (omega arith))) (place-is b i at l starts long))
+      rw (all, e) (place-more (guardLimit * transitionLimit) guardLimit (guardPlace b) (take l (drop (at + 7) b)) i (omega arith) short (joined-long (guardPlace b) guardLimit i (λ j h. places b (facts b sound) j (omega arith))) (place-is b i at l starts long))
 
 pub read-refused : (b : List ℕ) (r : Reading) (p : TableParts) → r ≡ tableAnswer b → isSound r ≡ false → p ≡ noTable → _≡_ {A = TableReading} (record { answer = r; parts = p }) (readTable b)
 unfolding readTable

@@ -1,10 +1,17 @@
 // The table: its scan, which tests and touches no arrays, its fill, and what reading gives.
 use frame::column::bytes_column;
+use frame::column::smaller;
 use frame::framed_answer;
+use frame::is_version;
 use frame::put;
 use frame::sound;
 use guard::guard_fills;
 use guard::size::table_size;
+use kinds::FIRST_KIND;
+use kinds::WIDEST_KIND;
+use kinds::device_fits;
+use kinds::kind_at;
+use kinds::kind_width;
 use model::AIRTIME_LIMIT;
 use model::CLOCK_LIMIT;
 use model::GUARD_LIMIT;
@@ -13,30 +20,33 @@ use model::Reading;
 use model::Refusal;
 use model::SIZE_LIMIT;
 use model::STATE_LIMIT;
+use model::TABLE_VERSIONS;
 use model::TRANSITION_LIMIT;
 use model::TableParts;
 use model::TableReading;
 use model::VARIABLE_LIMIT;
 use model::Writing;
+use monitor::device_of;
 use reach::states_answer;
 use wire::byte;
 use wire::place;
 ghost use mathlib.Core.Path.{_≡_};
-ghost use Prim.Native.Nat.{ℕ, _+_, _-_, _*_, _%_, _<_, _≤_, _^_, min};
+ghost use Prim.Native.Nat.{ℕ, _+_, _-_, _*_, _%_, _<_, _≤_, _^_};
 ghost use mathlib.Core.Bool.{_&&_};
 ghost use mathlib.Core.List.{List, _++_};
 ghost use lib.ListN.{length};
 ghost use lib.Dec.{leb, ltb, eqb};
 ghost use Rattle.model.specs.Answers.{Reads, RefusesUnreached, Writes};
 ghost use Rattle.model.specs.First.{unless};
-ghost use Rattle.model.specs.Limits.{kindLimit, transitionLimit, guardLimit, sizeLimit, tableLimit};
+ghost use Rattle.model.specs.Limits.{kindLimit, transitionLimit, guardLimit, sizeLimit};
 ghost use Rattle.model.specs.Size.{size};
 ghost use Rattle.model.specs.Bytes.{wordBytes, joined, padded};
 ghost use Rattle.model.specs.Room.{over};
 ghost use Rattle.wire.specs.Placed.{placed};
 ghost use Rattle.model.specs.declared.Reading.the-variants.{Sound};
 ghost use Rattle.model.specs.declared.Refusal.the-variants.{TableSize};
-ghost use Rattle.model.specs.Table.{countsOf, kindRecord, kindRecords, apart, transitionFields, guardRecord, transitionRecord, transitionRecords, kindsAt, kindAt, transitionsAt, kindColumn, transitionColumn, guardPlace, tableParts, noTable, tableScan, wholeAnswer, tableAnswer, readTable, monitorOf, kindBytes, fieldBytes, guardBytesIn, transitionBytes, countBytes, tableBytes, writeTable};
+ghost use Rattle.model.specs.Kinds.{kindAt, kindRecord, kindBytes};
+ghost use Rattle.model.specs.Table.{countsOf, kindRecords, apart, transitionFields, guardRecord, transitionRecord, transitionRecords, transitionAt, kindsAt, transitionsAt, kindColumn, deviceColumn, transitionColumn, guardPlace, tableParts, noTable, scanWith, tableScan, wholeAnswer, tableAnswer, readTable, monitorOf, fieldBytes, guardBytesIn, transitionBytes, countBytes, tableBytes, tableLimit, tableWritable, writeTable};
 
 // Limits of counts and of a guard's length, which are bytes.
 const KINDS: u8 = KIND_LIMIT as u8;
@@ -46,7 +56,9 @@ const TRANSITIONS: u8 = TRANSITION_LIMIT as u8;
 const GUARD_LENGTH: u8 = GUARD_LIMIT as u8;
 
 // The longest table.
-const MOST: usize = 8 + 2 * KIND_LIMIT + (7 + GUARD_LIMIT) * TRANSITION_LIMIT;
+const MOST: usize = FIRST_KIND as usize
+    + WIDEST_KIND as usize * KIND_LIMIT
+    + (7 + GUARD_LIMIT) * TRANSITION_LIMIT;
 
 // The first count outside its limits.
 fn counts_answer(states: u8, variables: u8, clocks: u8, kinds: u8, transitions: u8) -> Reading
@@ -76,29 +88,36 @@ fn counts_answer(states: u8, variables: u8, clocks: u8, kinds: u8, transitions: 
     Reading::Sound
 }
 
-fn kind_record(b: &[u8], at: usize) -> Reading
-    requires { ⌜ at < 131072 ⌝ }
-    ensures { λ r. ⌜ r ≡ kindRecord (now (b .entry)) at ⌝ }
+fn kind_record(b: &[u8], at: u16, device: u8) -> Reading
+    ensures { λ r. ⌜ r ≡ kindRecord (now (b .entry)) at device ⌝ }
 {
-    if b.len() < at + 2 {
+    let version = byte(b, 2);
+    let start = at as usize;
+    if b.len() < start + kind_width(version) as usize {
         return Reading::Unsound(Refusal::TableLength { offset: at as u64 });
     }
-    if 1 < byte(b, at) {
+    let direction = byte(b, start);
+    if 1 < direction {
         return Reading::Unsound(Refusal::TableField { offset: at as u64 });
     }
-    if AIRTIME_LIMIT < byte(b, at + 1) {
+    if AIRTIME_LIMIT < byte(b, start + 1) {
+        return Reading::Unsound(Refusal::TableField { offset: at as u64 });
+    }
+    if !device_fits(version, direction, device) {
         return Reading::Unsound(Refusal::TableField { offset: at as u64 });
     }
     Reading::Sound
 }
 
-fn kind_records(b: &[u8]) -> Reading
-    ensures { λ r. ⌜ r ≡ kindRecords (kindsAt (now (b .entry))) (now (b .entry)) (kindAt 0) ⌝ }
+// The records of kinds that have these devices.
+fn kind_records<'a>(b: &'a [u8], devices: &'a [u8]) -> Reading
+    ensures { λ r. ⌜ r ≡ kindRecords (now (devices .entry)) (now (b .entry)) ⌝ }
 {
-    let n = byte(b, 6) as usize;
-    let mut i = 0;
+    let version = byte(b, 2);
+    let n = byte(b, 6);
+    let mut i = 0u8;
     while i < n {
-        let r = kind_record(b, 8 + 2 * i);
+        let r = kind_record(b, kind_at(version, i), byte(devices, i as usize));
         if !sound(r) {
             return r;
         }
@@ -234,10 +253,10 @@ fn transition_record(b: &[u8], at: usize) -> Reading
 }
 
 fn transition_records(b: &[u8]) -> Reading
-    ensures { λ r. ⌜ r ≡ transitionRecords (transitionsAt (now (b .entry))) (now (b .entry)) (kindAt (kindsAt (now (b .entry)))) ⌝ }
+    ensures { λ r. ⌜ r ≡ transitionRecords (transitionsAt (now (b .entry))) (now (b .entry)) (transitionAt (now (b .entry)) 0) ⌝ }
 {
     let n = byte(b, 7);
-    let mut at = 8 + 2 * (byte(b, 6) as usize);
+    let mut at = kind_at(byte(b, 2), byte(b, 6)) as usize;
     let mut i = 0;
     while i < n {
         let r = transition_record(b, at);
@@ -253,11 +272,17 @@ fn transition_records(b: &[u8]) -> Reading
     Reading::Sound
 }
 
-// The numbers 10 to 15.
-fn table_scan(b: &[u8]) -> Reading
-    ensures { λ r. ⌜ r ≡ tableScan (now (b .entry)) ⌝ }
+// The numbers 10 to 15 of bytes whose kinds have these devices.
+fn scan_with<'a>(b: &'a [u8], devices: &'a [u8]) -> Reading
+    ensures { λ r. ⌜ r ≡ scanWith (now (devices .entry)) (now (b .entry)) ⌝ }
 {
-    let frame = framed_answer(b, 8, Refusal::TableFrame, Refusal::TableVersion);
+    let frame = framed_answer(
+        b,
+        8,
+        TABLE_VERSIONS,
+        Refusal::TableFrame,
+        Refusal::TableVersion,
+    );
     if !sound(frame) {
         return frame;
     }
@@ -265,7 +290,7 @@ fn table_scan(b: &[u8]) -> Reading
     if !sound(counts) {
         return counts;
     }
-    let kinds = kind_records(b);
+    let kinds = kind_records(b, devices);
     if !sound(kinds) {
         return kinds;
     }
@@ -278,7 +303,22 @@ fn kind_column(b: &[u8], field: u8) -> [u8; KIND_LIMIT]
     ensures { λ r. ⌜ r ≡ kindColumn (now (b .entry)) field ⌝ }
 {
     let mut column = [0u8; KIND_LIMIT];
-    bytes_column(b, 8 + field, 2, byte(b, 6) as u16, &mut column);
+    let width = kind_width(byte(b, 2));
+    bytes_column(b, FIRST_KIND + field, width, byte(b, 6) as u16, &mut column);
+    column
+}
+
+// The devices of the kinds that the table counts, at most as many as a sound one has.
+fn device_column(b: &[u8]) -> [u8; KIND_LIMIT]
+    ensures { λ r. ⌜ (kindsAt (now (b .entry)) ≤ kindLimit → r ≡ deviceColumn (now (b .entry))) ⌝ }
+{
+    let most = smaller(byte(b, 6) as usize, KIND_LIMIT);
+    let mut column = [0u8; KIND_LIMIT];
+    let mut i = 0;
+    while i < most {
+        column[i] = device_of(b, i as u8);
+        i += 1;
+    }
     column
 }
 
@@ -288,7 +328,7 @@ fn transition_column(b: &[u8], field: usize) -> [u8; TRANSITION_LIMIT]
 {
     let n = byte(b, 7) as usize;
     let mut column = [0u8; TRANSITION_LIMIT];
-    let mut at = 8 + 2 * (byte(b, 6) as usize);
+    let mut at = kind_at(byte(b, 2), byte(b, 6)) as usize;
     let mut i = 0;
     while i < n {
         column[i] = byte(b, at + field);
@@ -305,7 +345,7 @@ fn guard_places(b: &[u8]) -> [u8; GUARD_LIMIT * TRANSITION_LIMIT]
 {
     let n = byte(b, 7) as usize;
     let mut guards = [0u8; GUARD_LIMIT * TRANSITION_LIMIT];
-    let mut at = 8 + 2 * (byte(b, 6) as usize);
+    let mut at = kind_at(byte(b, 2), byte(b, 6)) as usize;
     let mut i = 0;
     while i < n {
         let from = at + 7;
@@ -317,8 +357,8 @@ fn guard_places(b: &[u8]) -> [u8; GUARD_LIMIT * TRANSITION_LIMIT]
     guards
 }
 
-fn table_parts(b: &[u8]) -> TableParts
-    requires { ⌜ tableScan (now b) ≡ Sound ⌝ }
+fn table_parts(b: &[u8], devices: [u8; KIND_LIMIT]) -> TableParts
+    requires { ⌜ (tableScan (now b) ≡ Sound) × (devices ≡ deviceColumn (now b)) ⌝ }
     ensures { λ r. ⌜ r ≡ tableParts (now (b .entry)) ⌝ }
 {
     let directions = kind_column(b, 0);
@@ -332,6 +372,7 @@ fn table_parts(b: &[u8]) -> TableParts
     let lengths = transition_column(b, 6);
     let guards = guard_places(b);
     TableParts {
+        version: byte(b, 2),
         states: byte(b, 3),
         variables: byte(b, 4),
         clocks: byte(b, 5),
@@ -339,6 +380,7 @@ fn table_parts(b: &[u8]) -> TableParts
         transitions: byte(b, 7),
         directions,
         airtimes,
+        devices,
         sources,
         targets,
         triggers,
@@ -354,6 +396,7 @@ fn no_table() -> TableParts
     ensures { λ r. ⌜ r ≡ noTable ⌝ }
 {
     TableParts {
+        version: 0,
         states: 0,
         variables: 0,
         clocks: 0,
@@ -361,6 +404,7 @@ fn no_table() -> TableParts
         transitions: 0,
         directions: [0; KIND_LIMIT],
         airtimes: [0; KIND_LIMIT],
+        devices: [0; KIND_LIMIT],
         sources: [0; TRANSITION_LIMIT],
         targets: [0; TRANSITION_LIMIT],
         triggers: [0; TRANSITION_LIMIT],
@@ -394,14 +438,15 @@ pub fn read_table(b: &[u8]) -> TableReading
     ensures { λ r. ⌜ r ≡ readTable (now (b .entry)) ⌝ }
     ensures { λ r. ⌜ Reads (tableAnswer (now (b .entry))) (tableParts (now (b .entry))) noTable (r .answer) (r .parts) × RefusesUnreached (now (b .entry)) (r .answer) ⌝ }
 {
-    let scan = table_scan(b);
+    let devices = device_column(b);
+    let scan = scan_with(b, &devices);
     if !sound(scan) {
         return TableReading {
             answer: scan,
             parts: no_table(),
         };
     }
-    let parts = table_parts(b);
+    let parts = table_parts(b, devices);
     let whole = whole_answer(parts);
     if !sound(whole) {
         return TableReading {
@@ -427,13 +472,16 @@ pub fn table_answer(b: &[u8]) -> Reading
 // Writing. Each record goes behind what stands in the room already, which a contract calls head.
 fn encode_kinds(t: TableParts, out: &mut [u8])
     requires { ⌜ t .kinds ≤ kindLimit ⌝ }
-    ensures { λ _. ⌜ ((head room : List ℕ) → length head ≡ 8 → kindAt kindLimit ≤ length room → now (out .entry) ≡ over head room → now (out .exit) ≡ over (head ++ joined (kindBytes t) (t .kinds)) room) ⌝ }
+    ensures { λ _. ⌜ ((head room : List ℕ) → length head ≡ 8 → tableLimit ≤ length room → now (out .entry) ≡ over head room → now (out .exit) ≡ over (head ++ joined (kindBytes t) (t .kinds)) room) ⌝ }
 {
-    let n = t.kinds as usize;
-    let mut i = 0;
+    let version = t.version;
+    let width = kind_width(version) as usize;
+    let n = t.kinds;
+    let mut i = 0u8;
     while i < n {
-        let record = [t.directions[i], t.airtimes[i]];
-        place(&record, out, 8 + 2 * i);
+        let k = i as usize;
+        let record = [t.directions[k], t.airtimes[k], t.devices[k]];
+        place(&record[0..width], out, kind_at(version, i) as usize);
         i += 1;
     }
 }
@@ -453,24 +501,13 @@ fn field_bytes(t: TableParts, j: usize) -> [u8; 7]
     ]
 }
 
-// A guard's length, or the places that it has, if they are fewer.
-fn within_place(length: u8) -> usize
-    ensures { λ r. ⌜ r ≡ min length guardLimit ⌝ }
-{
-    if GUARD_LENGTH < length {
-        GUARD_LIMIT
-    } else {
-        length as usize
-    }
-}
-
 // The bytes of guard j that its length covers, and how many they are.
 fn put_guard<'a>(guards: &'a [u8], j: usize, count: u8, out: &mut [u8], at: usize) -> usize
     requires { ⌜ (j < transitionLimit) × (guardLimit * transitionLimit ≤ length (now guards)) ⌝ }
     ensures { λ r. ⌜ (now (out .exit) ≡ placed (guardBytesIn (now (guards .entry)) count j) at (now (out .entry))) × (r ≡ length (guardBytesIn (now (guards .entry)) count j)) × (r ≤ guardLimit) ⌝ }
 {
     let from = GUARD_LIMIT * j;
-    let to = from + within_place(count);
+    let to = from + smaller(count as usize, GUARD_LIMIT);
     place(&guards[from..to], out, at);
     to - from
 }
@@ -487,10 +524,10 @@ fn put_transition(t: TableParts, j: usize, at: usize, out: &mut [u8]) -> usize
 
 fn encode_transitions(t: TableParts, out: &mut [u8]) -> usize
     requires { ⌜ (t .kinds ≤ kindLimit) × (t .transitions ≤ transitionLimit) ⌝ }
-    ensures { λ r. ⌜ ((head room : List ℕ) → length head ≡ 8 + 2 * t .kinds → tableLimit ≤ length room → now (out .entry) ≡ over head room → (now (out .exit) ≡ over (head ++ joined (transitionBytes t) (t .transitions)) room) × (r ≡ length (head ++ joined (transitionBytes t) (t .transitions)))) × (r ≤ tableLimit) ⌝ }
+    ensures { λ r. ⌜ ((head room : List ℕ) → length head ≡ kindAt (t .version) (t .kinds) → tableLimit ≤ length room → now (out .entry) ≡ over head room → (now (out .exit) ≡ over (head ++ joined (transitionBytes t) (t .transitions)) room) × (r ≡ length (head ++ joined (transitionBytes t) (t .transitions)))) × (r ≤ tableLimit) ⌝ }
 {
     let n = t.transitions as usize;
-    let mut at = 8 + 2 * (t.kinds as usize);
+    let mut at = kind_at(t.version, t.kinds) as usize;
     let mut i = 0;
     while i < n {
         at = put_transition(t, i, at, out);
@@ -520,7 +557,7 @@ fn head_bytes(t: TableParts, end: usize) -> [u8; 8]
     [
         (total / 256) as u8,
         (total % 256) as u8,
-        1,
+        t.version,
         t.states,
         t.variables,
         t.clocks,
@@ -535,9 +572,24 @@ fn after_length(end: usize) -> usize
     if end < 2 { 0 } else { end - 2 }
 }
 
+// What writing parts answers, from their bytes: a version 1 table has none for the devices.
+fn writable(t: TableParts, encoded: &[u8]) -> Reading
+    requires { ⌜ now encoded ≡ tableBytes t ⌝ }
+    ensures { λ r. ⌜ r ≡ tableWritable t ⌝ }
+{
+    let scan = scan_with(encoded, &t.devices);
+    if !sound(scan) {
+        return scan;
+    }
+    whole_answer(t)
+}
+
 pub fn write_table(t: TableParts, room: &mut [u8]) -> Writing
     ensures { λ w. ⌜ Writes (writeTable t (now (room .entry))) w (now (room .exit)) ⌝ }
 {
+    if !is_version(TABLE_VERSIONS, t.version) {
+        return Writing::Unwritten(Refusal::TableVersion);
+    }
     let counts = counts_answer(t.states, t.variables, t.clocks, t.kinds, t.transitions);
     if let Reading::Unsound(refusal) = counts {
         return Writing::Unwritten(refusal);
@@ -546,5 +598,5 @@ pub fn write_table(t: TableParts, room: &mut [u8]) -> Writing
     let mut bytes = [0u8; MOST];
     let end = encode(t, &mut bytes);
     let encoded = &bytes[0..end];
-    put(table_answer(encoded), encoded, room)
+    put(writable(t, encoded), encoded, room)
 }

@@ -8,13 +8,14 @@ use lib.ListN.{getD, getElem?}
 use Rattle.model.specs.Bytes.{byteAt, tab}
 use Rattle.model.specs.Monitor.{Monitor, Transition}
 use Rattle.model.specs.Size.{greatest, largestAirtime, size}
-use Rattle.model.specs.Table.{SoundTable, monitorAt, monitorOf, tableParts, transitionsAt, kindsAt, kindAt, kindColumn}
+use Rattle.model.specs.Kinds.{versionAt, kindAt}
+use Rattle.model.specs.Table.{SoundTable, monitorAt, monitorOf, tableParts, transitionsAt, kindsAt, kindColumn, deviceColumn}
 use Rattle.model.specs.Recording.{SoundRecording, packetsAt}
 use Rattle.model.specs.Situation.{stepBy, moveOf, number, situationOf, capped, recordedAt, stepNumber, firstBy, firstNumber}
 use Rattle.model.specs.declared.Situation.{Situation}
 use Rattle.model.proofs.Basics.{getElem-tab, getElem-within, length-tab}
 use Rattle.model.proofs.Places.{getD-column}
-use Rattle.model.proofs.TableForm.{table-facts, TableFacts, sane-table}
+use Rattle.model.proofs.TableForm.{table-facts, table-small, TableFacts, sane-table}
 use Rattle.model.proofs.RecordingForm.{sound-table, sane-recording}
 use Rattle.monitor.specs.From.{monitorFrom, offsetsOf, transitionFrom}
 use Rattle.monitor.proofs.Described.{monitor-from}
@@ -44,14 +45,14 @@ greatest-le f b zero h = omega arith
 greatest-le f b (suc n) h = greatest-more (tab f n) (f n) b (greatest-le f b n (λ i l. h i (omega arith))) (h n (omega arith))
 
 module _ (table : List ℕ) (sound : SoundTable table) where
-  facts : TableFacts table
+  facts : TableFacts (deviceColumn table) table
   facts = table-facts table sound
 
   airtimes-short : largestAirtime (monitorAt table) < 256
   unfolding monitorOf tableParts
   airtimes-short =
       let h = greatest-le (λ k. byteAt (kindColumn table 1) k) 15 (kindsAt table)
-      (λ k l. subst (λ (x : ℕ). x ≤ 15) (sym (getD-column 32 (λ i. byteAt table (kindAt i + 1)) (kindsAt table) k l)) (facts .kind k l .airtime)) in
+      (λ k l. subst (λ (x : ℕ). x ≤ 15) (sym (getD-column 32 (λ i. byteAt table (kindAt (versionAt table) i + 1)) (kindsAt table) k l)) (facts .kind k l .airtime)) in
       omega arith
 
   -- the code's step from a number is the definition's
@@ -93,7 +94,7 @@ pub setting : (table recording : List ℕ) → SoundRecording table recording �
     → Setting table (offsetsOf table) recording g
 unfolding stepNumber
 setting table recording sound g measured =
-    let small = table-facts table (sound-table table recording sound) .small in
+    let small = table-small table (sound-table table recording sound) in
     let whole : g .size ≡ size (monitorAt table) = omega (arith, measured .size) in
     record {
       sane = sane-table table (sound-table table recording sound);

@@ -25,7 +25,7 @@ use Rattle.model.specs.declared.TableParts.{TableParts}
 use Rattle.model.specs.declared.TableReading.{TableReading}
 use Rattle.model.proofs.Basics.{length-tab}
 use Rattle.model.proofs.Tests.{sound-unsound}
-use Rattle.model.proofs.TableForm.{table-facts}
+use Rattle.model.proofs.TableForm.{table-small}
 use Rattle.model.proofs.RecordingForm.{sound-table, packetAt, packets-tab}
 use Rattle.model.proofs.Judgement.{sound-judged}
 use Rattle.engine.specs.declared.measures.Measures.{Measures}
@@ -140,7 +140,7 @@ module _ (table recording : List ℕ) (e : recordingAnswer table recording ≡ S
 
   pub scratch-is : g .row * (g .last + 1) ≡ scratchWanted table recording
   scratch-is =
-      let small = table-facts table (sound-table table recording e) .small in
+      let small = table-small table (sound-table table recording e) in
       let row : g .row ≡ Size.setBytes (Size.size (monitorAt table)) = omega (arith, measured .size, measured .row) in
       mul-comm (g .row) (g .last + 1) ∙ ap₂ (λ (last bytes : ℕ). (last + 1) * bytes) (m .last) row
 

@@ -6,7 +6,7 @@ ghost use Prim.Native.Nat.{_+_, _*_, min};
 ghost use Rattle.model.specs.Bytes.{byteAt, wordAt};
 ghost use Rattle.frame.specs.Filled.{filled};
 
-fn smaller(a: usize, b: usize) -> usize
+pub fn smaller(a: usize, b: usize) -> usize
     ensures { λ r. ⌜ r ≡ min a b ⌝ }
 {
     if a < b { a } else { b }

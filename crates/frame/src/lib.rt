@@ -1,6 +1,7 @@
 // What the three kinds of bytes share: length and version in front, and writing into a room what reads as sound.
 pub mod column;
 
+use model::ROW_VERSIONS;
 use model::Reading;
 use model::Refusal;
 use model::Writing;
@@ -10,7 +11,7 @@ use wire::word;
 ghost use mathlib.Core.Path.{_≡_};
 ghost use Rattle.model.specs.Answers.{Writes};
 ghost use Rattle.model.specs.First.{isSound};
-ghost use Rattle.model.specs.Frame.{framed, framedRows, rowsFrame};
+ghost use Rattle.model.specs.Frame.{isVersion, framed, framedRows, rowsFrame};
 ghost use Rattle.model.specs.Room.{write};
 
 pub fn sound(r: Reading) -> bool
@@ -19,9 +20,25 @@ pub fn sound(r: Reading) -> bool
     if let Reading::Sound = r { true } else { false }
 }
 
-// At least so many bytes, a length that matches, version 1.
-pub fn framed_answer(b: &[u8], least: usize, frame: Refusal, version: Refusal) -> Reading
-    ensures { λ r. ⌜ r ≡ framed (now (b .entry)) least frame version ⌝ }
+// Versions are numbered from 1 to the latest.
+pub fn is_version(latest: u8, version: u8) -> bool
+    ensures { λ r. ⌜ r ≡ isVersion latest version ⌝ }
+{
+    if version < 1 {
+        return false;
+    }
+    version <= latest
+}
+
+// At least so many bytes, a length that matches, a version up to the latest.
+pub fn framed_answer(
+    b: &[u8],
+    least: usize,
+    latest: u8,
+    frame: Refusal,
+    version: Refusal,
+) -> Reading
+    ensures { λ r. ⌜ r ≡ framed (now (b .entry)) least latest frame version ⌝ }
 {
     if b.len() < least {
         return Reading::Unsound(frame);
@@ -30,7 +47,7 @@ pub fn framed_answer(b: &[u8], least: usize, frame: Refusal, version: Refusal) -
     if stated + 2 != b.len() {
         return Reading::Unsound(frame);
     }
-    if byte(b, 2) != 1 {
+    if !is_version(latest, byte(b, 2)) {
         return Reading::Unsound(version);
     }
     Reading::Sound
@@ -47,7 +64,7 @@ pub fn rows_framed(
 ) -> Reading
     ensures { λ r. ⌜ r ≡ framedRows (now (b .entry)) width limit frame version count ⌝ }
 {
-    let first = framed_answer(b, 5, frame, version);
+    let first = framed_answer(b, 5, ROW_VERSIONS, frame, version);
     if !sound(first) {
         return first;
     }
@@ -69,7 +86,7 @@ pub fn frame_bytes(width: u8, count: u16) -> [u8; 5]
     [
         (total / 256 % 256) as u8,
         (total % 256) as u8,
-        1,
+        ROW_VERSIONS,
         (count / 256) as u8,
         (count % 256) as u8,
     ]

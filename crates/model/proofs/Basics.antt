@@ -7,7 +7,7 @@ use mathlib.Core.Logic.{_⊎_, inl, inr}
 use mathlib.Core.List.{List, [], _∷_, _++_}
 use mathlib.Core.Bool.{Bool, true, false, cond, _&&_, _||_, false≢true}
 use mathlib.Core.Option.{Option, none, some, Option·none-ne-some}
-use lib.ListN.{length, getD, getElem?, length-append, List·getD-append}
+use lib.ListN.{length, getD, getElem?, length-append, List·getD-append, List·getD-eq-default}
 use lib.Seq.{getD-at}
 use lib.Dec.{leb}
 use borrow.Author.Tests.{le-leb, lt-leb}
@@ -110,6 +110,9 @@ module _ {A : Type 0} (f : ℕ → A) where
       split again (no l) =
           let e : i ≡ n = omega arith in
           rw e (getD-at (tab f n) (f n) [] d n (length-tab n))
+
+  pub getD-tab-past : (d : A) (n i : ℕ) → n ≤ i → getD (tab f n) i d ≡ d
+  getD-tab-past d n i h = List·getD-eq-default (tab f n) d (omega (arith, length-tab n))
 
   pub getElem-tab : (n i : ℕ) → i < n → getElem? (tab f n) i ≡ some (f i)
   getElem-tab n i h = getElem-getD (tab f n) i (f i) (omega (arith, length-tab n)) ∙ ap {B = Option A} some (getD-tab (f i) n i h)

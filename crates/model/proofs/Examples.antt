@@ -11,7 +11,8 @@ use Rattle.model.specs.Guard.{holds, largest, leafAt, guardAt}
 use Rattle.model.specs.Monitor.{changed, reset, fires}
 use Rattle.model.specs.Size.{largestIn, greatest, cap, size}
 use Rattle.model.specs.Reach.{among, targets, reachedIn, isReached, lowestMissing, statesAnswer}
-use Rattle.model.specs.Table.{guardIn, transitionIn, monitorOf, countsOf, kindRecord, kindRecords, apart, transitionFields, guardRecord, transitionRecord, transitionRecords, transitionAt, guardPlace, tableParts, tableScan, wholeAnswer, tableAnswer, monitorAt}
+use Rattle.model.specs.Kinds.{kindWidth, impliedDevice, deviceAt, deviceFits, kindRecord}
+use Rattle.model.specs.Table.{guardIn, transitionIn, monitorOf, countsOf, kindRecords, apart, transitionFields, guardRecord, transitionRecord, transitionRecords, transitionAt, guardPlace, tableParts, scanWith, tableScan, wholeAnswer, answerWith, tableAnswer, monitorAt}
 use Rattle.model.specs.Recording.{clearOfBefore, recordedRow, recordedRows, recordingFrame, recordingScan, recordingAnswer, recordingParts, packetsOf, packetsAt, endOf}
 use Rattle.model.specs.Situation.{capped, sent, missed, moved, stepBy, recordedAt, moveOf, number, situationOf, stepNumber}
 use Rattle.model.specs.Layers.{count, firstFrom, spread, image, layer, total, lastInstant, cost, passing, leads, live, walk, leastMoves}
@@ -33,7 +34,7 @@ dirtyRoom : List ℕ
 dirtyRoom = replicate 90 9
 
 unfoldable pub run : (table recording : List ℕ) → ℕ → Run
-unfolding dirtyScratch dirtyRoom tab joined padded holds largest leafAt guardAt changed reset fires largestIn greatest cap size among targets reachedIn isReached lowestMissing statesAnswer wholeAnswer guardIn transitionIn monitorOf framed framedRows countsOf kindRecord kindRecords apart transitionFields guardRecord transitionRecord transitionRecords transitionAt guardPlace tableParts tableScan tableAnswer clearOfBefore recordedRow recordedRows recordingFrame recordingScan recordingAnswer recordingParts packetsOf endOf capped sent missed moved stepBy recordedAt moveOf number situationOf stepNumber count firstFrom spread image layer total lastInstant cost passing leads live walk leastMoves rowsBy rowsOf preferred verdict refusal validation bind rowsBytes witnessBytes scratchAfter roomAfter
+unfolding dirtyScratch dirtyRoom tab joined padded holds largest leafAt guardAt changed reset fires largestIn greatest cap size among targets reachedIn isReached lowestMissing statesAnswer wholeAnswer guardIn transitionIn monitorOf framed framedRows countsOf impliedDevice deviceAt deviceFits kindRecord kindRecords apart transitionFields guardRecord transitionRecord transitionRecords transitionAt guardPlace tableParts scanWith tableScan answerWith tableAnswer clearOfBefore recordedRow recordedRows recordingFrame recordingScan recordingAnswer recordingParts packetsOf endOf capped sent missed moved stepBy recordedAt moveOf number situationOf stepNumber count firstFrom spread image layer total lastInstant cost passing leads live walk leastMoves rowsBy rowsOf preferred verdict refusal validation bind rowsBytes witnessBytes scratchAfter roomAfter
 run table recording budget =
     record {
       answer = verdictValues (validation table recording budget (length dirtyScratch) (length dirtyRoom));

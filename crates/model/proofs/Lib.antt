@@ -4,6 +4,7 @@ pub mod Places
 pub mod Tests
 pub mod Reaching
 pub mod GuardForm
+pub mod KindForm
 pub mod TableForm
 pub mod Missing
 pub mod NumberLaws

@@ -146,7 +146,7 @@ recording-again table b all e =
     let r : RecordingParts = recordingParts b in
     stands-whole b (recordingBytes r) (omega (arith, recording-length r))
     (stands-headed b (3 + 3 * countAt b) (countAt b) (joined (recordedBytes (r .times) (r .kinds)) (countAt b))
-    (word-at b 0 (3 + 3 * countAt b) all (facts .rows .sized)) (facts .rows .head .version) (word-at b 3 (countAt b) all refl)
+    (word-at b 0 (3 + 3 * countAt b) all (facts .rows .sized)) (facts .rows .version) (word-at b 3 (countAt b) all refl)
     (stands-joined (recordedBytes (r .times) (r .kinds)) b 5 (countAt b) (λ i h. row i h (omega (arith, rows-length r i)))))
   where
     row : (i : ℕ) → i < countAt b → {at : ℕ} → 5 + 3 * i ≡ at → Stands b at (recordedBytes (recordingParts b .times) (recordingParts b .kinds) i)

@@ -10,22 +10,24 @@ use mathlib.Core.Option.{some}
 use lib.ListN.{length, take, drop, length-take, length-drop}
 use lib.Seq.{length-take-le}
 use lib.Dec.{leb, ltb}
-use Rattle.model.specs.Limits.{stateLimit, variableLimit, clockLimit, kindLimit, transitionLimit, airtimeLimit, guardLimit, sizeLimit}
+use Rattle.model.specs.Limits.{tableVersions, stateLimit, variableLimit, clockLimit, kindLimit, transitionLimit, guardLimit, sizeLimit}
 use Rattle.model.specs.Bytes.{byteAt, tab, joined}
 use Rattle.model.specs.First.{unless, firstOf}
 use Rattle.model.specs.Frame.{framed}
 use Rattle.model.specs.Guard.{upTo, guardAt, endsAt, guardOf}
+use Rattle.model.specs.Kinds.{versionAt, kindAt, kindRecord}
 use Rattle.model.specs.Monitor.{Transition}
 use Rattle.model.specs.Size.{size}
 use Rattle.model.specs.Reach.{statesAnswer}
-use Rattle.model.specs.Table.{guardIn, transitionIn, monitorOf, statesAt, variablesAt, clocksAt, kindsAt, transitionsAt, tableCounts, countsOf, kindRecord, kindRecords, apart, guardLengthAt, transitionFields, guardRecord, transitionRecord, transitionRecords, kindAt, transitionAt, guardPlace, tableParts, tableScan, wholeAnswer, tableAnswer, SoundTable, monitorAt}
+use Rattle.model.specs.Table.{guardIn, transitionIn, monitorOf, statesAt, variablesAt, clocksAt, kindsAt, transitionsAt, tableCounts, countsOf, kindRecords, apart, guardLengthAt, transitionFields, guardRecord, transitionRecord, transitionRecords, transitionAt, guardPlace, deviceColumn, tableParts, scanWith, tableScan, wholeAnswer, answerWith, tableAnswer, SoundTable, monitorAt}
 use Rattle.model.specs.declared.Reading.{Reading}
 use Rattle.model.specs.declared.Reading.the-variants.{Sound}
 use Rattle.model.specs.declared.Refusal.{Refusal}
 use Rattle.model.specs.declared.Refusal.the-variants.{TableFrame, TableVersion, TableCount, TableLength, TableField, TableGuard, TableSize}
 use Rattle.model.proofs.Basics.{unless-sound, length-tab, getElem-tab, getElem-within}
 use Rattle.model.specs.Sane.{Sane, SaneTransition}
-use Rattle.model.proofs.Tests.{test, le-test, lt-test, eq-test, tests, Framed, framed-facts}
+use Rattle.model.proofs.Tests.{test, le-test, lt-test, eq-test, tests, Framed, framed-facts, passed-each}
+use Rattle.model.proofs.KindForm.{SoundKind, sound-kind}
 use Rattle.model.proofs.Places.{stands-part, length-padded, getD-padded, getD-column, length-joined, getD-joined}
 use Rattle.model.proofs.GuardForm.{closed-names, guard-names, guard-moved, moved-guard, ends-read}
 
@@ -62,25 +64,6 @@ counts b e =
       kinds-some = le-test _ _ (TableCount 6) (test l e 4);
       kinds = le-test _ _ (TableCount 6) (test l e 5);
       transitions = le-test _ _ (TableCount 7) (test l e 6);
-    }
-
--- the kind record at an offset
-pub record SoundKind (b : List ℕ) (at : ℕ) : Type 0 where
-  pub fits : at + 2 ≤ length b
-  pub direction : byteAt b at ≤ 1
-  pub airtime : byteAt b (at + 1) ≤ airtimeLimit
-
-abbrev pub kindTests : List ℕ → ℕ → List (Bool × Refusal)
-kindTests b at = (leb (at + 2) (length b), TableLength at) ∷ (leb (byteAt b at) 1, TableField at) ∷ (leb (byteAt b (at + 1)) airtimeLimit, TableField at) ∷ []
-
-soundKind : (b : List ℕ) (at : ℕ) → kindRecord b at ≡ Sound → SoundKind b at
-unfolding kindRecord
-soundKind b at e =
-    let l : List Reading = tests (kindTests b at) in
-    record {
-      fits = le-test _ _ (TableLength at) (test l e 0);
-      direction = le-test _ _ (TableField at) (test l e 1);
-      airtime = le-test _ _ (TableField at) (test l e 2);
     }
 
 -- the transition record at an offset
@@ -145,19 +128,7 @@ sound-transition b at e =
       guard = unless-sound parsed (TableGuard at) (test guards g 3);
     }
 
--- every record from number i on
-
-kinds-sound : (n : ℕ) (b : List ℕ) (i k : ℕ) → kindRecords n b (kindAt i) ≡ Sound → i ≤ k → k < i + n → SoundKind b (kindAt k)
-unfolding kindRecords
-kinds-sound zero b i k e p q = absurd (omega arith)
-kinds-sound (suc n) b i k e p q =
-    let l : List Reading = kindRecord b (kindAt i) ∷ kindRecords n b (kindAt i + 2) ∷ [] in
-    let rest : kindRecords n b (kindAt (suc i)) ≡ Sound = ap (λ (x : ℕ). kindRecords n b x) (omega arith) ∙ test l e 1 in
-    split (ℕ-discrete i k) (test l e 0) (λ r. kinds-sound n b (suc i) k rest r (omega arith))
-  where
-    split : Dec (i ≡ k) → kindRecord b (kindAt i) ≡ Sound → (suc i ≤ k → SoundKind b (kindAt k)) → SoundKind b (kindAt k)
-    split (yes s) here again = soundKind b (kindAt k) (rw s at here)
-    split (no s) here again = again (omega arith)
+-- every transition record from number i on
 
 transitions-sound :
     (n : ℕ) (b : List ℕ) (i j : ℕ) → transitionRecords n b (transitionAt b i) ≡ Sound → i ≤ j → j < i + n → SoundTransition b (transitionAt b j)
@@ -179,39 +150,49 @@ transitions-end (suc n) b i e =
     let next : i + suc n ≡ suc i + n = omega arith in
     ap (λ (x : ℕ). transitionAt b x) next ∙ transitions-end n b (suc i) (test l e 1)
 
--- all that a sound table ensures of its bytes
-pub record TableFacts (b : List ℕ) : Type 0 where
-  pub head : Framed b 8
+-- all that a sound scan ensures of a table's bytes, its kinds having these devices
+pub record TableFacts (devices b : List ℕ) : Type 0 where
+  pub head : Framed b 8 tableVersions
   pub counts : SoundCounts b
-  pub kind : (i : ℕ) → i < kindsAt b → SoundKind b (kindAt i)
+  pub kind : (i : ℕ) → i < kindsAt b → SoundKind b (kindAt (versionAt b) i) (byteAt devices i)
   pub transition : (j : ℕ) → j < transitionsAt b → SoundTransition b (transitionAt b j)
   pub end : transitionAt b (transitionsAt b) ≡ length b
-  pub small : size (monitorAt b) ≤ sizeLimit
 
-abbrev pub scanTests : List ℕ → List Reading
-scanTests b =
-    framed b 8 TableFrame TableVersion
+abbrev pub scanTests : (devices b : List ℕ) → List Reading
+scanTests devices b =
+    framed b 8 tableVersions TableFrame TableVersion
     ∷ tableCounts b
-    ∷ kindRecords (kindsAt b) b (kindAt 0)
-    ∷ transitionRecords (transitionsAt b) b (kindAt (kindsAt b))
+    ∷ kindRecords devices b
+    ∷ transitionRecords (transitionsAt b) b (transitionAt b 0)
     ∷ []
 
-pub table-facts : (b : List ℕ) → SoundTable b → TableFacts b
-unfolding tableAnswer wholeAnswer tableScan transitionAt
-table-facts b e =
-    let m = monitorOf (tableParts b) in
-    let all : List Reading = tableScan b ∷ wholeAnswer m ∷ [] in
-    let whole : List Reading = unless (leb (size m) sizeLimit) TableSize ∷ statesAnswer m ∷ [] in
-    let l : List Reading = scanTests b in
-    let s : firstOf l ≡ Sound = test all e 0 in
+pub scan-facts : (devices b : List ℕ) → scanWith devices b ≡ Sound → TableFacts devices b
+unfolding scanWith kindRecords
+scan-facts devices b s =
+    let l : List Reading = scanTests devices b in
+    let kind : ℕ → Reading = λ i. kindRecord b (kindAt (versionAt b) i) (byteAt devices i) in
     record {
-      head = framed-facts b 8 TableFrame TableVersion (test l s 0);
+      head = framed-facts b 8 tableVersions TableFrame TableVersion (test l s 0);
       counts = counts b (test l s 1);
-      kind = λ i h. kinds-sound (kindsAt b) b 0 i (test l s 2) (omega arith) (omega arith);
+      kind = λ i h. sound-kind b (kindAt (versionAt b) i) (byteAt devices i) (passed-each kind (kindsAt b) (test l s 2) i h);
       transition = λ j h. transitions-sound (transitionsAt b) b 0 j (test l s 3) (omega arith) (omega arith);
       end = ap (λ (x : ℕ). transitionAt b x) (sym (zero-add (transitionsAt b))) ∙ transitions-end (transitionsAt b) b 0 (test l s 3);
-      small = le-test _ _ TableSize (test whole (test all e 1) 0);
     }
+
+pub scan-sound : (devices b : List ℕ) → answerWith devices b ≡ Sound → scanWith devices b ≡ Sound
+unfolding answerWith
+scan-sound devices b e = let l : List Reading = scanWith devices b ∷ wholeAnswer (monitorAt b) ∷ [] in test l e 0
+
+pub table-facts : (b : List ℕ) → SoundTable b → TableFacts (deviceColumn b) b
+unfolding tableAnswer
+table-facts b e = scan-facts (deviceColumn b) b (scan-sound (deviceColumn b) b e)
+
+pub table-small : (b : List ℕ) → SoundTable b → size (monitorAt b) ≤ sizeLimit
+unfolding tableAnswer answerWith tableScan wholeAnswer
+table-small b e =
+    let all : List Reading = tableScan b ∷ wholeAnswer (monitorAt b) ∷ [] in
+    let whole : List Reading = unless (leb (size (monitorAt b)) sizeLimit) TableSize ∷ statesAnswer (monitorAt b) ∷ [] in
+    le-test _ _ TableSize (test whole (test all e 1) 0)
 
 -- the parts, where the counts reach
 
@@ -221,8 +202,8 @@ guardPlace-length b j h =
     let n : ℕ = guardLengthAt b (transitionAt b j) in
     length-padded guardLimit (take n (drop (transitionAt b j + 7) b)) (omega (arith, length-take n (drop (transitionAt b j + 7) b)))
 
-module _ (b : List ℕ) (facts : TableFacts b) where
-  places : (j : ℕ) → j < transitionsAt b → length (guardPlace b j) ≡ guardLimit
+module _ {devices : List ℕ} (b : List ℕ) (facts : TableFacts devices b) where
+  pub places : (j : ℕ) → j < transitionsAt b → length (guardPlace b j) ≡ guardLimit
   places j h = guardPlace-length b j (facts .transition j h .few)
 
   pub places-length : length (joined (guardPlace b) (transitionsAt b)) ≡ guardLimit * transitionsAt b
@@ -287,7 +268,7 @@ module _ (b : List ℕ) (facts : TableFacts b) where
 pub sane-table : (b : List ℕ) → SoundTable b → Sane (monitorAt b)
 unfolding monitorOf tableParts
 sane-table b s =
-    let facts : TableFacts b = table-facts b s in
+    let facts : TableFacts (deviceColumn b) b = table-facts b s in
     let counts : SoundCounts b = facts .counts in
     let n : length (tab (transitionIn (tableParts b)) (transitionsAt b)) ≡ transitionsAt b = length-tab (transitionIn (tableParts b)) (transitionsAt b) in
     record {

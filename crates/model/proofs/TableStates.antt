@@ -11,7 +11,7 @@ use Rattle.model.specs.First.{unless, firstOf}
 use Rattle.model.specs.Monitor.{Monitor}
 use Rattle.model.specs.Reach.{Reached, LowestUnreached, StatesJudged, isReached, lowestMissing, statesAnswer}
 use Rattle.model.specs.Size.{size}
-use Rattle.model.specs.Table.{tableParts, tableScan, wholeAnswer, tableAnswer, monitorOf, monitorAt}
+use Rattle.model.specs.Table.{tableParts, scanWith, tableScan, wholeAnswer, answerWith, tableAnswer, monitorOf, monitorAt}
 use Rattle.model.specs.Numbers.{readingValues}
 use Rattle.model.specs.Answers.{SoundButStates, RefusesUnreached}
 use Rattle.model.specs.declared.Reading.{Reading}
@@ -63,14 +63,14 @@ module _ (b : List ℕ) where
   -- what is asked of the states is asked last
 
   sound-last : (tableAnswer b ≡ Sound) ↔ (SoundButStates b × (states ≡ Sound))
-  unfolding tableAnswer wholeAnswer
+  unfolding tableAnswer answerWith tableScan wholeAnswer
   sound-last = (there, λ w. rw (w .0 .0, le-leb (size (monitorAt b)) sizeLimit (w .0 .1), w .1))
     where
       there : firstOf all ≡ Sound → SoundButStates b × (states ≡ Sound)
       there e = let w : firstOf whole ≡ Sound = test all e 1 in ((test all e 0, le-test _ _ TableSize (test whole w 0)), test whole w 1)
 
   refused-last : (s : ℕ) → (tableAnswer b ≡ Unsound (TableState s)) ↔ (SoundButStates b × (states ≡ Unsound (TableState s)))
-  unfolding tableAnswer wholeAnswer
+  unfolding tableAnswer answerWith tableScan wholeAnswer
   refused-last s = (there, λ w. rw (w .0 .0, le-leb (size (monitorAt b)) sizeLimit (w .0 .1), w .1))
     where
       there : firstOf all ≡ Unsound (TableState s) → SoundButStates b × (states ≡ Unsound (TableState s))

@@ -1,8 +1,9 @@
 -- The table's round trips: sound bytes to parts and back, and parts to bytes and back.
 use Prim.Native.Nat.{ℕ, zero, suc, _+_, _*_, _<_, _≤_}
+use native.Mathlib.Nat.{add-zero}
 use native.Mathlib.Omega.{arith}
 use mathlib.Core.Path.{_≡_, refl, sym, ap, ap₂, _∙_}
-use mathlib.Core.List.{List, _++_}
+use mathlib.Core.List.{List, [], _∷_, _++_}
 use lib.ListN.{length, take, drop, length-append, length-take, length-drop}
 use lib.Seq.{length-take-le, getD-take, getD-drop}
 use Rattle.model.specs.Limits.{kindLimit, transitionLimit, guardLimit}
@@ -10,11 +11,14 @@ use Rattle.model.specs.Bytes.{byteAt, tab, wordAt, wordBytes, joined}
 use lib.Dec.{eqb}
 use Rattle.model.specs.Guard.{guardAt, guardOf}
 use Rattle.model.proofs.GuardForm.{guard-moved, moved-guard}
-use Rattle.model.specs.Table.{guardIn, transitionIn, monitorOf, monitorAt, kindsAt, transitionsAt, guardLengthAt, kindAt, transitionAt, guardPlace, tableParts, SoundTable, kindColumn, transitionColumn, kindBytes, fieldBytes, guardBytesIn, transitionBytes, countBytes, tableBody, tableBytes}
+use Rattle.model.specs.Table.{guardIn, transitionIn, monitorOf, monitorAt, kindsAt, transitionsAt, guardLengthAt, transitionAt, guardPlace, tableParts, SoundTable, kindRecords, scanWith, answerWith, tableAnswer, tableWritable, kindColumn, deviceColumn, transitionColumn, fieldBytes, guardBytesIn, transitionBytes, countBytes, tableBody, tableBytes}
+use Rattle.model.specs.Kinds.{versionAt, kindWidth, kindAt, deviceAt, kindRecord, kindBytes}
 use Rattle.model.specs.Same.{Zero, SameTable, TableZero}
+use Rattle.model.specs.declared.Reading.the-variants.{Sound}
 use Rattle.model.specs.declared.TableParts.{TableParts}
 use Rattle.model.proofs.Places.{AllBytes, Stands, stands-append, stands-left, stands-right, stands-moved, stands-self, stands-whole, word-at, length-padded, getD-padded-past, getD-column, getD-column-past, length-joined, stands-joined, joined-stands, tab-same}
-use Rattle.model.proofs.TableForm.{SoundTransition, TableFacts, table-facts, places-length, guard-place, guard-byte}
+use Rattle.model.proofs.KindForm.{wide-enough, no-wider, kind-length, kinds-length, kind-byte, device-byte, device-back}
+use Rattle.model.proofs.TableForm.{SoundTransition, TableFacts, scan-facts, scan-sound, table-facts, places-length, guard-place, guard-byte}
 
 -- the guard of transition j as it is written
 abbrev guardOut : TableParts → ℕ → List ℕ
@@ -35,11 +39,8 @@ guardOut-byte t j i few h =
     ∙ getD-take guardLimit (drop (guardLimit * j) (t .guards)) i 0 (omega arith)
     ∙ getD-drop (guardLimit * j) (t .guards) i 0
 
-kinds-length : (t : TableParts) (n : ℕ) → length (joined (kindBytes t) n) ≡ 2 * n
-kinds-length t n = length-joined (kindBytes t) 2 n (λ i h. refl)
-
 -- the parts of a sound table, written again
-module _ (b : List ℕ) (facts : TableFacts b) where
+module _ {devices : List ℕ} (b : List ℕ) (facts : TableFacts devices b) where
   guards-full : length (tableParts b .guards) ≡ guardLimit * transitionLimit
   unfolding tableParts
   guards-full =
@@ -53,22 +54,29 @@ module _ (b : List ℕ) (facts : TableFacts b) where
   length-few : (j : ℕ) → j < transitionsAt b → byteAt (tableParts b .lengths) j ≤ guardLimit
   length-few j h = rw (length-of j h) (facts .transition j h .few)
 
-  offset : (j : ℕ) → j ≤ transitionsAt b → kindAt (kindsAt b) + length (joined (transitionBytes (tableParts b)) j) ≡ transitionAt b j
+  offset : (j : ℕ) → j ≤ transitionsAt b → transitionAt b 0 + length (joined (transitionBytes (tableParts b)) j) ≡ transitionAt b j
   unfolding joined transitionAt
   offset zero h = omega arith
   offset (suc j) h =
       let few : transitionsAt b ≤ transitionLimit = facts .counts .transitions in
-      let again : kindAt (kindsAt b) + length (joined (transitionBytes (tableParts b)) j) ≡ transitionAt b j = offset j (omega arith) in
+      let again : transitionAt b 0 + length (joined (transitionBytes (tableParts b)) j) ≡ transitionAt b j = offset j (omega arith) in
       let n : length (transitionBytes (tableParts b) j) ≡ 7 + byteAt (tableParts b .lengths) j =
       transitionBytes-length (tableParts b) guards-full j (omega arith) (length-few j h)
       in
       omega (arith, length-append (joined (transitionBytes (tableParts b)) j) (transitionBytes (tableParts b) j), length-of j h)
 
-  kind-stands : (i : ℕ) → i < kindsAt b → Stands b (kindAt i) (kindBytes (tableParts b) i)
+  kind-stands : (i : ℕ) → i < kindsAt b → Stands b (kindAt (versionAt b) i) (kindBytes (tableParts b) i)
   unfolding tableParts
-  kind-stands i h zero p = sym (getD-column kindLimit (λ i. byteAt b (kindAt i + 0)) (kindsAt b) i h)
-  kind-stands i h (suc zero) p = sym (getD-column kindLimit (λ i. byteAt b (kindAt i + 1)) (kindsAt b) i h)
-  kind-stands i h (suc (suc k)) p = absurd (omega arith)
+  kind-stands i h k p = let q : k < kindWidth (versionAt b) = rw (kind-length (tableParts b) i) at p in go k q ∙ sym (kind-byte (tableParts b) i k q)
+    where
+      field : (k : ℕ) → byteAt b (kindAt (versionAt b) i + k) ≡ byteAt (kindColumn b k) i
+      field k = sym (getD-column kindLimit (λ i. byteAt b (kindAt (versionAt b) i + k)) (kindsAt b) i h)
+
+      go : (k : ℕ) → k < kindWidth (versionAt b) → byteAt b (kindAt (versionAt b) i + k) ≡ byteAt (byteAt (kindColumn b 0) i ∷ byteAt (kindColumn b 1) i ∷ byteAt (deviceColumn b) i ∷ []) k
+      go zero q = field 0
+      go (suc zero) q = field 1
+      go (suc (suc zero)) q = sym (getD-column kindLimit (λ i. deviceAt b (kindAt (versionAt b) i)) (kindsAt b) i h ∙ device-byte b (kindAt (versionAt b) i) q)
+      go (suc (suc (suc k))) q = absurd (omega (arith, no-wider (versionAt b)))
 
   column : (j : ℕ) → j < transitionsAt b → (k : ℕ) → byteAt b (transitionAt b j + k) ≡ byteAt (transitionColumn b k) j
   column j h k = sym (getD-column transitionLimit (λ i. byteAt b (transitionAt b i + k)) (transitionsAt b) j h)
@@ -95,16 +103,16 @@ module _ (b : List ℕ) (facts : TableFacts b) where
   transition-stands j h = stands-append b (transitionAt b j) (fieldBytes (tableParts b) j) (guardOut (tableParts b) j) (fields-stand j h) (guard-stands j h)
 
   body-length : 2 + length (tableBody (tableParts b)) ≡ length b
-  unfolding tableBody tableParts
+  unfolding tableBody tableParts transitionAt
   body-length =
       let t : TableParts = tableParts b in
-      let e : kindAt (kindsAt b) + length (joined (transitionBytes t) (transitionsAt b)) ≡ transitionAt b (transitionsAt b) = offset (transitionsAt b) (omega arith) in
+      let e : transitionAt b 0 + length (joined (transitionBytes t) (transitionsAt b)) ≡ transitionAt b (transitionsAt b) = offset (transitionsAt b) (omega arith) in
       let f : transitionAt b (transitionsAt b) ≡ length b = facts .end in
       omega (arith, length-append (joined (kindBytes t) (kindsAt b)) (joined (transitionBytes t) (transitionsAt b)), kinds-length t (kindsAt b))
 
   counts-stand : Stands b 2 (countBytes (tableParts b))
   unfolding tableParts
-  counts-stand zero p = facts .head .version
+  counts-stand zero p = refl
   counts-stand (suc zero) p = refl
   counts-stand (suc (suc zero)) p = refl
   counts-stand (suc (suc (suc zero))) p = refl
@@ -113,25 +121,25 @@ module _ (b : List ℕ) (facts : TableFacts b) where
   counts-stand (suc (suc (suc (suc (suc (suc i)))))) p = absurd (omega arith)
 
   body-stands : Stands b 2 (tableBody (tableParts b))
-  unfolding tableBody tableParts
+  unfolding tableBody tableParts transitionAt
   body-stands =
       let t : TableParts = tableParts b in
       let counts : List ℕ = countBytes t in
       let kinds : List ℕ = joined (kindBytes t) (kindsAt b) in
       let transitions : List ℕ = joined (transitionBytes t) (transitionsAt b) in
-      let end : kindAt (kindsAt b) ≡ 2 + length (counts ++ kinds) = omega (arith, kinds-length t (kindsAt b)) in
+      let end : transitionAt b 0 ≡ 2 + length (counts ++ kinds) = omega (arith, kinds-length t (kindsAt b)) in
       stands-append b 2 (counts ++ kinds) transitions
       (stands-append b 2 counts kinds counts-stand
       (stands-joined (kindBytes t) b 8 (kindsAt b)
-      (λ i h. stands-moved b (kindAt i) (8 + length (joined (kindBytes t) i)) (kindBytes t i) (omega (arith, kinds-length t i)) (kind-stands i h))))
-      (stands-moved b (kindAt (kindsAt b)) (2 + length (counts ++ kinds)) transitions end
-      (stands-joined (transitionBytes t) b (kindAt (kindsAt b)) (transitionsAt b)
-      (λ j h. stands-moved b (transitionAt b j) (kindAt (kindsAt b) + length (joined (transitionBytes t) j)) (transitionBytes t j) (sym (offset j (omega arith))) (transition-stands j h))))
+      (λ i h. stands-moved b (kindAt (versionAt b) i) (8 + length (joined (kindBytes t) i)) (kindBytes t i) (omega (arith, kinds-length t i)) (kind-stands i h))))
+      (stands-moved b (transitionAt b 0) (2 + length (counts ++ kinds)) transitions end
+      (stands-joined (transitionBytes t) b (transitionAt b 0) (transitionsAt b)
+      (λ j h. stands-moved b (transitionAt b j) (transitionAt b 0 + length (joined (transitionBytes t) j)) (transitionBytes t j) (sym (offset j (omega arith))) (transition-stands j h))))
 
 pub table-again : (b : List ℕ) → AllBytes b → SoundTable b → tableBytes (tableParts b) ≡ b
 unfolding tableBytes
 table-again b all s =
-    let facts : TableFacts b = table-facts b s in
+    let facts : TableFacts (deviceColumn b) b = table-facts b s in
     let n : 2 + length (tableBody (tableParts b)) ≡ length b = body-length b facts in
     let f : wordAt b 0 + 2 ≡ length b = facts .head .framed in
     stands-whole b (tableBytes (tableParts b)) (omega arith)
@@ -140,12 +148,12 @@ table-again b all s =
 
 module _ (b : List ℕ) where
   no-kind : (k : ℕ) → Zero (kindsAt b) (kindColumn b k)
-  no-kind k = getD-column-past kindLimit (λ i. byteAt b (kindAt i + k)) (kindsAt b)
+  no-kind k = getD-column-past kindLimit (λ i. byteAt b (kindAt (versionAt b) i + k)) (kindsAt b)
 
   no-transition : (k : ℕ) → Zero (transitionsAt b) (transitionColumn b k)
   no-transition k = getD-column-past transitionLimit (λ j. byteAt b (transitionAt b j + k)) (transitionsAt b)
 
-  no-guard : (facts : TableFacts b) (j : ℕ) → j < transitionsAt b → (i : ℕ) → byteAt (tableParts b .lengths) j ≤ i → i < guardLimit → byteAt (tableParts b .guards) (guardLimit * j + i) ≡ 0
+  no-guard : (facts : TableFacts (deviceColumn b) b) (j : ℕ) → j < transitionsAt b → (i : ℕ) → byteAt (tableParts b .lengths) j ≤ i → i < guardLimit → byteAt (tableParts b .guards) (guardLimit * j + i) ≡ 0
   unfolding guardPlace
   no-guard facts j h i p q =
       let n : ℕ = guardLengthAt b (transitionAt b j) in
@@ -156,10 +164,11 @@ module _ (b : List ℕ) where
   pub zero-beyond : SoundTable b → TableZero (tableParts b)
   unfolding tableParts
   zero-beyond s =
-      let facts : TableFacts b = table-facts b s in
+      let facts : TableFacts (deviceColumn b) b = table-facts b s in
       record {
         directions = no-kind 0;
         airtimes = no-kind 1;
+        devices = getD-column-past kindLimit (λ i. deviceAt b (kindAt (versionAt b) i)) (kindsAt b);
         sources = no-transition 0;
         targets = no-transition 1;
         triggers = no-transition 2;
@@ -183,33 +192,36 @@ module _ (t : TableParts) where
       stands-left (tableBytes t) 2 (countBytes t) (joined (kindBytes t) (t .kinds))
       (stands-left (tableBytes t) 2 (countBytes t ++ joined (kindBytes t) (t .kinds)) (joined (transitionBytes t) (t .transitions)) written-body)
 
-  written-kind : (i : ℕ) → i < t .kinds → Stands (tableBytes t) (kindAt i) (kindBytes t i)
+  written-kind : (i : ℕ) → i < t .kinds → Stands (tableBytes t) (kindAt (t .version) i) (kindBytes t i)
   written-kind i h =
-      stands-moved (tableBytes t) (8 + length (joined (kindBytes t) i)) (kindAt i) (kindBytes t i) (omega (arith, kinds-length t i))
+      stands-moved (tableBytes t) (8 + length (joined (kindBytes t) i)) (kindAt (t .version) i) (kindBytes t i) (omega (arith, kinds-length t i))
       (joined-stands (kindBytes t) (tableBytes t) 8 (t .kinds) i h
       (stands-right (tableBytes t) 2 (countBytes t) (joined (kindBytes t) (t .kinds))
       (stands-left (tableBytes t) 2 (countBytes t ++ joined (kindBytes t) (t .kinds)) (joined (transitionBytes t) (t .transitions)) written-body)))
 
-  written-transition : (j : ℕ) → j < t .transitions → Stands (tableBytes t) (kindAt (t .kinds) + length (joined (transitionBytes t) j)) (transitionBytes t j)
+  written-transition : (j : ℕ) → j < t .transitions → Stands (tableBytes t) (kindAt (t .version) (t .kinds) + length (joined (transitionBytes t) j)) (transitionBytes t j)
   written-transition j h =
       let kinds : List ℕ = joined (kindBytes t) (t .kinds) in
       let transitions : List ℕ = joined (transitionBytes t) (t .transitions) in
-      joined-stands (transitionBytes t) (tableBytes t) (kindAt (t .kinds)) (t .transitions) j h
-      (stands-moved (tableBytes t) (2 + length (countBytes t ++ kinds)) (kindAt (t .kinds)) transitions (omega (arith, kinds-length t (t .kinds)))
+      joined-stands (transitionBytes t) (tableBytes t) (kindAt (t .version) (t .kinds)) (t .transitions) j h
+      (stands-moved (tableBytes t) (2 + length (countBytes t ++ kinds)) (kindAt (t .version) (t .kinds)) transitions (omega (arith, kinds-length t (t .kinds)))
       (stands-right (tableBytes t) 2 (countBytes t ++ kinds) transitions written-body))
 
-module _ (t : TableParts) (full : length (t .guards) ≡ guardLimit * transitionLimit) (facts : TableFacts (tableBytes t)) where
+module _ (t : TableParts) (full : length (t .guards) ≡ guardLimit * transitionLimit) (facts : TableFacts (t .devices) (tableBytes t)) where
   few-transitions : t .transitions ≤ transitionLimit
   few-transitions = let h : transitionsAt (tableBytes t) ≤ transitionLimit = facts .counts .transitions in rw (written-counts t 5 (omega arith)) at h
 
   transition-facts : (j : ℕ) → j < t .transitions → SoundTransition (tableBytes t) (transitionAt (tableBytes t) j)
   transition-facts j h = facts .transition j (rw (written-counts t 5 (omega arith)) h)
 
-  placed : (j : ℕ) → j ≤ t .transitions → kindAt (t .kinds) + length (joined (transitionBytes t) j) ≡ transitionAt (tableBytes t) j
+  placed : (j : ℕ) → j ≤ t .transitions → kindAt (t .version) (t .kinds) + length (joined (transitionBytes t) j) ≡ transitionAt (tableBytes t) j
   unfolding transitionAt joined
-  placed zero h = let e : kindsAt (tableBytes t) ≡ t .kinds = written-counts t 4 (omega arith) in omega arith
+  placed zero h =
+      let v : versionAt (tableBytes t) ≡ t .version = written-counts t 0 (omega arith) in
+      let e : kindsAt (tableBytes t) ≡ t .kinds = written-counts t 4 (omega arith) in
+      rw (v, e) (add-zero (kindAt (t .version) (t .kinds)))
   placed (suc j) h =
-      let again : kindAt (t .kinds) + length (joined (transitionBytes t) j) ≡ transitionAt (tableBytes t) j = placed j (omega arith) in
+      let again : kindAt (t .version) (t .kinds) + length (joined (transitionBytes t) j) ≡ transitionAt (tableBytes t) j = placed j (omega arith) in
       let e : guardLengthAt (tableBytes t) (transitionAt (tableBytes t) j) ≡ byteAt (t .lengths) j =
       stands-moved (tableBytes t) _ (transitionAt (tableBytes t) j) (transitionBytes t j) again (written-transition t j h) 6 (omega arith)
       in
@@ -219,16 +231,30 @@ module _ (t : TableParts) (full : length (t .guards) ≡ guardLimit * transition
 
   back : (j : ℕ) → j < t .transitions → Stands (tableBytes t) (transitionAt (tableBytes t) j) (transitionBytes t j)
   back j h =
-      stands-moved (tableBytes t) (kindAt (t .kinds) + length (joined (transitionBytes t) j)) (transitionAt (tableBytes t) j) (transitionBytes t j) (placed j (omega arith)) (written-transition t j h)
+      stands-moved (tableBytes t) (kindAt (t .version) (t .kinds) + length (joined (transitionBytes t) j)) (transitionAt (tableBytes t) j) (transitionBytes t j) (placed j (omega arith)) (written-transition t j h)
 
   back-few : (j : ℕ) → j < t .transitions → byteAt (t .lengths) j ≤ guardLimit
   back-few j h = let e : guardLengthAt (tableBytes t) (transitionAt (tableBytes t) j) ≡ byteAt (t .lengths) j = back j h 6 (omega arith) in rw (sym e) (transition-facts j h .few)
 
   -- a column of the parts read, at a place that the count reaches
-  back-kind : (i : ℕ) → i < t .kinds → (k : ℕ) → k < 2 → byteAt (kindColumn (tableBytes t) k) i ≡ byteAt (kindBytes t i) k
+
+  read-kind : (i : ℕ) → i < t .kinds → (k : ℕ) → k < kindWidth (t .version) → byteAt (tableBytes t) (kindAt (versionAt (tableBytes t)) i + k) ≡ byteAt (kindBytes t i) k
+  read-kind i h k p = let v : versionAt (tableBytes t) ≡ t .version = written-counts t 0 (omega arith) in rw v (written-kind t i h k (rw (kind-length t i) p))
+
+  back-kind : (i : ℕ) → i < t .kinds → (k : ℕ) → k < 2 → byteAt (kindColumn (tableBytes t) k) i ≡ byteAt (byteAt (t .directions) i ∷ byteAt (t .airtimes) i ∷ byteAt (t .devices) i ∷ []) k
   back-kind i h k p =
       let b : List ℕ = tableBytes t in
-      getD-column kindLimit (λ i. byteAt b (kindAt i + k)) (kindsAt b) i (rw (written-counts t 4 (omega arith)) h) ∙ written-kind t i h k p
+      let q : k < kindWidth (t .version) = omega (arith, wide-enough (t .version)) in
+      getD-column kindLimit (λ i. byteAt b (kindAt (versionAt b) i + k)) (kindsAt b) i (rw (written-counts t 4 (omega arith)) h) ∙ read-kind i h k q ∙ kind-byte t i k q
+
+  back-device : (i : ℕ) → i < t .kinds → byteAt (deviceColumn (tableBytes t)) i ≡ byteAt (t .devices) i
+  back-device i h =
+      let b : List ℕ = tableBytes t in
+      let within : i < kindsAt b = rw (written-counts t 4 (omega arith)) h in
+      let v : versionAt b ≡ t .version = written-counts t 0 (omega arith) in
+      getD-column kindLimit (λ i. deviceAt b (kindAt (versionAt b) i)) (kindsAt b) i within
+      ∙ device-back b (kindAt (versionAt b) i) (byteAt (t .devices) i) (facts .kind i within .sender)
+      (λ wide. let q : 2 < kindWidth (t .version) = rw v at wide in read-kind i h 2 q ∙ kind-byte t i 2 q)
 
   back-field : (j : ℕ) → j < t .transitions → (k : ℕ) → k < 7 → byteAt (transitionColumn (tableBytes t) k) j ≡ byteAt (transitionBytes t j) k
   back-field j h k p =
@@ -245,11 +271,28 @@ module _ (t : TableParts) (full : length (t .guards) ≡ guardLimit * transition
       ∙ stands-right b (transitionAt b j) (fieldBytes t j) (guardOut t j) (back j h) i (omega arith)
       ∙ guardOut-byte t j i (back-few j h) p
 
-pub table-back : (t : TableParts) → length (t .guards) ≡ guardLimit * transitionLimit → SoundTable (tableBytes t) → SameTable (tableParts (tableBytes t)) t
+-- bytes are judged by the devices that their kinds have
+
+devices-same : (d e b : List ℕ) → ((i : ℕ) → i < kindsAt b → byteAt d i ≡ byteAt e i) → answerWith d b ≡ answerWith e b
+unfolding answerWith scanWith kindRecords
+devices-same d e b same =
+    let at : ℕ → ℕ = λ i. kindAt (versionAt b) i in
+    let kinds = tab-same (λ i. kindRecord b (at i) (byteAt d i)) (λ i. kindRecord b (at i) (byteAt e i)) (kindsAt b) (λ i h. ap (kindRecord b (at i)) (same i h)) in
+    rw kinds
+
+pub sound-back : (t : TableParts) → length (t .guards) ≡ guardLimit * transitionLimit → tableWritable t ≡ Sound → SoundTable (tableBytes t)
+unfolding tableAnswer
+sound-back t full s =
+    let facts : TableFacts (t .devices) (tableBytes t) = scan-facts (t .devices) (tableBytes t) (scan-sound (t .devices) (tableBytes t) s) in
+    let n : kindsAt (tableBytes t) ≡ t .kinds = written-counts t 4 (omega arith) in
+    devices-same (deviceColumn (tableBytes t)) (t .devices) (tableBytes t) (λ i h. back-device t full facts i (rw n at h)) ∙ s
+
+pub table-back : (t : TableParts) → length (t .guards) ≡ guardLimit * transitionLimit → scanWith (t .devices) (tableBytes t) ≡ Sound → SameTable (tableParts (tableBytes t)) t
 unfolding tableParts
 table-back t full s =
-    let facts : TableFacts (tableBytes t) = table-facts (tableBytes t) s in
+    let facts : TableFacts (t .devices) (tableBytes t) = scan-facts (t .devices) (tableBytes t) s in
     record {
+      version = written-counts t 0 (omega arith);
       states = written-counts t 1 (omega arith);
       variables = written-counts t 2 (omega arith);
       clocks = written-counts t 3 (omega arith);
@@ -257,6 +300,7 @@ table-back t full s =
       transitions = written-counts t 5 (omega arith);
       directions = λ i h. back-kind t full facts i h 0 (omega arith);
       airtimes = λ i h. back-kind t full facts i h 1 (omega arith);
+      devices = back-device t full facts;
       sources = λ j h. back-field t full facts j h 0 (omega arith);
       targets = λ j h. back-field t full facts j h 1 (omega arith);
       triggers = λ j h. back-field t full facts j h 2 (omega arith);
@@ -303,6 +347,10 @@ module _ (t u : TableParts) (same : SameTable t u) (few : (j : ℕ) → j < u .t
       ap (λ (n : ℕ). tab (λ k. byteAt (t .airtimes) k) n) (same .kinds)
       ∙ tab-same (λ k. byteAt (t .airtimes) k) (λ k. byteAt (u .airtimes) k) (u .kinds) (same .airtimes)
       in
+      let devices : tab (λ k. byteAt (t .devices) k) (t .kinds) ≡ tab (λ k. byteAt (u .devices) k) (u .kinds) =
+      ap (λ (n : ℕ). tab (λ k. byteAt (t .devices) k) n) (same .kinds)
+      ∙ tab-same (λ k. byteAt (t .devices) k) (λ k. byteAt (u .devices) k) (u .kinds) (same .devices)
+      in
       let transitions : tab (transitionIn t) (t .transitions) ≡ tab (transitionIn u) (u .transitions) =
       ap (λ (n : ℕ). tab (transitionIn t) n) (same .transitions) ∙ tab-same (transitionIn t) (transitionIn u) (u .transitions) same-transition
       in
@@ -313,8 +361,9 @@ module _ (t u : TableParts) (same : SameTable t u) (few : (j : ℕ) → j < u .t
         clocks = same .clocks i;
         inbound = inbound i;
         airtimes = airtimes i;
+        devices = devices i;
         transitions = transitions i;
       }
 
-pub monitor-back : (t : TableParts) → length (t .guards) ≡ guardLimit * transitionLimit → SoundTable (tableBytes t) → monitorAt (tableBytes t) ≡ monitorOf t
-monitor-back t full s = same-monitor (tableParts (tableBytes t)) t (table-back t full s) (back-few t full (table-facts (tableBytes t) s))
+pub monitor-back : (t : TableParts) → length (t .guards) ≡ guardLimit * transitionLimit → scanWith (t .devices) (tableBytes t) ≡ Sound → monitorAt (tableBytes t) ≡ monitorOf t
+monitor-back t full s = same-monitor (tableParts (tableBytes t)) t (table-back t full s) (back-few t full (scan-facts (t .devices) (tableBytes t) s))

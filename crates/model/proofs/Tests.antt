@@ -4,17 +4,18 @@ use native.Mathlib.Omega.{arith}
 use native.Mathlib.Decide.{decLt}
 use mathlib.Core.Path.{_≡_, refl, sym, _∙_}
 use mathlib.Core.List.{List, [], _∷_, _++_}
-use mathlib.Core.Bool.{Bool}
+use mathlib.Core.Bool.{Bool, true}
 use lib.ListN.{length, getD}
 use lib.Dec.{leb, ltb, eqb}
 use borrow.Author.Tests.{leb-true, ltb-true, eqb-true}
+use Rattle.model.specs.Limits.{rowVersions}
 use Rattle.model.specs.Bytes.{byteAt, wordAt, tab}
 use Rattle.model.specs.First.{unless, andThen, firstOf}
-use Rattle.model.specs.Frame.{framed, framedRows}
+use Rattle.model.specs.Frame.{isVersion, framed, framedRows}
 use Rattle.model.specs.declared.Refusal.{Refusal}
 use Rattle.model.specs.declared.Reading.{Reading}
 use Rattle.model.specs.declared.Reading.the-variants.{Sound, Unsound}
-use Rattle.model.proofs.Basics.{unless-sound, andThen-left, andThen-right, getD-tab}
+use Rattle.model.proofs.Basics.{and-left, and-right, unless-sound, andThen-left, andThen-right, getD-tab}
 
 -- test number i, counted from 0
 pub test : (l : List Reading) → firstOf l ≡ Sound → (i : ℕ) → getD l i Sound ≡ Sound
@@ -38,27 +39,31 @@ tests (x ∷ l) = unless (x .0) (x .1) ∷ tests l
 
 -- what a frame that passes ensures
 
-abbrev pub frameTests : List ℕ → ℕ → (frame version : Refusal) → List (Bool × Refusal)
-frameTests b least f v = (leb least (length b), f) ∷ (eqb (wordAt b 0 + 2) (length b), f) ∷ (eqb (byteAt b 2) 1, v) ∷ []
+abbrev pub frameTests : List ℕ → (least latest : ℕ) → (frame version : Refusal) → List (Bool × Refusal)
+frameTests b least latest f v = (leb least (length b), f) ∷ (eqb (wordAt b 0 + 2) (length b), f) ∷ (isVersion latest (byteAt b 2), v) ∷ []
 
-pub record Framed (b : List ℕ) (least : ℕ) : Type 0 where
+pub record Framed (b : List ℕ) (least latest : ℕ) : Type 0 where
   pub frame : least ≤ length b
   pub framed : wordAt b 0 + 2 ≡ length b
-  pub version : byteAt b 2 ≡ 1
+  pub numbered : 1 ≤ byteAt b 2
+  pub known : byteAt b 2 ≤ latest
 
-pub framed-facts : (b : List ℕ) (least : ℕ) (f v : Refusal) → framed b least f v ≡ Sound → Framed b least
+pub framed-facts : (b : List ℕ) (least latest : ℕ) (f v : Refusal) → framed b least latest f v ≡ Sound → Framed b least latest
 unfolding framed
-framed-facts b least f v e =
-    let l : List Reading = tests (frameTests b least f v) in
+framed-facts b least latest f v e =
+    let l : List Reading = tests (frameTests b least latest f v) in
+    let version : isVersion latest (byteAt b 2) ≡ true = unless-sound (isVersion latest (byteAt b 2)) v (test l e 2) in
     record {
       frame = le-test _ _ f (test l e 0);
       framed = eq-test _ _ f (test l e 1);
-      version = eq-test _ _ v (test l e 2);
+      numbered = leb-true 1 (byteAt b 2) (and-left _ _ version);
+      known = leb-true (byteAt b 2) latest (and-right (leb 1 (byteAt b 2)) (leb (byteAt b 2) latest) version);
     }
 
 -- .. and one with rows of one width
 pub record FramedRows (b : List ℕ) (width limit : ℕ) : Type 0 where
-  pub head : Framed b 5
+  pub head : Framed b 5 rowVersions
+  pub version : byteAt b 2 ≡ rowVersions
   pub count : wordAt b 3 ≤ limit
   pub sized : wordAt b 0 ≡ 3 + width * wordAt b 3
 
@@ -66,13 +71,15 @@ pub rows-facts : (b : List ℕ) (width limit : ℕ) (f v c : Refusal) → framed
 unfolding framedRows
 rows-facts b width limit f v c e =
     let l : List Reading =
-    framed b 5 f v
+    framed b 5 rowVersions f v
     ∷ unless (leb (wordAt b 3) limit) c
     ∷ unless (eqb (wordAt b 0) (3 + width * wordAt b 3)) c
     ∷ []
     in
+    let head : Framed b 5 rowVersions = framed-facts b 5 rowVersions f v (test l e 0) in
     record {
-      head = framed-facts b 5 f v (test l e 0);
+      head = head;
+      version = omega (arith, head .numbered, head .known);
       count = le-test _ _ c (test l e 1);
       sized = eq-test _ _ c (test l e 2);
     }
@@ -82,7 +89,7 @@ sound-unsound r e = let z : _≡_ {A = ℕ} 0 1 = cc in omega arith
 
 -- tests one behind the other, by number
 
-first-last : (l : List Reading) (x : Reading) → firstOf (l ++ (x ∷ [])) ≡ andThen (firstOf l) x
+pub first-last : (l : List Reading) (x : Reading) → firstOf (l ++ (x ∷ [])) ≡ andThen (firstOf l) x
 first-last [] Sound = refl
 first-last [] (Unsound r) = refl
 first-last (Sound ∷ l) x = first-last l x

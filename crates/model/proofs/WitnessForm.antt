@@ -94,7 +94,7 @@ witness-again b all e =
     let rows : List ℕ = joined (λ i. rowBytes (rowAt b i)) n in
     witness-tab (rowAt b) n
     ∙ stands-whole b (rowsFrame 5 n ++ rows) (omega (arith, rows-length (rowAt b) n))
-    (stands-headed b (3 + 5 * n) n rows (word-at b 0 (3 + 5 * n) all (facts .rows .sized)) (facts .rows .head .version) (word-at b 3 n all refl)
+    (stands-headed b (3 + 5 * n) n rows (word-at b 0 (3 + 5 * n) all (facts .rows .sized)) (facts .rows .version) (word-at b 3 n all refl)
     (stands-joined (λ i. rowBytes (rowAt b i)) b 5 n
     (λ i h. stands-moved b (5 + 5 * i) (5 + length (joined (λ i. rowBytes (rowAt b i)) i)) (rowBytes (rowAt b i)) (omega (arith, rows-length (rowAt b) i)) (row-stands b i all))))
 

@@ -8,6 +8,7 @@ pub mod Trace
 pub mod Room
 pub mod Size
 pub mod Reach
+pub mod Kinds
 pub mod Table
 pub mod Recording
 pub mod Witness

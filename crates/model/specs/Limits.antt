@@ -1,5 +1,13 @@
 -- The limits that document 01 sets, each once.
-use Prim.Native.Nat.{ℕ, _+_, _*_}
+use Prim.Native.Nat.{ℕ}
+
+-- a table's version is 1 or 2 (document 02, R-6); a recording and a witness have version 1
+
+abbrev pub tableVersions : ℕ
+tableVersions = 2
+
+abbrev pub rowVersions : ℕ
+rowVersions = 1
 
 -- "number of states (1 to 16), variables (0 to 4), clocks (0 to 2), kinds (1 to 32), transitions (0 to 64)"
 
@@ -22,13 +30,13 @@ transitionLimit = 64
 abbrev pub airtimeLimit : ℕ
 airtimeLimit = 15
 
+-- "the sending device, 0 to 15"
+abbrev pub deviceLimit : ℕ
+deviceLimit = 15
+
 -- "guard length (1 to 32)"; so many places each guard has in a table's parts
 abbrev pub guardLimit : ℕ
 guardLimit = 32
-
--- the bytes of the longest table: length, version and counts, records of kinds, records of transitions with their guards
-abbrev pub tableLimit : ℕ
-tableLimit = 8 + 2 * kindLimit + (7 + guardLimit) * transitionLimit
 
 -- "it must be at most 65,536"
 abbrev pub sizeLimit : ℕ

@@ -18,13 +18,14 @@ pub record Transition : Type 0 where
   pub resets : ℕ
   pub guard : Guard
 
--- a list has an entry for each kind: is it addressed to the unit, and its airtime
+-- a list has an entry for each kind: is it addressed to the unit, its airtime, and the device that sends it
 pub record Monitor : Type 0 where
   pub states : ℕ
   pub variables : ℕ
   pub clocks : ℕ
   pub inbound : List Bool
   pub airtimes : List ℕ
+  pub devices : List ℕ
   pub transitions : List Transition
 
 abbrev pub toUnit : Monitor → ℕ → Bool
@@ -32,6 +33,10 @@ toUnit m k = getD (m .inbound) k false
 
 abbrev pub airtime : Monitor → ℕ → ℕ
 airtime m k = getD (m .airtimes) k 0
+
+-- "the sending device, 0 to 15" (document 02, R-6)
+abbrev pub device : Monitor → ℕ → ℕ
+device m k = getD (m .devices) k 0
 
 -- "It starts in state 0, variables false, clocks 0 at tick 0." The format has two places for clocks; an absent one is never read
 abbrev pub start : Config

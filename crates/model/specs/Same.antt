@@ -19,6 +19,7 @@ Zero n c = (i : ℕ) → n ≤ i → byteAt c i ≡ 0
 
 -- two tables' parts agree where counts and guard lengths reach
 pub record SameTable (t u : TableParts) : Type 0 where
+  pub version : t .version ≡ u .version
   pub states : t .states ≡ u .states
   pub variables : t .variables ≡ u .variables
   pub clocks : t .clocks ≡ u .clocks
@@ -26,6 +27,7 @@ pub record SameTable (t u : TableParts) : Type 0 where
   pub transitions : t .transitions ≡ u .transitions
   pub directions : Agree (u .kinds) (t .directions) (u .directions)
   pub airtimes : Agree (u .kinds) (t .airtimes) (u .airtimes)
+  pub devices : Agree (u .kinds) (t .devices) (u .devices)
   pub sources : Agree (u .transitions) (t .sources) (u .sources)
   pub targets : Agree (u .transitions) (t .targets) (u .targets)
   pub triggers : Agree (u .transitions) (t .triggers) (u .triggers)
@@ -39,6 +41,7 @@ pub record SameTable (t u : TableParts) : Type 0 where
 pub record TableZero (t : TableParts) : Type 0 where
   pub directions : Zero (t .kinds) (t .directions)
   pub airtimes : Zero (t .kinds) (t .airtimes)
+  pub devices : Zero (t .kinds) (t .devices)
   pub sources : Zero (t .transitions) (t .sources)
   pub targets : Zero (t .transitions) (t .targets)
   pub triggers : Zero (t .transitions) (t .triggers)

@@ -5,12 +5,13 @@ use mathlib.Core.Bool.{Bool, true, cond, not, _&&_}
 use lib.ListN.{length, getD, take, drop, replicate}
 use lib.Dec.{leb, ltb, eqb}
 use mathlib.Core.Path.{_≡_}
-use Rattle.model.specs.Limits.{stateLimit, variableLimit, clockLimit, kindLimit, transitionLimit, airtimeLimit, guardLimit, sizeLimit}
+use Rattle.model.specs.Limits.{tableVersions, stateLimit, variableLimit, clockLimit, kindLimit, transitionLimit, guardLimit, sizeLimit}
 use Rattle.model.specs.Bytes.{byteAt, wordBytes, tab, joined, padded}
 use Rattle.model.specs.First.{unless, firstOf, isSound}
 use Rattle.model.specs.Frame.{framed}
 use Rattle.model.specs.Guard.{Guard, guardAt, endsAt, guardOf}
 use Rattle.model.specs.Monitor.{Monitor, Transition}
+use Rattle.model.specs.Kinds.{versionAt, kindAt, deviceAt, kindRecord, kindBytes}
 use Rattle.model.specs.Room.{Lent, write}
 use Rattle.model.specs.Size.{size}
 use Rattle.model.specs.Reach.{statesAnswer}
@@ -45,6 +46,7 @@ monitorOf t =
       clocks = t .clocks;
       inbound = tab (λ k. eqb (getD (t .directions) k 0) 1) (t .kinds);
       airtimes = tab (λ k. getD (t .airtimes) k 0) (t .kinds);
+      devices = tab (λ k. getD (t .devices) k 0) (t .kinds);
       transitions = tab (transitionIn t) (t .transitions);
     }
 
@@ -81,19 +83,9 @@ countsOf states variables clocks kinds transitions =
 abbrev pub tableCounts : List ℕ → Reading
 tableCounts b = countsOf (statesAt b) (variablesAt b) (clocksAt b) (kindsAt b) (transitionsAt b)
 
--- "per kind: direction (0 from the unit, 1 to it) and airtime (0 to 15)"
-unfoldable pub kindRecord : List ℕ → ℕ → Reading
-kindRecord b at =
-    firstOf
-    (unless (leb (at + 2) (length b)) (TableLength at)
-    ∷ unless (leb (byteAt b at) 1) (TableField at)
-    ∷ unless (leb (byteAt b (at + 1)) airtimeLimit) (TableField at)
-    ∷ [])
-
--- the n kind records from an offset on
-unfoldable pub kindRecords : ℕ → List ℕ → ℕ → Reading
-kindRecords zero b at = Sound
-kindRecords (suc n) b at = firstOf (kindRecord b at ∷ kindRecords n b (at + 2) ∷ [])
+-- each kind's record, the kinds having these devices
+unfoldable pub kindRecords : (devices : List ℕ) → List ℕ → Reading
+kindRecords devices b = firstOf (tab (λ i. kindRecord b (kindAt (versionAt b) i) (getD devices i 0)) (kindsAt b))
 
 -- "no variable may be both set and cleared", for the first n variables
 unfoldable pub apart : (n set clear : ℕ) → Bool
@@ -141,18 +133,18 @@ unfoldable pub transitionRecords : ℕ → List ℕ → ℕ → Reading
 transitionRecords zero b at = unless (eqb at (length b)) (TableLength at)
 transitionRecords (suc n) b at = firstOf (transitionRecord b at ∷ transitionRecords n b (at + 7 + guardLengthAt b at) ∷ [])
 
--- the offset of kind record i, and of transition record j
-abbrev pub kindAt : ℕ → ℕ
-kindAt i = 8 + 2 * i
-
+-- the offset of transition record j
 unfoldable pub transitionAt : List ℕ → ℕ → ℕ
-transitionAt b zero = kindAt (kindsAt b)
+transitionAt b zero = kindAt (versionAt b) (kindsAt b)
 transitionAt b (suc j) = transitionAt b j + 7 + guardLengthAt b (transitionAt b j)
 
 -- the parts of sound bytes
 
 abbrev pub kindColumn : List ℕ → ℕ → List ℕ
-kindColumn b field = padded kindLimit (tab (λ i. byteAt b (kindAt i + field)) (kindsAt b))
+kindColumn b field = padded kindLimit (tab (λ i. byteAt b (kindAt (versionAt b) i + field)) (kindsAt b))
+
+abbrev pub deviceColumn : List ℕ → List ℕ
+deviceColumn b = padded kindLimit (tab (λ i. deviceAt b (kindAt (versionAt b) i)) (kindsAt b))
 
 abbrev pub transitionColumn : List ℕ → ℕ → List ℕ
 transitionColumn b field = padded transitionLimit (tab (λ j. byteAt b (transitionAt b j + field)) (transitionsAt b))
@@ -164,6 +156,7 @@ guardPlace b j = padded guardLimit (take (guardLengthAt b (transitionAt b j)) (d
 unfoldable pub tableParts : List ℕ → TableParts
 tableParts b =
     record {
+      version = versionAt b;
       states = statesAt b;
       variables = variablesAt b;
       clocks = clocksAt b;
@@ -171,6 +164,7 @@ tableParts b =
       transitions = transitionsAt b;
       directions = kindColumn b 0;
       airtimes = kindColumn b 1;
+      devices = deviceColumn b;
       sources = transitionColumn b 0;
       targets = transitionColumn b 1;
       triggers = transitionColumn b 2;
@@ -185,6 +179,7 @@ tableParts b =
 unfoldable pub noTable : TableParts
 noTable =
     record {
+      version = 0;
       states = 0;
       variables = 0;
       clocks = 0;
@@ -192,6 +187,7 @@ noTable =
       transitions = 0;
       directions = replicate kindLimit 0;
       airtimes = replicate kindLimit 0;
+      devices = replicate kindLimit 0;
       sources = replicate transitionLimit 0;
       targets = replicate transitionLimit 0;
       triggers = replicate transitionLimit 0;
@@ -202,15 +198,19 @@ noTable =
       guards = replicate (guardLimit * transitionLimit) 0;
     }
 
--- the numbers 10 to 15: length and version, counts, records
-unfoldable pub tableScan : List ℕ → Reading
-tableScan b =
+-- the numbers 10 to 15 of bytes whose kinds have these devices: length and version, counts, records
+unfoldable pub scanWith : (devices : List ℕ) → List ℕ → Reading
+scanWith devices b =
     firstOf
-    (framed b 8 TableFrame TableVersion
+    (framed b 8 tableVersions TableFrame TableVersion
     ∷ tableCounts b
-    ∷ kindRecords (kindsAt b) b (kindAt 0)
-    ∷ transitionRecords (transitionsAt b) b (kindAt (kindsAt b))
+    ∷ kindRecords devices b
+    ∷ transitionRecords (transitionsAt b) b (transitionAt b 0)
     ∷ [])
+
+-- .. of bytes as they are read
+unfoldable pub tableScan : List ℕ → Reading
+tableScan b = scanWith (deviceColumn b) b
 
 -- the numbers 16 and 17, of the whole table: N, states that cannot be reached
 unfoldable pub wholeAnswer : Monitor → Reading
@@ -221,12 +221,15 @@ wholeAnswer m =
     ∷ [])
 
 -- the numbers 10 to 17, in their order
-unfoldable pub tableAnswer : List ℕ → Reading
-tableAnswer b =
+unfoldable pub answerWith : (devices : List ℕ) → List ℕ → Reading
+answerWith devices b =
     firstOf
-    (tableScan b
+    (scanWith devices b
     ∷ wholeAnswer (monitorOf (tableParts b))
     ∷ [])
+
+unfoldable pub tableAnswer : List ℕ → Reading
+tableAnswer b = answerWith (deviceColumn b) b
 
 unfoldable pub readTable : List ℕ → TableReading
 readTable b = record { answer = tableAnswer b; parts = cond (isSound (tableAnswer b)) (tableParts b) noTable }
@@ -240,9 +243,6 @@ abbrev pub monitorAt : List ℕ → Monitor
 monitorAt b = monitorOf (tableParts b)
 
 -- the bytes of parts
-
-abbrev pub kindBytes : TableParts → ℕ → List ℕ
-kindBytes t i = getD (t .directions) i 0 ∷ getD (t .airtimes) i 0 ∷ []
 
 -- the seven bytes before the guard of transition j
 abbrev pub fieldBytes : TableParts → ℕ → List ℕ
@@ -265,7 +265,7 @@ transitionBytes t j = fieldBytes t j ++ guardBytesIn (t .guards) (getD (t .lengt
 
 -- version and counts
 abbrev pub countBytes : TableParts → List ℕ
-countBytes t = 1 ∷ t .states ∷ t .variables ∷ t .clocks ∷ t .kinds ∷ t .transitions ∷ []
+countBytes t = t .version ∷ t .states ∷ t .variables ∷ t .clocks ∷ t .kinds ∷ t .transitions ∷ []
 
 unfoldable pub tableBody : TableParts → List ℕ
 tableBody t = countBytes t ++ joined (kindBytes t) (t .kinds) ++ joined (transitionBytes t) (t .transitions)
@@ -273,6 +273,14 @@ tableBody t = countBytes t ++ joined (kindBytes t) (t .kinds) ++ joined (transit
 unfoldable pub tableBytes : TableParts → List ℕ
 tableBytes t = wordBytes (length (tableBody t)) ++ tableBody t
 
--- writing: "the numbers that reading the same bytes would give". A count outside its limits is 12 there, and a guard length outside its limits 15 in its place
+-- the bytes of the longest table: length, version and counts, records of kinds, records of transitions with their guards
+abbrev pub tableLimit : ℕ
+tableLimit = kindAt tableVersions kindLimit + (7 + guardLimit) * transitionLimit
+
+-- what writing parts answers, whatever the room: "the numbers that reading the same bytes would give", with the devices of the parts, for which version 1 has no
+-- bytes. A count outside its limits is 12 there, and a guard length outside its limits 15 in its place
+abbrev pub tableWritable : TableParts → Reading
+tableWritable t = answerWith (t .devices) (tableBytes t)
+
 unfoldable pub writeTable : TableParts → List ℕ → Lent
-writeTable t room = write (tableAnswer (tableBytes t)) (tableBytes t) room
+writeTable t room = write (tableWritable t) (tableBytes t) room

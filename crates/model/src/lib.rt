@@ -2,6 +2,11 @@
 // Their meaning is in specs/: what bytes give which parts, and which number of document 01 each answer stands for.
 // The constants are document 01's limits and codes (specs/Limits, Witness, Situation).
 
+// the latest version of a table, and of a recording and a witness
+pub const TABLE_VERSIONS: u8 = 2;
+
+pub const ROW_VERSIONS: u8 = 1;
+
 pub const STATE_LIMIT: u8 = 16;
 
 pub const VARIABLE_LIMIT: u8 = 4;
@@ -13,6 +18,9 @@ pub const KIND_LIMIT: usize = 32;
 pub const TRANSITION_LIMIT: usize = 64;
 
 pub const AIRTIME_LIMIT: u8 = 15;
+
+pub const DEVICE_LIMIT: u8 = 15;
+
 // the longest guard, and the places of each guard in a table's parts
 pub const GUARD_LIMIT: usize = 32;
 
@@ -42,6 +50,7 @@ pub const MOVE_LIMIT: usize = FIRST_ADD + TRANSITION_LIMIT;
 
 // A monitor table's parts. Places beyond a count, and beyond a guard's length, are 0 after reading and are ignored in writing.
 pub struct TableParts {
+    pub version: u8,
     pub states: u8,
     pub variables: u8,
     pub clocks: u8,
@@ -49,6 +58,7 @@ pub struct TableParts {
     pub transitions: u8,
     pub directions: [u8; KIND_LIMIT],
     pub airtimes: [u8; KIND_LIMIT],
+    pub devices: [u8; KIND_LIMIT],
     pub sources: [u8; TRANSITION_LIMIT],
     pub targets: [u8; TRANSITION_LIMIT],
     pub triggers: [u8; TRANSITION_LIMIT],

@@ -8,25 +8,25 @@ use lib.Dec.{eqb}
 use Rattle.model.specs.Limits.{kindLimit, transitionLimit}
 use Rattle.model.specs.Bytes.{byteAt, tab, padded}
 use Rattle.model.specs.Monitor.{airtime}
-use Rattle.model.specs.Table.{guardIn, transitionIn, monitorOf, kindsAt, transitionsAt, kindAt, transitionAt, tableParts, SoundTable, monitorAt}
+use Rattle.model.specs.Kinds.{versionAt, kindAt, deviceAt}
+use Rattle.model.specs.Table.{guardIn, transitionIn, monitorOf, kindsAt, transitionsAt, transitionAt, tableParts, SoundTable, monitorAt}
 use Rattle.model.proofs.Places.{getD-column, tab-same}
 use Rattle.model.proofs.TableForm.{TableFacts, table-facts, guard-again}
 use Rattle.monitor.specs.From.{guardFrom, transitionFrom, monitorFrom, offsetsOf}
 
 -- the columns of the kinds, of any table
 module _ (b : List ℕ) where
-  kind-column : (field k : ℕ) → k < kindsAt b → byteAt b (kindAt k + field) ≡ byteAt (padded kindLimit (tab (λ i. byteAt b (kindAt i + field)) (kindsAt b))) k
-  kind-column field k h = sym (getD-column kindLimit (λ i. byteAt b (kindAt i + field)) (kindsAt b) k h)
+  column-of : (f : ℕ → ℕ) (k : ℕ) → k < kindsAt b → f k ≡ byteAt (padded kindLimit (tab f (kindsAt b))) k
+  column-of f k h = sym (getD-column kindLimit f (kindsAt b) k h)
 
-  same-airtimes : tab (λ k. byteAt b (kindAt k + 1)) (kindsAt b) ≡ tab (λ k. byteAt (tableParts b .airtimes) k) (kindsAt b)
-  unfolding tableParts
-  same-airtimes = tab-same (λ k. byteAt b (kindAt k + 1)) (λ k. byteAt (tableParts b .airtimes) k) (kindsAt b) (kind-column 1)
+  same-column : (f : ℕ → ℕ) → tab f (kindsAt b) ≡ tab (λ k. byteAt (padded kindLimit (tab f (kindsAt b))) k) (kindsAt b)
+  same-column f = tab-same f (λ k. byteAt (padded kindLimit (tab f (kindsAt b))) k) (kindsAt b) (column-of f)
 
   pub airtime-from : (offsets : List ℕ) (k : ℕ) → airtime (monitorFrom b offsets) k ≡ airtime (monitorAt b) k
   unfolding monitorFrom monitorOf tableParts
-  airtime-from offsets k = ap (λ (l : List ℕ). getD l k 0) same-airtimes
+  airtime-from offsets k = ap (λ (l : List ℕ). getD l k 0) (same-column (λ i. byteAt b (kindAt (versionAt b) i + 1)))
 
-module _ (b : List ℕ) (facts : TableFacts b) where
+module _ {devices : List ℕ} (b : List ℕ) (facts : TableFacts devices b) where
   few : transitionsAt b ≤ transitionLimit
   few = facts .counts .transitions
 
@@ -57,8 +57,8 @@ module _ (b : List ℕ) (facts : TableFacts b) where
   described : monitorFrom b (offsetsOf b) ≡ monitorAt b
   unfolding monitorFrom monitorOf tableParts
   described =
-      let inbound = tab-same (λ k. eqb (byteAt b (kindAt k)) 1) (λ k. eqb (byteAt (tableParts b .directions) k) 1) (kindsAt b)
-      (λ k h. ap (λ (x : ℕ). eqb x 1) (ap (byteAt b) (omega arith) ∙ kind-column b 0 k h)) in
+      let inbound = tab-same (λ k. eqb (byteAt b (kindAt (versionAt b) k)) 1) (λ k. eqb (byteAt (tableParts b .directions) k) 1) (kindsAt b)
+      (λ k h. ap (λ (x : ℕ). eqb x 1) (ap (byteAt b) (omega arith) ∙ column-of b (λ i. byteAt b (kindAt (versionAt b) i + 0)) k h)) in
       let transitions = tab-same (λ j. transitionFrom b (getD (offsetsOf b) j 0)) (transitionIn (tableParts b)) (transitionsAt b)
       (λ j h. ap (transitionFrom b) (offset j h) ∙ same j h) in
       λ i.
@@ -67,7 +67,8 @@ module _ (b : List ℕ) (facts : TableFacts b) where
         variables = byteAt b 4;
         clocks = byteAt b 5;
         inbound = inbound i;
-        airtimes = same-airtimes b i;
+        airtimes = same-column b (λ k. byteAt b (kindAt (versionAt b) k + 1)) i;
+        devices = same-column b (λ k. deviceAt b (kindAt (versionAt b) k)) i;
         transitions = transitions i;
       }
 

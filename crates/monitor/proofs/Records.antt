@@ -5,35 +5,18 @@ use mathlib.Core.Path.{_≡_, refl, sym, ap, _∙_}
 use mathlib.Core.List.{List, [], _∷_}
 use mathlib.Core.Bool.{Bool, true, false, cond, _&&_}
 use mathlib.Core.Option.{Option, none, some, bind}
-use lib.ListN.{length, getD, getElem?, List·getD-eq-default}
+use lib.ListN.{length, getD, getElem?}
 use lib.Dec.{eqb}
 use Rattle.model.specs.Limits.{guardLimit}
-use Rattle.model.specs.Bytes.{byteAt, tab}
+use Rattle.model.specs.Bytes.{byteAt}
 use borrow.Author.Tests.{eq-eqb, ne-eqb}
 use Rattle.model.specs.Guard.{guardAt, guardOf, holds}
-use Rattle.model.specs.Monitor.{Monitor, Transition, fires, enabled, after, toUnit, airtime, changed, reset}
+use Rattle.model.specs.Monitor.{Monitor, Transition, fires, enabled, after, changed, reset}
 use Rattle.model.specs.declared.Config.{Config}
-use Rattle.model.specs.Table.{variablesAt, clocksAt, guardLengthAt, kindsAt, kindAt, transitionsAt}
-use Rattle.model.proofs.Basics.{length-tab, getD-tab, getElem-tab, getElem-tab-past}
+use Rattle.model.specs.Table.{variablesAt, clocksAt, guardLengthAt, transitionsAt}
+use Rattle.model.proofs.Basics.{getElem-tab, getElem-tab-past}
 use Rattle.monitor.specs.declared.Fired.{Fired}
 use Rattle.monitor.specs.From.{firing, firedOf, guardFrom, transitionFrom, monitorFrom, afterFrom}
-
-module _ (b offsets : List ℕ) (k : ℕ) where
-  pub unit-there : k < kindsAt b → toUnit (monitorFrom b offsets) k ≡ eqb (byteAt b (kindAt k)) 1
-  unfolding monitorFrom
-  unit-there h = getD-tab (λ i. eqb (byteAt b (kindAt i)) 1) false (kindsAt b) k h
-
-  pub unit-past : kindsAt b ≤ k → toUnit (monitorFrom b offsets) k ≡ false
-  unfolding monitorFrom
-  unit-past h = List·getD-eq-default (tab (λ i. eqb (byteAt b (kindAt i)) 1) (kindsAt b)) false (omega (arith, length-tab (λ i. eqb (byteAt b (kindAt i)) 1) (kindsAt b)))
-
-  pub airtime-there : k < kindsAt b → airtime (monitorFrom b offsets) k ≡ byteAt b (kindAt k + 1)
-  unfolding monitorFrom
-  airtime-there h = getD-tab (λ i. byteAt b (kindAt i + 1)) 0 (kindsAt b) k h
-
-  pub airtime-past : kindsAt b ≤ k → airtime (monitorFrom b offsets) k ≡ 0
-  unfolding monitorFrom
-  airtime-past h = List·getD-eq-default (tab (λ i. byteAt b (kindAt i + 1)) (kindsAt b)) 0 (omega (arith, length-tab (λ i. byteAt b (kindAt i + 1)) (kindsAt b)))
 
 module _ (b offsets : List ℕ) (j k : ℕ) (c : Config) where
   pub fires-there : j < transitionsAt b →

@@ -9,7 +9,8 @@ use Rattle.model.specs.Limits.{transitionLimit, guardLimit}
 use Rattle.model.specs.Bytes.{byteAt, tab, padded}
 use Rattle.model.specs.Guard.{Guard, guardAt, guardOf}
 use Rattle.model.specs.Monitor.{Monitor, Transition, after}
-use Rattle.model.specs.Table.{statesAt, variablesAt, clocksAt, kindsAt, transitionsAt, guardLengthAt, kindAt, transitionAt}
+use Rattle.model.specs.Kinds.{versionAt, kindAt, deviceAt}
+use Rattle.model.specs.Table.{statesAt, variablesAt, clocksAt, kindsAt, transitionsAt, guardLengthAt, transitionAt}
 use Rattle.model.specs.declared.Config.{Config}
 use Rattle.monitor.specs.declared.Fired.{Fired}
 
@@ -44,8 +45,9 @@ monitorFrom b offsets =
       states = statesAt b;
       variables = variablesAt b;
       clocks = clocksAt b;
-      inbound = tab (λ k. eqb (byteAt b (kindAt k)) 1) (kindsAt b);
-      airtimes = tab (λ k. byteAt b (kindAt k + 1)) (kindsAt b);
+      inbound = tab (λ k. eqb (byteAt b (kindAt (versionAt b) k)) 1) (kindsAt b);
+      airtimes = tab (λ k. byteAt b (kindAt (versionAt b) k + 1)) (kindsAt b);
+      devices = tab (λ k. deviceAt b (kindAt (versionAt b) k)) (kindsAt b);
       transitions = tab (λ j. transitionFrom b (getD offsets j 0)) (transitionsAt b);
     }
 

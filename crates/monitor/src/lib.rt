@@ -1,5 +1,7 @@
 // The monitor, straight from a table's bytes: which transition fires, and what a kind's record says. Each function takes any bytes.
 use guard::guard_holds;
+use kinds::device_at;
+use kinds::kind_at;
 use model::Config;
 use model::TRANSITION_LIMIT;
 use wire::byte;
@@ -11,7 +13,7 @@ ghost use Prim.Native.Nat.{ℕ, _+_, _%_, _<_, min};
 ghost use lib.Dec.{eqb};
 ghost use Rattle.model.specs.Limits.{transitionLimit};
 ghost use Rattle.model.specs.Guard.{holds};
-ghost use Rattle.model.specs.Monitor.{changed, enabled, fires, toUnit, airtime};
+ghost use Rattle.model.specs.Monitor.{changed, enabled, fires, toUnit, airtime, device};
 ghost use Rattle.model.specs.Table.{transitionsAt};
 ghost use Rattle.monitor.specs.From.{firing, guardFrom, transitionFrom, monitorFrom, offsetsOf, afterFrom};
 
@@ -39,7 +41,7 @@ pub fn offsets(table: &[u8]) -> [u16; TRANSITION_LIMIT]
 {
     let mut found = [0u16; TRANSITION_LIMIT];
     let count = transitions(table);
-    let mut at = 8 + 2 * (byte(table, 6) as u16);
+    let mut at = kind_at(byte(table, 2), byte(table, 6));
     let mut j = 0;
     while j < count {
         found[j] = at;
@@ -55,7 +57,7 @@ pub fn to_unit(table: &[u8], kind: u8) -> bool
     if byte(table, 6) <= kind {
         return false;
     }
-    byte(table, 8 + 2 * (kind as usize)) == 1
+    byte(table, kind_at(byte(table, 2), kind) as usize) == 1
 }
 
 pub fn airtime_of(table: &[u8], kind: u8) -> u8
@@ -64,7 +66,16 @@ pub fn airtime_of(table: &[u8], kind: u8) -> u8
     if byte(table, 6) <= kind {
         return 0;
     }
-    byte(table, 8 + 2 * (kind as usize) + 1)
+    byte(table, kind_at(byte(table, 2), kind) as usize + 1)
+}
+
+pub fn device_of(table: &[u8], kind: u8) -> u8
+    ensures { λ r. ⌜ ((offsets : List ℕ) → r ≡ device (monitorFrom (now (table .entry)) offsets) kind) ⌝ }
+{
+    if byte(table, 6) <= kind {
+        return 0;
+    }
+    device_at(table, kind_at(byte(table, 2), kind))
 }
 
 // The first n variables after some are set and some are cleared.

@@ -9,7 +9,7 @@ use Rattle.model.specs.Limits.{rowLimit, witnessLimit}
 use Rattle.model.specs.Answers.{Writes}
 use Rattle.model.specs.First.{unless, firstOf, isSound}
 use Rattle.model.specs.Room.{Lent, write}
-use Rattle.model.specs.Table.{tableAnswer, tableParts, noTable, readTable, writeTable}
+use Rattle.model.specs.Table.{tableAnswer, tableParts, noTable, readTable, writeTable, answerWith, deviceColumn}
 use Rattle.model.specs.Recording.{recordingAnswer, recordingParts, noRecording, readRecording, recordingEarly, recordingWritable, writeRecording, countAt}
 use Rattle.model.specs.Witness.{witnessAnswer, witnessParts, noWitness, readWitness, witnessBytes, witnessWritable, writeWitness, witnessCountAt}
 use Rattle.model.specs.declared.TableParts.{TableParts}
@@ -46,9 +46,9 @@ module _ (answer : Reading) (b room : List ℕ) (written : Lent) (same : answer 
   rewritten e r roomThen w = record { writes = subst (λ (a : Reading). Writes (again a written room) r roomThen) (sym e) w; same = same-again }
 
 pub table-same : (b room : List ℕ) → AllBytes b → tableAnswer b ≡ Sound → writeTable (tableParts b) room ≡ write Sound b room
-unfolding writeTable
+unfolding writeTable tableParts tableAnswer
 table-same b room bytes sound =
-    ap (λ (x : List ℕ). write (tableAnswer x) x room) (table-again b bytes sound) ∙ ap (λ (a : Reading). write a b room) sound
+    ap (λ (x : List ℕ). write (answerWith (deviceColumn b) x) x room) (table-again b bytes sound) ∙ ap (λ (a : Reading). write a b room) sound
 
 pub recording-same : (table b room : List ℕ) → AllBytes b → recordingAnswer table b ≡ Sound → writeRecording table (recordingParts b) room ≡ write Sound b room
 unfolding writeRecording recordingWritable recordingEarly recordingParts

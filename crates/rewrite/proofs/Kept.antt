@@ -18,7 +18,7 @@ use Rattle.model.specs.First.{unless, isSound}
 use Rattle.model.specs.Numbers.{readingValues}
 use Rattle.model.specs.Frame.{framed, framedRows}
 use Rattle.model.specs.Room.{Lent, over, write}
-use Rattle.model.specs.Table.{tableScan, tableAnswer, tableBytes, tableParts, noTable, readTable, writeTable}
+use Rattle.model.specs.Table.{scanWith, answerWith, tableAnswer, tableBytes, tableParts, noTable, readTable, tableWritable, writeTable}
 use Rattle.model.specs.Recording.{recordingAnswer, recordingBytes, recordingParts, noRecording, readRecording, recordingEarly, recordingWritable, writeRecording}
 use Rattle.model.specs.Witness.{witnessFrame, witnessAnswer, witnessBytes, witnessParts, noWitness, readWitness, rowsIn, witnessWritable, writeWitness}
 use Rattle.model.specs.declared.TableParts.{TableParts}
@@ -35,7 +35,8 @@ use Rattle.model.specs.declared.Writing.{Writing}
 use Rattle.model.specs.declared.Writing.the-variants.{Written, Unwritten}
 use Rattle.model.proofs.Tests.{test, le-test}
 use Rattle.model.specs.Same.{SameTable, TableZero, SameRecording, RecordingZero, SameWitness, WitnessZero}
-use Rattle.model.proofs.TableTrip.{table-back, zero-beyond}
+use Rattle.model.proofs.TableForm.{scan-sound}
+use Rattle.model.proofs.TableTrip.{sound-back, table-back, zero-beyond}
 use Rattle.model.proofs.RecordingForm.{recording-back, recording-zero}
 use Rattle.model.proofs.WitnessForm.{witness-parts-back, witness-zero}
 use Rattle.rewrite.specs.Back.{backBy, tableBack, recordingBack, witnessBack, TableKept, RecordingKept, WitnessKept, ReadsBack}
@@ -71,7 +72,7 @@ module _ (w : Writing) (roomThen : List ℕ) (n : ℕ) where
 
   pub table-fits : (t : TableParts) (room : List ℕ) → Writes (writeTable t room) w roomThen → w ≡ Written n → n ≤ length roomThen
   unfolding writeTable
-  table-fits t room = fits (tableAnswer (tableBytes t)) (tableBytes t) room
+  table-fits t room = fits (tableWritable t) (tableBytes t) room
 
   pub recording-fits : (table : List ℕ) (r : RecordingParts) (room : List ℕ) → Writes (writeRecording table r room) w roomThen → w ≡ Written n → n ≤ length roomThen
   unfolding writeRecording
@@ -94,11 +95,11 @@ all-below (x ∷ xs) (u ∷ us) s (suc i) = all-below xs us (s .1) i
 -- no bytes are refused, with parts that are all 0
 
 pub no-table-read : readTable [] .parts ≡ noTable
-unfolding readTable tableAnswer tableScan framed
+unfolding readTable tableAnswer answerWith scanWith framed
 no-table-read = refl
 
 pub no-recording-read : readRecording [] [] .parts ≡ noRecording
-unfolding readRecording recordingAnswer tableAnswer tableScan framed
+unfolding readRecording recordingAnswer tableAnswer answerWith scanWith framed
 no-recording-read = refl
 
 pub no-witness-read : readWitness [] .parts ≡ noWitness
@@ -121,7 +122,8 @@ pub table-kept : (t : TableParts) → length (t .guards) ≡ guardLimit * transi
     → (x : TableReading) → x ≡ readTable (take n (writeTable t room .room)) → TableKept t x
 unfolding writeTable readTable
 table-kept t guards room n done x read =
-    let (sound, stands, _) = written (tableAnswer (tableBytes t)) (tableBytes t) room n done in
+    let (writable, stands, _) = written (tableWritable t) (tableBytes t) room n done in
+    let sound : tableAnswer (tableBytes t) ≡ Sound = sound-back t guards writable in
     let same : x ≡ readTable (tableBytes t) = read ∙ ap readTable stands in
     let parts : x .parts ≡ tableParts (tableBytes t) =
     ap (λ (y : TableReading). y .parts) same ∙ ap (λ (a : Reading). cond (isSound a) (tableParts (tableBytes t)) noTable) sound
@@ -129,7 +131,7 @@ table-kept t guards room n done x read =
     record {
       sound = ap (λ (y : TableReading). y .answer) same ∙ sound;
       numbers = ap readingValues (ap (λ (y : TableReading). y .answer) same ∙ sound);
-      same = subst (λ (p : TableParts). SameTable p t) (sym parts) (table-back t guards sound);
+      same = subst (λ (p : TableParts). SameTable p t) (sym parts) (table-back t guards (scan-sound (t .devices) (tableBytes t) writable));
       beyond = subst TableZero (sym parts) (zero-beyond (tableBytes t) sound);
     }
 

@@ -3,6 +3,7 @@
 //! recordings and witnesses with the program, and none of its reading or searching.
 
 mod checker;
+mod devices;
 mod enumerate;
 mod monitor;
 mod permitted;
@@ -12,6 +13,7 @@ mod trace;
 mod works;
 
 pub use checker::expected_check;
+pub use devices::{first_bad_kind, kinds_refused, kinds_told, with_devices, without_devices};
 pub use enumerate::{first_dead_instant, ruled_out, witnesses};
 pub use monitor::Monitor;
 pub use permitted::permitted_by_checker;

@@ -3,10 +3,13 @@
 //! A file of parts has the layout of what is written, but for two things: where the length would
 //! stand is how many records are given (of a table one byte for the kinds and one for the
 //! transitions), and where the version would stand the filler, which every place holds that no
-//! record gives. A table's transitions are two further files: seven fields each, and the 32
-//! places of each guard. A recording's table is the file before it.
+//! record gives. Of a table the version of its parts stands behind the five counts, at 8, and then
+//! come direction, airtime and device of each kind that is given, whatever the version. A table's
+//! transitions are two further files: seven fields each, and the 32 places of each guard. A
+//! recording's table is the file before it.
 
 use crate::parts::{RecordingParts, TableParts, WitnessParts};
+use crate::table::Kind;
 use crate::writing::Parts;
 
 pub fn files(parts: &Parts) -> Vec<Vec<u8>> {
@@ -20,7 +23,9 @@ pub fn files(parts: &Parts) -> Vec<Vec<u8>> {
 fn table(parts: &TableParts) -> Vec<Vec<u8>> {
     let mut first = vec![parts.kinds.len() as u8, parts.transitions.len() as u8, parts.filler];
     first.extend(parts.counts);
-    first.extend(parts.kinds.iter().flat_map(|kind| [kind.direction, kind.airtime]));
+    first.push(parts.version);
+    let fields = |kind: &Kind| [kind.direction, kind.airtime, kind.device];
+    first.extend(parts.kinds.iter().flat_map(fields));
     let fields = parts.transitions.iter().flat_map(|it| it.fields).collect();
     let guards = parts.transitions.iter().flat_map(|it| it.guard).collect();
     vec![first, fields, guards]

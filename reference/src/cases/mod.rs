@@ -9,7 +9,10 @@
 //! parts that were read back and every byte of scratch and then room after the call. A case of the
 //! desk answers its own lines. `given` says how files give parts.
 
+mod devices;
 mod given;
+
+pub use devices::{Tally, IN_FILES, IN_PARTS};
 
 use std::collections::BTreeMap;
 use std::io::{self, Write};
@@ -20,7 +23,7 @@ use crate::desk;
 use crate::generate::{calls, writings, Rng};
 use crate::limits;
 use crate::narrowed::NARROWED;
-use crate::papers::{recording, PAPERS, SMALL_MONITOR};
+use crate::papers::{recording, PAPERS, SMALL_MONITOR, SMALL_MONITOR_2};
 use crate::reaching;
 use crate::set;
 use crate::situation::Space;
@@ -42,7 +45,7 @@ const NUMBERS: [u64; 23] =
 /// As many random writings of parts as this, and the numbers that come as often from writing, and
 /// from writing and reading back.
 const WRITINGS: usize = 900;
-const WRITTEN: [u64; 12] = [0, 12, 14, 15, 16, 17, 22, 23, 24, 33, 42, 43];
+const WRITTEN: [u64; 13] = [0, 11, 12, 14, 15, 16, 17, 22, 23, 24, 33, 42, 43];
 
 /// How often each number was answered.
 pub type Numbers = BTreeMap<u64, usize>;
@@ -56,6 +59,9 @@ pub struct Cases {
     pub from_back: Numbers,
     /// How often each state was named with 17, from files and parts.
     pub unreached_states: Numbers,
+    /// Versions and refused devices of tables, in calls on files and in writing.
+    pub read: Tally,
+    pub written: Tally,
     /// How often a set was counted that has so many bytes behind its whole words, one or more.
     /// The first work is always 1; a cost above it had a set counted.
     pub last_words: BTreeMap<usize, usize>,
@@ -85,8 +91,10 @@ fn fits(call: &Call) -> bool {
 
 impl Cases {
     fn all_from_files(&mut self, seed: u64) -> io::Result<()> {
-        for paper in PAPERS {
-            self.validate(SMALL_MONITOR.to_vec(), paper.recording(), paper.budget)?;
+        for table in [&SMALL_MONITOR[..], &SMALL_MONITOR_2] {
+            for paper in PAPERS {
+                self.validate(table.to_vec(), paper.recording(), paper.budget)?;
+            }
         }
         for it in NARROWED {
             let (table, recording) = (it.table(), it.recording());
@@ -104,7 +112,7 @@ impl Cases {
         }
         let mut rng = Rng::new(seed);
         let (mut made, mut long) = (0, 0);
-        while made < CALLS || !often(&self.from_files, &NUMBERS) {
+        while made < CALLS || !self.enough_called() {
             for call in calls(&mut rng) {
                 let size: usize = call.inputs().iter().map(|(_, bytes)| bytes.len()).sum();
                 if !fits(&call) || (size > LONG && long == MOST_LONG) {
@@ -134,8 +142,13 @@ impl Cases {
         Ok(())
     }
 
+    fn enough_called(&self) -> bool {
+        often(&self.from_files, &NUMBERS) && self.read.is_often(IN_FILES, LEAST)
+    }
+
     fn enough_written(&self) -> bool {
-        often(&self.from_writing, &WRITTEN) && often(&self.from_back, &WRITTEN)
+        let numbers = often(&self.from_writing, &WRITTEN) && often(&self.from_back, &WRITTEN);
+        numbers && self.written.is_often(IN_PARTS, LEAST)
     }
 
     /// Through the desk too, and with enough lent for the recordings of the papers.
@@ -161,6 +174,7 @@ impl Cases {
         let outcome = call.run(&ORDINARY);
         *self.from_files.entry(outcome.answer.number).or_default() += 1;
         self.note_last_word(&call, outcome.answer);
+        self.read.note_call(&call, outcome.answer);
         self.answer(outcome.answer, outcome.scratch.iter().chain(&outcome.room))
     }
 
@@ -186,6 +200,9 @@ impl Cases {
         let (answer, numbers) = writing.run(&mut room);
         let tally = if writing.back { &mut self.from_back } else { &mut self.from_writing };
         *tally.entry(answer.number).or_default() += 1;
+        if let Parts::Table(parts) = &writing.parts {
+            self.written.note_parts(parts, answer);
+        }
         self.answer(answer, numbers.iter().chain(&room))
     }
 

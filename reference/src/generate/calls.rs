@@ -7,7 +7,7 @@ use super::learn::learn;
 use super::recordings::{any_rows, overheard, spoil_rows};
 use super::rng::Rng;
 use super::spoil::{any_bytes, spoil_bytes};
-use super::spoil_tables::spoil_table;
+use super::spoil_tables::{spoil_devices, spoil_layout, spoil_table};
 use super::tables::{any_table, sound_table, Shape};
 use super::unreached_states::unreached_states;
 use super::witnesses::{guessed, spoil_witness};
@@ -118,7 +118,7 @@ fn last_time(rng: &mut Rng, table: &Table) -> u16 {
 }
 
 fn spoil(rng: &mut Rng, base: &mut Base) {
-    match rng.below(10) {
+    match rng.below(12) {
         0 | 1 => base.table_bytes = encode_table(&spoil_table(rng, &base.table)),
         2 | 3 => base.table_bytes = spoil_bytes(rng, &base.table_bytes),
         4 | 5 => {
@@ -128,6 +128,8 @@ fn spoil(rng: &mut Rng, base: &mut Base) {
         6 => base.recording_bytes = spoil_bytes(rng, &base.recording_bytes),
         7 => std::mem::swap(&mut base.table_bytes, &mut base.recording_bytes),
         8 => base.table_bytes = encode_table(&unreached_states(rng, &base.table)),
+        9 => base.table_bytes = encode_table(&spoil_devices(rng, &base.table)),
+        10 => base.table_bytes = spoil_layout(rng, &base.table),
         _ => match rng.one_in(2) {
             true => base.table_bytes = any_bytes(rng),
             false => base.recording_bytes = any_bytes(rng),

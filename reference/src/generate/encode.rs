@@ -1,17 +1,21 @@
 //! Parts into bytes without any judging, so that unsound parts can be had as bytes too.
-//! Numbers too large for their bytes lose their upper part.
+//! Numbers too large for their bytes lose their upper part. Version 1 has no place for devices;
+//! any other that is not known gets the layout of version 2.
 
 use crate::recording::Recording;
 use crate::table::Table;
 use crate::witness::Witness;
 
 pub fn encode_table(table: &Table) -> Vec<u8> {
-    let mut body = vec![1, table.states, table.variables, table.clocks];
+    let mut body = vec![table.version, table.states, table.variables, table.clocks];
     body.push(table.kinds.len() as u8);
     body.push(table.transitions.len() as u8);
     for kind in &table.kinds {
         body.push(kind.direction);
         body.push(kind.airtime);
+        if table.version != 1 {
+            body.push(kind.device);
+        }
     }
     for it in &table.transitions {
         body.extend([it.from, it.to, it.kind, it.set, it.clear, it.reset]);

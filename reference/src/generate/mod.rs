@@ -22,7 +22,7 @@ pub use parts::writings;
 pub use recordings::{any_rows, overheard, spoil_rows};
 pub use rng::Rng;
 pub use spoil::{any_bytes, spoil_bytes};
-pub use spoil_tables::spoil_table;
+pub use spoil_tables::{spoil_devices, spoil_layout, spoil_table};
 pub use tables::{any_table, sound_table, Shape};
 pub use unreached_states::unreached_states;
 pub use witnesses::{guessed, spoil_witness};

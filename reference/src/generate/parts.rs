@@ -6,7 +6,7 @@ use super::encode::encode_table;
 use super::recordings::{any_rows, spoil_rows};
 use super::rng::Rng;
 use super::spoil::spoil_bytes;
-use super::spoil_tables::spoil_table;
+use super::spoil_tables::{spoil_devices, spoil_layout, spoil_table};
 use super::tables::{any_table, sound_table, Shape};
 use super::unreached_states::unreached_states;
 use super::witnesses::{guessed, spoil_witness};
@@ -46,8 +46,9 @@ fn filler(rng: &mut Rng) -> u8 {
 }
 
 fn table_parts(rng: &mut Rng, table: &Table) -> Parts {
-    let mut parts = TableParts::of(&match rng.below(12) {
+    let mut parts = TableParts::of(&match rng.below(14) {
         0..=3 => spoil_table(rng, table),
+        6 | 7 => spoil_devices(rng, table),
         4 => any_table(rng, &Shape { kinds: 3, transitions: 6, ..Shape::LARGE }),
         5 => unreached_states(rng, table),
         _ => table.clone(),
@@ -59,10 +60,11 @@ fn table_parts(rng: &mut Rng, table: &Table) -> Parts {
         let length = usize::from(it.fields[6]).min(GUARD_PLACES);
         it.guard[length..].fill_with(|| rng.byte());
     }
-    match rng.below(6) {
+    match rng.below(8) {
         0 => parts.counts[rng.below(5)] = rng.byte(),
         1 => spoil_length(rng, &mut parts.transitions),
-        2 => beyond(rng, &mut parts),
+        2 | 3 => beyond(rng, &mut parts),
+        4 => parts.version = rng.pick(&[0, 1, 2, 3, 4, 128, 255]),
         _ => {}
     }
     Parts::Table(parts)
@@ -78,7 +80,8 @@ fn spoil_length(rng: &mut Rng, transitions: &mut [Placed]) {
 /// Records behind those that the counts cover, or a count that covers some of them.
 fn beyond(rng: &mut Rng, parts: &mut TableParts) {
     if parts.kinds.len() < COUNT_LIMITS[3].1 {
-        parts.kinds.push(Kind { direction: rng.byte(), airtime: rng.byte() });
+        let [direction, airtime, device] = [rng.byte(), rng.byte(), rng.byte()];
+        parts.kinds.push(Kind { direction, airtime, device });
     }
     if parts.transitions.len() < COUNT_LIMITS[4].1 {
         let fields = std::array::from_fn(|_| rng.byte());
@@ -94,8 +97,10 @@ fn beyond(rng: &mut Rng, parts: &mut TableParts) {
 fn recording_parts(rng: &mut Rng, table: &Table, heard: &recording::Recording) -> Parts {
     let mut bytes = encode_table(table);
     match rng.below(24) {
-        0 | 1 => bytes = spoil_bytes(rng, &bytes),
+        0 => bytes = spoil_bytes(rng, &bytes),
+        1 => bytes = spoil_layout(rng, table),
         2 => bytes = encode_table(&unreached_states(rng, table)),
+        3 => bytes = encode_table(&spoil_devices(rng, table)),
         _ => {}
     }
     let rows = match rng.one_in(2) {

@@ -42,7 +42,7 @@ fn spoil_once(rng: &mut Rng, bytes: &mut Vec<u8>) {
 
 /// A file too long for its length bytes gets the lower part of its length, which a careless
 /// reader might take for all of it.
-fn match_length(bytes: &mut [u8]) {
+pub fn match_length(bytes: &mut [u8]) {
     let length = bytes.len().saturating_sub(2) as u16;
     if let Some(place) = bytes.first_chunk_mut() {
         *place = length.to_be_bytes();
@@ -67,7 +67,7 @@ pub fn any_bytes(rng: &mut Rng) -> Vec<u8> {
         match_length(&mut bytes);
     }
     if let (true, Some(version)) = (!rng.one_in(3), bytes.get_mut(2)) {
-        *version = 1;
+        *version = rng.pick(&[1, 1, 2]);
     }
     bytes
 }

@@ -1,17 +1,24 @@
-//! Tables spoilt in their parts.
+//! Tables spoilt in their parts, and in where the records of their kinds stand.
 
+use super::encode::encode_table;
 use super::rng::Rng;
-use crate::table::{Kind, Table, Transition};
+use super::spoil::match_length;
+use crate::table::{kind_offset, Kind, Table, Transition};
+
+/// The two known ones, their neighbours, and the last byte.
+const VERSIONS: [u8; 5] = [0, 1, 2, 3, 255];
 
 /// Parts with one thing, or a few, out of order or just at a limit.
 pub fn spoil_table(rng: &mut Rng, table: &Table) -> Table {
     let mut spoilt = table.clone();
     for _ in 0..=rng.below(2) {
-        match rng.below(10) {
+        match rng.below(12) {
             0 => spoil_counts(rng, &mut spoilt),
             1 | 2 => spoil_kind(rng, &mut spoilt),
             3..=6 => spoil_transition(rng, &mut spoilt),
-            _ => spoil_guard(rng, &mut spoilt),
+            7..=9 => spoil_guard(rng, &mut spoilt),
+            10 => spoil_device(rng, &mut spoilt),
+            _ => spoilt.version = rng.pick(&VERSIONS),
         }
     }
     spoilt
@@ -24,7 +31,7 @@ fn spoil_counts(rng: &mut Rng, table: &mut Table) {
         2 => table.clocks = rng.pick(&[0, 1, 2, 3, 255]),
         3 => {
             let count = rng.pick(&[0, 1, 2, 31, 32, 33, 40]);
-            table.kinds.resize(count, Kind { direction: 1, airtime: 3 });
+            table.kinds.resize(count, Kind::in_version_1(1, 3));
         }
         _ => {
             let count = rng.pick(&[0, 1, 63, 64, 65, 70]);
@@ -42,6 +49,52 @@ fn spoil_kind(rng: &mut Rng, table: &mut Table) {
             _ => kind.airtime = rng.pick(&[0, 14, 15, 16, 255]),
         }
     }
+}
+
+/// Devices of one kind or of some: what the direction does not allow, what nothing allows, what
+/// version 1 cannot tell. In version 1 only the parts are spoilt, for its bytes have no devices.
+pub fn spoil_devices(rng: &mut Rng, table: &Table) -> Table {
+    let mut spoilt = table.clone();
+    for _ in 0..=rng.below(3) {
+        spoil_device(rng, &mut spoilt);
+    }
+    if rng.one_in(4) {
+        spoil_kind(rng, &mut spoilt);
+    }
+    spoilt
+}
+
+fn spoil_device(rng: &mut Rng, table: &mut Table) {
+    let last = table.kinds.len().saturating_sub(1);
+    let number = match rng.below(4) {
+        0 => 0,
+        1 => last,
+        _ => rng.between(0, last),
+    };
+    if let Some(kind) = table.kinds.get_mut(number) {
+        kind.device = match rng.below(4) {
+            0 => kind.direction ^ 1,
+            1 => rng.pick(&[0, 1, 2, 14, 15]),
+            2 => rng.pick(&[16, 17, 31, 32, 127, 128, 129, 254, 255]),
+            _ => rng.byte(),
+        };
+    }
+}
+
+/// A table's bytes with another version before the same records, or cut in the records of its
+/// kinds, mostly before the last byte of one. The length matches.
+pub fn spoil_layout(rng: &mut Rng, table: &Table) -> Vec<u8> {
+    let mut bytes = encode_table(table);
+    match rng.below(3) {
+        0 => bytes[2] = rng.pick(&VERSIONS),
+        1 => bytes[2] = if table.version == 1 { 2 } else { 1 },
+        _ => {
+            let end = kind_offset(table.version, rng.between(1, table.kinds.len()));
+            bytes.truncate(end - rng.pick(&[0, 1, 1, 1, 2]));
+        }
+    }
+    match_length(&mut bytes);
+    bytes
 }
 
 fn spoil_transition(rng: &mut Rng, table: &mut Table) {

@@ -76,7 +76,12 @@ pub fn sound_table(rng: &mut Rng, shape: &Shape) -> Table {
 /// is off the air, and at times there is another way. So there are few places for a lost packet.
 pub fn protocol(rng: &mut Rng) -> Table {
     let directions = [0, 1, rng.below(2) as u8];
-    let kinds = directions.map(|direction| Kind { direction, airtime: rng.between(0, 3) as u8 });
+    let version = version(rng);
+    let kinds = directions.map(|direction| Kind {
+        direction,
+        airtime: rng.between(0, 3) as u8,
+        device: device(rng, version, direction),
+    });
     let states = rng.between(2, 4);
     let mut transitions = Vec::new();
     let mut airtime = 0;
@@ -95,7 +100,7 @@ pub fn protocol(rng: &mut Rng) -> Table {
         });
     }
     let (states, kinds) = (states as u8, kinds.to_vec());
-    Table { states, variables: 0, clocks: 1, kinds, transitions }
+    Table { version, states, variables: 0, clocks: 1, kinds, transitions }
 }
 
 /// Sound but for N, which may be above its limit. There are as many transitions as it takes to
@@ -108,11 +113,13 @@ pub fn any_table(rng: &mut Rng, shape: &Shape) -> Table {
     let kinds = count(rng, 1, shape.kinds);
     // Few transitions say little, so the larger of two counts.
     let transitions = count(rng, 0, shape.transitions).max(count(rng, 0, shape.transitions));
+    let version = version(rng);
     let mut table = Table {
+        version,
         states: states as u8,
         variables: variables as u8,
         clocks: clocks as u8,
-        kinds: (0..kinds).map(|_| kind(rng, shape)).collect(),
+        kinds: (0..kinds).map(|_| kind(rng, shape, version)).collect(),
         transitions: Vec::new(),
     };
     for (from, to) in ends(rng, states, transitions) {
@@ -145,9 +152,24 @@ fn ends(rng: &mut Rng, states: usize, count: usize) -> Vec<(u8, u8)> {
     ends
 }
 
-fn kind(rng: &mut Rng, shape: &Shape) -> Kind {
+fn version(rng: &mut Rng) -> u8 {
+    rng.pick(&[1, 2])
+}
+
+fn kind(rng: &mut Rng, shape: &Shape, version: u8) -> Kind {
     let airtime = if rng.one_in(2) { 0 } else { rng.between(0, shape.airtime) };
-    Kind { direction: u8::from(rng.below(5) < 2), airtime: airtime as u8 }
+    let direction = u8::from(rng.below(5) < 2);
+    Kind { direction, airtime: airtime as u8, device: device(rng, version, direction) }
+}
+
+/// One that a kind of this direction may have.
+fn device(rng: &mut Rng, version: u8, direction: u8) -> u8 {
+    match (version, direction) {
+        (_, 0) => 0,
+        (1, _) => 1,
+        _ if rng.one_in(4) => rng.pick(&[1, 15]),
+        _ => rng.between(1, 15) as u8,
+    }
 }
 
 /// All but from where to where it leads.

@@ -1,5 +1,6 @@
 //! Calls at the limits of the paper, and one beyond each.
 
+mod devices;
 mod parts;
 mod states;
 
@@ -56,10 +57,11 @@ pub fn sized(states: u8, variables: u8, bounds: &[u8], airtime: u8) -> Table {
         ]
     };
     Table {
+        version: 1,
         states,
         variables,
         clocks: bounds.len() as u8,
-        kinds: vec![Kind { direction: 0, airtime }, Kind { direction: 1, airtime: 0 }],
+        kinds: vec![Kind::in_version_1(0, airtime), Kind::in_version_1(1, 0)],
         transitions: (0..states).flat_map(from_state).collect(),
     }
 }
@@ -94,6 +96,7 @@ pub fn calls() -> Vec<Call> {
         judged(&mut calls, &small_monitor_with(ACK_AIRTIME, airtime), &recording(&rows));
     }
     calls.extend(states::calls());
+    calls.extend(devices::calls());
     let one = recording(&[(1, DATA)]);
     for table in changed_tables() {
         calls.push(validation(&table, &one, 10_000));

@@ -1,6 +1,6 @@
 //! Parts at the limits of the paper, and one beyond each, to be written.
 
-use super::{sized, states, ROOM, SIZES};
+use super::{devices, sized, states, ROOM, SIZES};
 use crate::generate::encode_table;
 use crate::papers::{small_monitor_with, ACK, DATA, SMALL_MONITOR};
 use crate::parts::{RecordingParts, RowParts, TableParts, WitnessParts, GUARD_PLACES};
@@ -33,6 +33,7 @@ pub fn writings() -> Vec<Writing> {
         writings.push(Writing { parts: parts.clone(), back: false, room: wanted - 1 });
         writings.push(Writing { parts, back: true, room: wanted });
     }
+    writings.extend(devices::writings());
     writings
 }
 
@@ -51,9 +52,10 @@ fn short_parts() -> Vec<Parts> {
 }
 
 /// As many records as there may be, and a witness with as many as its count may say.
-fn long_parts() -> [Parts; 4] {
+fn long_parts() -> [Parts; 5] {
     [
-        Parts::Table(TableParts::of(&full_table())),
+        Parts::Table(TableParts::of(&full_table(1))),
+        Parts::Table(TableParts::of(&full_table(2))),
         against(&SMALL_MONITOR, full_recording(), 0),
         Parts::Witness(full_witness(4_096)),
         Parts::Witness(full_witness(4_608)),
@@ -74,10 +76,11 @@ fn masks() -> TableParts {
     let transition =
         Transition { set: 1, clear: 2, reset: 3, guard: vec![0], ..Default::default() };
     TableParts::of(&Table {
+        version: 1,
         states: 1,
         variables: 2,
         clocks: 2,
-        kinds: vec![Kind { direction: 1, airtime: 15 }],
+        kinds: vec![Kind::in_version_1(1, 15)],
         transitions: vec![transition; 2],
     })
 }
@@ -101,7 +104,7 @@ fn tables() -> Vec<TableParts> {
     }
     for (direction, airtime) in [(0, 0), (1, 15), (2, 0), (0, 16), (255, 255)] {
         let mut it = masks();
-        it.kinds[0] = Kind { direction, airtime };
+        it.kinds[0] = Kind::in_version_1(direction, airtime);
         tables.push(it);
     }
     let fields: [&[u8]; 6] =
@@ -145,7 +148,8 @@ fn guards() -> Vec<TableParts> {
 }
 
 /// Every count at its limit, and every guard. Each state leads to the next, and the last to itself.
-fn full_table() -> Table {
+/// In version 2 there is no longer table.
+fn full_table(version: u8) -> Table {
     let transition = |number: u8| Transition {
         from: number.min(15),
         to: (number + 1).min(15),
@@ -154,17 +158,18 @@ fn full_table() -> Table {
         ..Transition::default()
     };
     Table {
+        version,
         states: 16,
         variables: 4,
         clocks: 2,
-        kinds: vec![Kind { direction: 1, airtime: 15 }; 32],
+        kinds: vec![Kind::in_version_1(1, 15); 32],
         transitions: (0..64).map(transition).collect(),
     }
 }
 
 /// A table for each of its numbers that bytes can have.
 fn unsound_tables() -> Vec<Vec<u8>> {
-    let changed = [(2, 2), (3, 17), (7, 6), (8, 2), (20, 33)];
+    let changed = [(2, 3), (3, 17), (7, 6), (8, 2), (20, 33)];
     let changed = changed.map(|(place, byte)| small_monitor_with(place, byte));
     let over = encode_table(&sized(1, 0, &[255, 254], 0));
     let unreached = small_monitor_with(3, 4);

@@ -3,11 +3,12 @@
 
 use super::{same, Counts};
 use crate::answer::{Answer, Refusal};
+use crate::brute::kinds_refused;
 use crate::compare::hex;
 use crate::generate::{
     any_bytes, cross, dirty, encode_recording, encode_table, encode_witness, guessed, length_near,
-    overheard, sound_table, spoil_bytes, spoil_rows, spoil_table, spoil_witness, unreached_states,
-    Rng, Shape,
+    overheard, sound_table, spoil_bytes, spoil_devices, spoil_rows, spoil_table, spoil_witness,
+    unreached_states, Rng, Shape,
 };
 use crate::rewrite::{rewrite_recording, rewrite_table, rewrite_witness};
 use crate::{recording, table, witness};
@@ -26,7 +27,9 @@ pub fn test(rng: &mut Rng, counts: &mut Counts) -> Result<(), String> {
     let guess_bytes = encode_witness(&guess);
     same("witness in form", witness::read(&guess_bytes), Ok(guess.clone()))?;
 
-    for spoilt in [spoil_table(rng, &sound), unreached_states(rng, &sound)] {
+    let spoilt =
+        [spoil_table(rng, &sound), unreached_states(rng, &sound), spoil_devices(rng, &sound)];
+    for spoilt in spoilt {
         tables(rng, &spoilt)?;
     }
     let spoilt = spoil_rows(rng, &sound, &heard);
@@ -43,7 +46,7 @@ pub fn test(rng: &mut Rng, counts: &mut Counts) -> Result<(), String> {
     }
     let any = any_bytes(rng);
     bytes(rng, &table_bytes, &any)?;
-    counts.files += 17;
+    counts.files += 18;
     Ok(())
 }
 
@@ -79,6 +82,8 @@ fn tables(rng: &mut Rng, parts: &table::Table) -> Result<(), String> {
     }
     let bytes = encode_table(&shown);
     let read = table::read(&bytes).map(|_| ());
+    // Nor can devices in version 1; the others of the first refusals are those of reading.
+    let read = kinds_refused(parts).map_or(read, Err);
     written(rng, read, &bytes, |room| table::write(parts, room))
         .map_err(|it| format!("write table {parts:?}: {it}"))
 }

@@ -3,6 +3,7 @@
 
 mod against_brute;
 mod checks;
+mod devices;
 mod files;
 mod papers;
 mod states;
@@ -30,6 +31,14 @@ pub struct Counts {
     /// Tables whose records are in order, and of these the ones with unreached states.
     pub tables: u64,
     pub unreached: u64,
+    /// Tables read as bytes and written as parts, and of these the ones whose version, counts or
+    /// kinds are out of order.
+    pub kinds_read: u64,
+    pub kinds_refused: u64,
+    pub kinds_written: u64,
+    pub kinds_not_written: u64,
+    /// Calls that answered the same for a table in either version.
+    pub both_versions: u64,
 }
 
 /// Runs until the time is up; an error says what differed.
@@ -43,6 +52,7 @@ pub fn selftest(time: Duration, seed: u64) -> Result<Counts, String> {
         checks::test(&mut rng, &mut counts)?;
         files::test(&mut rng, &mut counts)?;
         states::test(&mut rng, &mut counts)?;
+        devices::test(&mut rng, &mut counts)?;
     }
     Ok(counts)
 }
@@ -59,6 +69,8 @@ impl Counts {
              witnesses checked rule by rule: {}\n\
              files read and written: {}\n\
              tables' reach against brute force: {} ({} with unreached states)\n\
+             tables' kinds against the list of all: {} read ({} refused), {} written ({} refused)\n\
+             calls with a table in either version: {}\n\
              no difference\n",
             self.papers,
             self.inputs,
@@ -73,7 +85,12 @@ impl Counts {
             self.checks,
             self.files,
             self.tables,
-            self.unreached
+            self.unreached,
+            self.kinds_read,
+            self.kinds_refused,
+            self.kinds_written,
+            self.kinds_not_written,
+            self.both_versions
         )
     }
 }

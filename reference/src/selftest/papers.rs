@@ -1,17 +1,21 @@
-//! P1 to P12 with the values the paper states.
+//! P1 to P12 with the values the paper states, by the small monitor in either version.
 
 use super::{same, Counts};
 use crate::answer::Answer;
 use crate::brute::works;
 use crate::check::check_witness;
-use crate::papers::{Paper, PAPERS, SMALL_MONITOR};
+use crate::papers::{Paper, PAPERS, SMALL_MONITOR, SMALL_MONITOR_2};
 use crate::recording;
 use crate::validate::validate;
 
 pub fn test(counts: &mut Counts) -> Result<(), String> {
-    for paper in PAPERS {
-        test_one(paper).map_err(|text| format!("{}: {text}", paper.name))?;
-        counts.papers += 1;
+    for table in [&SMALL_MONITOR[..], &SMALL_MONITOR_2] {
+        for paper in PAPERS {
+            let version = table[2];
+            test_one(table, paper)
+                .map_err(|text| format!("{}, version {version}: {text}", paper.name))?;
+            counts.papers += 1;
+        }
     }
     let five = PAPERS[4].recording();
     let (table, five) = recording::read(&SMALL_MONITOR, &five).map_err(|it| format!("{it:?}"))?;
@@ -19,17 +23,17 @@ pub fn test(counts: &mut Counts) -> Result<(), String> {
 }
 
 /// With buffers far larger than wanted, so that nothing but the verdict is in question.
-fn test_one(paper: &Paper) -> Result<(), String> {
+fn test_one(table: &[u8], paper: &Paper) -> Result<(), String> {
     let recording = paper.recording();
     let mut scratch = vec![0xAA; 1_000];
     let mut room = vec![0xAA; 1_000];
-    let answer = validate(&SMALL_MONITOR, &recording, paper.budget, &mut scratch, &mut room);
+    let answer = validate(table, &recording, paper.budget, &mut scratch, &mut room);
     same("answer", answer, paper.answer)?;
     same("witness", &room[..paper.witness.len()], paper.witness)?;
     same("rest of the room", room[paper.witness.len()..].iter().all(|it| *it == 0xAA), true)?;
     if paper.answer.number == 0 {
         let guessed = paper.witness[5..].chunks_exact(5).filter(|row| row[0] != 0).count() as u64;
-        let checked = check_witness(&SMALL_MONITOR, &recording, paper.witness);
+        let checked = check_witness(table, &recording, paper.witness);
         same("check", checked, Answer::new(0, guessed, paper.answer.third))?;
     }
     Ok(())

@@ -1,12 +1,14 @@
 //! The table: a monitor and its kinds of packet.
 
+mod layout;
 mod read;
 mod rules;
 mod states;
 mod write;
 
+pub use layout::kind_offset;
 pub use read::{read, read_records};
-pub use rules::{COUNT_LIMITS, FIRST_COUNT};
+pub use rules::COUNT_LIMITS;
 pub use write::write;
 
 use crate::guard::Guard;
@@ -16,6 +18,16 @@ pub struct Kind {
     /// 0 from the unit, 1 to it.
     pub direction: u8,
     pub airtime: u8,
+    /// The radio that sends it: 0 is the unit.
+    pub device: u8,
+}
+
+impl Kind {
+    /// As version 1 has it, where the direction says which device it is.
+    pub const fn in_version_1(direction: u8, airtime: u8) -> Kind {
+        let device = if direction == 0 { 0 } else { 1 };
+        Kind { direction, airtime, device }
+    }
 }
 
 #[derive(Clone, Debug, PartialEq, Eq, Default)]
@@ -33,6 +45,7 @@ pub struct Transition {
 /// The parts of a table. They may be unsound: writing judges them as reading would.
 #[derive(Clone, Debug, PartialEq, Eq, Default)]
 pub struct Table {
+    pub version: u8,
     pub states: u8,
     pub variables: u8,
     pub clocks: u8,

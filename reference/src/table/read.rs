@@ -1,9 +1,9 @@
 //! Table bytes into parts, or the first refusal that applies to them.
 
-use super::rules::{self, FIRST_RECORD, KIND_BYTES, TRANSITION_BYTES};
-use super::{Kind, Table, Transition, FIRST_COUNT};
+use super::layout::{FIRST_COUNT, FIRST_RECORD, TRANSITION_BYTES};
+use super::{kind_offset, rules, Kind, Table, Transition};
 use crate::answer::Refusal;
-use crate::frame::{length_matches, VERSION};
+use crate::frame::length_matches;
 
 pub fn read(bytes: &[u8]) -> Result<Table, Refusal> {
     let table = read_records(bytes)?;
@@ -16,22 +16,23 @@ pub fn read_records(bytes: &[u8]) -> Result<Table, Refusal> {
     if bytes.len() < FIRST_RECORD || !length_matches(bytes) {
         return Err(Refusal::new(10, 0));
     }
-    if bytes[2] != VERSION {
-        return Err(Refusal::new(11, 2));
-    }
+    let version = bytes[2];
+    rules::check_version(version)?;
     let counts: [usize; 5] = std::array::from_fn(|i| usize::from(bytes[FIRST_COUNT + i]));
     rules::check_counts(counts)?;
     let mut table = Table {
+        version,
         states: bytes[FIRST_COUNT],
         variables: bytes[FIRST_COUNT + 1],
         clocks: bytes[FIRST_COUNT + 2],
         ..Table::default()
     };
-    let mut records = Records { bytes, at: FIRST_RECORD };
-    for _ in 0..counts[3] {
-        let kind = records.kind()?;
+    for number in 0..counts[3] {
+        let kind = kind(bytes, version, number)?;
+        rules::check_kind(version, &kind, number)?;
         table.kinds.push(kind);
     }
+    let mut records = Records { bytes, at: kind_offset(version, counts[3]) };
     for _ in 0..counts[4] {
         let transition = records.transition(&table)?;
         table.transitions.push(transition);
@@ -42,7 +43,17 @@ pub fn read_records(bytes: &[u8]) -> Result<Table, Refusal> {
     Ok(table)
 }
 
-/// The records from front to back; every refusal names where its record starts.
+/// The record of the kind with this number, if all of it is there.
+fn kind(bytes: &[u8], version: u8, number: usize) -> Result<Kind, Refusal> {
+    let record = kind_offset(version, number);
+    match bytes.get(record..kind_offset(version, number + 1)) {
+        Some(&[direction, airtime]) => Ok(Kind::in_version_1(direction, airtime)),
+        Some(&[direction, airtime, device]) => Ok(Kind { direction, airtime, device }),
+        _ => Err(Refusal::new(13, record)),
+    }
+}
+
+/// The transitions' records from front to back; every refusal names where its record starts.
 struct Records<'a> {
     bytes: &'a [u8],
     at: usize,
@@ -55,14 +66,6 @@ impl<'a> Records<'a> {
         let taken = self.bytes.get(self.at..end).ok_or(Refusal::new(13, record))?;
         self.at = end;
         Ok(taken)
-    }
-
-    fn kind(&mut self) -> Result<Kind, Refusal> {
-        let record = self.at;
-        let bytes = self.take(KIND_BYTES, record)?;
-        let kind = Kind { direction: bytes[0], airtime: bytes[1] };
-        rules::check_kind(&kind, record)?;
-        Ok(kind)
     }
 
     fn transition(&mut self, table: &Table) -> Result<Transition, Refusal> {

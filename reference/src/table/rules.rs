@@ -1,19 +1,18 @@
 //! The rules that reading and writing a table share, so that both give the same numbers.
 
-use super::{states, Kind, Table, Transition};
+use super::layout::FIRST_COUNT;
+use super::{kind_offset, states, Kind, Table, Transition};
 use crate::answer::Refusal;
 use crate::situation::{Space, MOST_SITUATIONS};
 
 /// Lowest and highest of states, variables, clocks, kinds and transitions.
 pub const COUNT_LIMITS: [(usize, usize); 5] = [(1, 16), (0, 4), (0, 2), (1, 32), (0, 64)];
-/// Where the first count stands in the file; the others follow it.
-pub const FIRST_COUNT: usize = 3;
-/// Where the first record stands.
-pub const FIRST_RECORD: usize = 8;
-pub const KIND_BYTES: usize = 2;
-/// A transition's record before its guard.
-pub const TRANSITION_BYTES: usize = 7;
 const GUARD_LENGTHS: std::ops::RangeInclusive<usize> = 1..=32;
+
+pub fn check_version(version: u8) -> Result<(), Refusal> {
+    let known = matches!(version, 1 | 2);
+    known.then_some(()).ok_or(Refusal::new(11, 2))
+}
 
 pub fn check_counts(counts: [usize; 5]) -> Result<(), Refusal> {
     for (place, (count, (lowest, highest))) in counts.into_iter().zip(COUNT_LIMITS).enumerate() {
@@ -24,11 +23,13 @@ pub fn check_counts(counts: [usize; 5]) -> Result<(), Refusal> {
     Ok(())
 }
 
-pub fn check_kind(kind: &Kind, offset: usize) -> Result<(), Refusal> {
-    if kind.direction > 1 || kind.airtime > 15 {
-        return Err(Refusal::new(14, offset));
-    }
-    Ok(())
+/// The kind with this number. Parts of version 1 can have no device but the one it gives.
+pub fn check_kind(version: u8, kind: &Kind, number: usize) -> Result<(), Refusal> {
+    let devices = if kind.direction == 0 { 0..=0 } else { 1..=15 };
+    let in_range = kind.direction <= 1 && kind.airtime <= 15 && devices.contains(&kind.device);
+    let can_be_told = version != 1 || *kind == Kind::in_version_1(kind.direction, kind.airtime);
+    let in_order = in_range && can_be_told;
+    in_order.then_some(()).ok_or(Refusal::new(14, kind_offset(version, number)))
 }
 
 /// All fields but the guard. `table` needs its counts and kinds only.

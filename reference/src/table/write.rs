@@ -1,23 +1,23 @@
 //! Table parts into bytes, with the numbers that reading those bytes would give.
 
-use super::rules::{self, FIRST_RECORD, KIND_BYTES, TRANSITION_BYTES};
-use super::Table;
+use super::layout::TRANSITION_BYTES;
+use super::{kind_offset, rules, Table};
 use crate::answer::{settle, Answer, Refusal};
-use crate::frame::{put, VERSION};
+use crate::frame::put;
 
 pub fn write(table: &Table, room: &mut [u8]) -> Answer {
     settle(judge(table).and_then(|()| put(&bytes_of(table), room)))
 }
 
-/// Frame and version are always right here and no record can be cut short or left over,
-/// so only the rules of counts, records, N and states can speak, in the order of reading.
+/// The frame is always right here and no record can be cut short or left over, so only the
+/// rules of version, counts, records, N and states can speak, in the order of reading.
 fn judge(table: &Table) -> Result<(), Refusal> {
+    rules::check_version(table.version)?;
     rules::check_counts(table.counts())?;
-    let mut offset = FIRST_RECORD;
-    for kind in &table.kinds {
-        rules::check_kind(kind, offset)?;
-        offset += KIND_BYTES;
+    for (number, kind) in table.kinds.iter().enumerate() {
+        rules::check_kind(table.version, kind, number)?;
     }
+    let mut offset = kind_offset(table.version, table.kinds.len());
     for transition in &table.transitions {
         rules::check_fields(table, transition, offset)?;
         rules::check_guard_length(transition.guard.len(), offset)?;
@@ -29,10 +29,12 @@ fn judge(table: &Table) -> Result<(), Refusal> {
 
 /// Only for judged parts: every count and guard length fits its byte.
 fn bytes_of(table: &Table) -> Vec<u8> {
-    let mut bytes = vec![0, 0, VERSION];
+    let mut bytes = vec![0, 0, table.version];
     bytes.extend(table.counts().map(|count| count as u8));
-    for kind in &table.kinds {
-        bytes.extend([kind.direction, kind.airtime]);
+    for (number, kind) in table.kinds.iter().enumerate() {
+        bytes.extend([kind.direction, kind.airtime, kind.device]);
+        // What this version has no place for.
+        bytes.truncate(kind_offset(table.version, number + 1));
     }
     for it in &table.transitions {
         let guard_length = it.guard.len() as u8;

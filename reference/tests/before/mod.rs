@@ -4,4 +4,5 @@
 #![allow(dead_code)]
 
 pub mod air;
+pub mod devices;
 pub mod states;

@@ -8,12 +8,22 @@ use lutarosa_reference::call::Call;
 use lutarosa_reference::cases::cases;
 use lutarosa_reference::parts::{Placed, TableParts};
 use lutarosa_reference::table::Kind;
+use lutarosa_reference::writing::{Parts, Writing};
 
 #[derive(Default)]
 pub struct Recorded {
     pub calls: Vec<Call>,
-    /// Those that are written, alone or with reading back.
-    pub tables: Vec<TableParts>,
+    /// Of tables, alone or with reading back.
+    pub writings: Vec<Writing>,
+}
+
+impl Recorded {
+    pub fn tables(&self) -> impl Iterator<Item = &TableParts> {
+        self.writings.iter().filter_map(|it| match &it.parts {
+            Parts::Table(parts) => Some(parts),
+            _ => None,
+        })
+    }
 }
 
 pub static RECORDED: LazyLock<Recorded> =
@@ -34,7 +44,8 @@ fn recorded(batch: &[u8]) -> Recorded {
             file.to_vec()
         });
         if let 6 | 9 = head[0] {
-            recorded.tables.push(table(&files));
+            let parts = Parts::Table(table(&files));
+            recorded.writings.push(Writing { parts, back: head[0] == 9, room: number(2) as usize });
             continue;
         }
         let [table, second, witness] = files;
@@ -55,14 +66,15 @@ fn recorded(batch: &[u8]) -> Recorded {
 }
 
 fn table([first, fields, guards]: &[Vec<u8>; 3]) -> TableParts {
-    let (head, kinds) = first.split_at(8);
+    let (head, kinds) = first.split_at(9);
     let fields = fields.chunks_exact(7).map(|it| it.try_into().expect("seven"));
     let guards = guards.chunks_exact(32).map(|it| it.try_into().expect("32 places"));
-    let kind = |it: &[u8]| Kind { direction: it[0], airtime: it[1] };
+    let kind = |it: &[u8]| Kind { direction: it[0], airtime: it[1], device: it[2] };
     TableParts {
-        counts: head[3..].try_into().expect("five counts"),
+        version: head[8],
+        counts: head[3..8].try_into().expect("five counts"),
         filler: head[2],
-        kinds: kinds.chunks_exact(2).map(kind).collect(),
+        kinds: kinds.chunks_exact(3).map(kind).collect(),
         transitions: fields.zip(guards).map(|(fields, guard)| Placed { fields, guard }).collect(),
     }
 }

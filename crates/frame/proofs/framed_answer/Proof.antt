@@ -1,4 +1,4 @@
-use borrow.Author.Tests.{le-leb, lt-leb, eq-eqb, ne-eqb}
+use borrow.Author.Tests.{le-leb, lt-leb, eq-eqb, ne-eqb, not-true, not-false}
 use Rattle.model.specs.Frame.{framed}
 use borrow.Author.Needs.{needs}
 use Rattle.frame.proofs.framed_answer.Statement.{statement}
@@ -24,13 +24,16 @@ returns-2 c = rw (le-leb _ _ (c .before .before .if1 .left), ← c .before .word
 byte-requires : tie.Need-byte-requires
 byte-requires c κs = search needs
 
+is-version-requires : tie.Need-is-version-requires
+is-version-requires c κs = search needs
+
 returns-3 : tie.Need-returns-3
 unfolding framed
-returns-3 c = rw (le-leb _ _ (c .before .before .before .before .if1 .left), ← c .before .before .before .word .ensures .0, eq-eqb _ _ (c .before .before .if2 .left), ← c .before .byte .ensures .0, ne-eqb _ _ (c .if3 .taken))
+returns-3 c = rw (le-leb _ _ (c .before .before .before .before .before .if1 .left), ← c .before .before .before .before .word .ensures .0, eq-eqb _ _ (c .before .before .before .if2 .left), ← c .before .before .byte .ensures .0, ← c .before .is-version .ensures, not-true (c .before .is-version .result) (c .if3 .taken))
 
 returns-4 : tie.Need-returns-4
 unfolding framed
-returns-4 c = rw (le-leb _ _ (c .before .before .before .before .if1 .left), ← c .before .before .before .word .ensures .0, eq-eqb _ _ (c .before .before .if2 .left), ← c .before .byte .ensures .0, eq-eqb _ _ (c .if3 .left))
+returns-4 c = rw (le-leb _ _ (c .before .before .before .before .before .if1 .left), ← c .before .before .before .before .word .ensures .0, eq-eqb _ _ (c .before .before .before .if2 .left), ← c .before .before .byte .ensures .0, ← c .before .is-version .ensures, not-false (c .before .is-version .result) (c .if3 .left))
 
 pub framed-answer-spec : {M : Type 1} → statement M
 framed-answer-spec =
@@ -42,5 +45,6 @@ framed-answer-spec =
     add-if2
     returns-2
     byte-requires
+    is-version-requires
     returns-3
     returns-4)

@@ -1,7 +1,12 @@
+use Prim.Native.Nat.{ℕ, _+_}
 use native.Mathlib.Omega.{arith}
-use mathlib.Core.Path.{sym, _∙_}
+use mathlib.Core.Path.{sym, ap, _∙_}
+use Rattle.model.specs.Bytes.{byteAt}
+use Rattle.model.specs.Kinds.{versionAt, kindAt}
+use Rattle.model.specs.Table.{kindsAt}
+use Rattle.model.proofs.Basics.{getD-tab, getD-tab-past}
 use borrow.Author.Needs.{needs}
-use Rattle.monitor.proofs.Records.{airtime-there, airtime-past}
+use Rattle.monitor.specs.From.{monitorFrom}
 use Rattle.monitor.proofs.airtime_of.Statement.{statement}
 use Rattle.monitor.proofs.airtime_of.Tie as tie
 
@@ -9,24 +14,31 @@ byte-requires : tie.Need-byte-requires
 byte-requires c κs = search needs
 
 returns : tie.Need-returns
-returns c offsets = let a = c .before .before .before .args in sym (airtime-past (a .table .now) offsets (a .kind) (omega arith))
-
-mul-byte : tie.Need-mul-byte
-mul-byte c = search needs
-
-add-byte : tie.Need-add-byte
-add-byte c = search needs
-
-add-byte-2 : tie.Need-add-byte-2
-add-byte-2 c = search needs
+unfolding monitorFrom
+returns c offsets = let b = c .before .before .before .args .table .now in sym (getD-tab-past (λ k. byteAt b (kindAt (versionAt b) k + 1)) 0 (kindsAt b) (c .before .before .before .args .kind) (omega arith))
 
 byte-requires-2 : tie.Need-byte-requires-2
 byte-requires-2 c κs = search needs
 
+kind-at-requires : tie.Need-kind-at-requires
+kind-at-requires c κs = search needs
+
+cast-byte : tie.Need-cast-byte
+cast-byte c = search needs
+
+add-byte : tie.Need-add-byte
+add-byte c = search needs
+
+byte-requires-3 : tie.Need-byte-requires-3
+byte-requires-3 c κs = search needs
+
 returns-2 : tie.Need-returns-2
+unfolding monitorFrom
 returns-2 c offsets =
-    let a = c .before .before .before .before .args in
-    c .byte2 .ensures .0 ∙ sym (airtime-there (a .table .now) offsets (a .kind) (omega arith))
+    let b = c .before .before .before .before .before .before .args .table .now in
+    c .byte3 .ensures .0
+    ∙ ap (λ (at : ℕ). byteAt b (at + 1)) (c .before .kind-at .ensures ∙ ap (λ (v : ℕ). kindAt v (c .before .before .before .before .before .before .args .kind)) (c .before .before .byte2 .ensures .0))
+    ∙ sym (getD-tab (λ k. byteAt b (kindAt (versionAt b) k + 1)) 0 (kindsAt b) (c .before .before .before .before .before .before .args .kind) (omega arith))
 
 pub airtime-of-spec : {M : Type 1} → statement M
-airtime-of-spec = tie.close (tie.spec byte-requires returns mul-byte add-byte add-byte-2 byte-requires-2 returns-2)
+airtime-of-spec = tie.close (tie.spec byte-requires returns byte-requires-2 kind-at-requires cast-byte add-byte byte-requires-3 returns-2)

@@ -5,10 +5,12 @@ use Rattle.monitor.specs.From.{offsetsOf}
 use Prim.Native.Nat.{ℕ, suc, _+_, _*_, _-_, _≤_, _<_, min}
 use native.Mathlib.Omega.{arith}
 use native.Mathlib.Numerals.{add-one}
-use mathlib.Core.Path.{_≡_, refl, sym, ap, _∙_}
+use mathlib.Core.Path.{_≡_, refl, sym, ap, ap₂, _∙_}
 use Rattle.model.specs.Limits.{transitionLimit}
 use Rattle.model.specs.Bytes.{byteAt, tab, padded}
+use Rattle.model.specs.Kinds.{kindAt}
 use Rattle.model.specs.Table.{transitionsAt, transitionAt}
+use Rattle.model.proofs.KindForm.{kind-most}
 use Rattle.model.proofs.Basics.{length-tab}
 use borrow.Author.Needs.{needs}
 use Rattle.monitor.proofs.offsets.Statement.{statement}
@@ -36,7 +38,7 @@ padded-more size f i h l v e is =
     ∙ ap (λ (n : ℕ). padded size (tab f n)) (sym (add-one i)))
 
 abbrev Inv-loop : tie.InvT-loop
-Inv-loop table found₀ count at₀ j₀ found at j = (j ≤ count) × (count ≡ min (transitionsAt table) transitionLimit) × (at ≡ transitionAt table j) × (at ≤ 518 + 262 * j) × (found ≡ padded transitionLimit (tab (transitionAt table) j))
+Inv-loop table found₀ count at₀ j₀ found at j = (j ≤ count) × (count ≡ min (transitionsAt table) transitionLimit) × (at ≡ transitionAt table j) × (at ≤ 773 + 262 * j) × (found ≡ padded transitionLimit (tab (transitionAt table) j))
 
 abbrev μ-loop : tie.MeasureT-loop
 μ-loop table found₀ count at₀ j₀ found at j = count - j
@@ -47,24 +49,22 @@ transitions-requires c κs = search needs
 byte-requires : tie.Need-byte-requires Inv-loop μ-loop
 byte-requires c κs = search needs
 
-cast-at : tie.Need-cast-at Inv-loop μ-loop
-cast-at c = search needs
+byte-requires-2 : tie.Need-byte-requires-2 Inv-loop μ-loop
+byte-requires-2 c κs = search needs
 
-mul-at : tie.Need-mul-at Inv-loop μ-loop
-mul-at c = search needs
-
-add-at : tie.Need-add-at Inv-loop μ-loop
-add-at c = search needs
+kind-at-requires : tie.Need-kind-at-requires Inv-loop μ-loop
+kind-at-requires c κs = search needs
 
 loop-holds : tie.Need-loop-holds Inv-loop μ-loop
 unfolding transitionAt tab padded
-loop-holds c = (
-  omega arith,
-  c .before .transitions .ensures,
-  ap (λ (n : ℕ). 8 + 2 * n) (c .byte .ensures .0),
-  omega arith,
-  refl,
-)
+loop-holds c =
+    let most = kind-most (c .before .before .byte .result) (c .before .byte2 .result) (omega arith) in (
+      omega arith,
+      c .before .before .before .transitions .ensures,
+      c .kind-at .ensures ∙ ap₂ kindAt (c .before .before .byte .ensures .0) (c .before .byte2 .ensures .0),
+      omega (arith, c .kind-at .ensures),
+      refl,
+    )
 
 mul-found : tie.Need-mul-found Inv-loop μ-loop
 mul-found c = search needs
@@ -78,17 +78,17 @@ cast-byte c = search needs
 add-byte : tie.Need-add-byte Inv-loop μ-loop
 add-byte c = search needs
 
-byte-requires-2 : tie.Need-byte-requires-2 Inv-loop μ-loop
-byte-requires-2 c κs = search needs
+byte-requires-3 : tie.Need-byte-requires-3 Inv-loop μ-loop
+byte-requires-3 c κs = search needs
 
-cast-at-2 : tie.Need-cast-at-2 Inv-loop μ-loop
-cast-at-2 c = search needs
+cast-at : tie.Need-cast-at Inv-loop μ-loop
+cast-at c = search needs
+
+add-at : tie.Need-add-at Inv-loop μ-loop
+add-at c = search needs
 
 add-at-2 : tie.Need-add-at-2 Inv-loop μ-loop
 add-at-2 c = search needs
-
-add-at-3 : tie.Need-add-at-3 Inv-loop μ-loop
-add-at-3 c = search needs
 
 add-j : tie.Need-add-j Inv-loop μ-loop
 add-j c = search needs
@@ -99,9 +99,9 @@ loop-less c = search needs
 loop-again : tie.Need-loop-again Inv-loop μ-loop
 loop-again c =
     let l = c .before .before .loop in
-    let table = c .before .before .before .before .before .before .args .table .now in
-    let next : l .at + (7 + c .byte2 .result) ≡ transitionAt table (l .j + 1) =
-    next-record table (l .j) (l .at) (c .byte2 .result) (l .inv .2) (c .byte2 .ensures .0) in (
+    let table = c .before .before .before .before .before .before .before .before .args .table .now in
+    let next : l .at + (7 + c .byte3 .result) ≡ transitionAt table (l .j + 1) =
+    next-record table (l .j) (l .at) (c .byte3 .result) (l .inv .2) (c .byte3 .ensures .0) in (
       omega arith,
       l .inv .1,
       next,
@@ -113,7 +113,7 @@ returns : tie.Need-returns Inv-loop μ-loop
 unfolding offsetsOf
 returns c =
     let l = c .before .loop in
-    let table = c .before .before .before .before .before .args .table .now in
+    let table = c .before .before .before .before .before .before .before .args .table .now in
     let full : l .j ≡ min (transitionsAt table) transitionLimit = omega arith in
     l .inv .4 ∙ ap (λ (n : ℕ). padded transitionLimit (tab (transitionAt table) n)) full
 
@@ -125,18 +125,17 @@ offsets-spec =
     μ-loop
     transitions-requires
     byte-requires
-    cast-at
-    mul-at
-    add-at
+    byte-requires-2
+    kind-at-requires
     loop-holds
     mul-found
     array-write-found
     cast-byte
     add-byte
-    byte-requires-2
-    cast-at-2
+    byte-requires-3
+    cast-at
+    add-at
     add-at-2
-    add-at-3
     add-j
     loop-less
     loop-again

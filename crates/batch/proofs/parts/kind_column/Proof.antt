@@ -29,7 +29,7 @@ bytes-column-requires c κs = search needs
 returns : tie.Need-returns
 returns c =
     let a = c .before .before .before .before .before .before .args in
-    c .before .bytes-column .ensures ∙ same-filled (λ i. byteAt (a .b .now) (8 + a .field + 2 * i)) kindLimit _ _ _ _ (c .before .before .before .byte2 .ensures .0) (c .before .before .before .before .byte .ensures .0)
+    c .before .bytes-column .ensures ∙ same-filled (λ i. byteAt (a .b .now) (9 + a .field + 3 * i)) kindLimit _ _ _ _ (c .before .before .before .byte2 .ensures .0) (c .before .before .before .before .byte .ensures .0)
 
 pub kind-column-spec : {M : Type 1} → statement M
 kind-column-spec =

@@ -10,6 +10,9 @@ kind-column-requires c κs = search needs
 kind-column-requires-2 : tie.Need-kind-column-requires-2
 kind-column-requires-2 c κs = search needs
 
+kind-column-requires-3 : tie.Need-kind-column-requires-3
+kind-column-requires-3 c κs = search needs
+
 transition-column-requires : tie.Need-transition-column-requires
 transition-column-requires c κs = search needs
 
@@ -49,25 +52,30 @@ byte-requires-4 c κs = search needs
 byte-requires-5 : tie.Need-byte-requires-5
 byte-requires-5 c κs = search needs
 
+byte-requires-6 : tie.Need-byte-requires-6
+byte-requires-6 c κs = search needs
+
 returns : tie.Need-returns
 unfolding tableGiven
 returns c = λ i.
     record {
-      states = (c .before .before .before .before .byte .ensures .0) i;
-      variables = (c .before .before .before .byte2 .ensures .0) i;
-      clocks = (c .before .before .byte3 .ensures .0) i;
-      kinds = (c .before .byte4 .ensures .0) i;
-      transitions = (c .byte5 .ensures .0) i;
-      directions = (c .before .before .before .before .before .before .before .before .before .before .before .before .before .before .kind-column .ensures) i;
-      airtimes = (c .before .before .before .before .before .before .before .before .before .before .before .before .before .kind-column2 .ensures) i;
-      sources = (c .before .before .before .before .before .before .before .before .before .before .before .before .transition-column .ensures) i;
-      targets = (c .before .before .before .before .before .before .before .before .before .before .before .transition-column2 .ensures) i;
-      triggers = (c .before .before .before .before .before .before .before .before .before .before .transition-column3 .ensures) i;
-      sets = (c .before .before .before .before .before .before .before .before .before .transition-column4 .ensures) i;
-      clears = (c .before .before .before .before .before .before .before .before .transition-column5 .ensures) i;
-      resets = (c .before .before .before .before .before .before .before .transition-column6 .ensures) i;
-      lengths = (c .before .before .before .before .before .before .transition-column7 .ensures) i;
-      guards = (c .before .before .before .before .before .guard-places .ensures) i;
+      version = (c .before .before .before .before .before .byte .ensures .0) i;
+      states = (c .before .before .before .before .byte2 .ensures .0) i;
+      variables = (c .before .before .before .byte3 .ensures .0) i;
+      clocks = (c .before .before .byte4 .ensures .0) i;
+      kinds = (c .before .byte5 .ensures .0) i;
+      transitions = (c .byte6 .ensures .0) i;
+      directions = (c .before .before .before .before .before .before .before .before .before .before .before .before .before .before .before .before .kind-column .ensures) i;
+      airtimes = (c .before .before .before .before .before .before .before .before .before .before .before .before .before .before .before .kind-column2 .ensures) i;
+      devices = (c .before .before .before .before .before .before .before .before .before .before .before .before .before .before .kind-column3 .ensures) i;
+      sources = (c .before .before .before .before .before .before .before .before .before .before .before .before .before .transition-column .ensures) i;
+      targets = (c .before .before .before .before .before .before .before .before .before .before .before .before .transition-column2 .ensures) i;
+      triggers = (c .before .before .before .before .before .before .before .before .before .before .before .transition-column3 .ensures) i;
+      sets = (c .before .before .before .before .before .before .before .before .before .before .transition-column4 .ensures) i;
+      clears = (c .before .before .before .before .before .before .before .before .before .transition-column5 .ensures) i;
+      resets = (c .before .before .before .before .before .before .before .before .transition-column6 .ensures) i;
+      lengths = (c .before .before .before .before .before .before .before .transition-column7 .ensures) i;
+      guards = (c .before .before .before .before .before .before .guard-places .ensures) i;
     }
 
 pub table-parts-spec : {M : Type 1} → statement M
@@ -76,6 +84,7 @@ table-parts-spec =
     (tie.spec
     kind-column-requires
     kind-column-requires-2
+    kind-column-requires-3
     transition-column-requires
     transition-column-requires-2
     transition-column-requires-3
@@ -89,4 +98,5 @@ table-parts-spec =
     byte-requires-3
     byte-requires-4
     byte-requires-5
+    byte-requires-6
     returns)

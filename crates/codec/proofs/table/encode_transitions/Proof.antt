@@ -6,15 +6,16 @@ use lib.ListN.{length}
 use Rattle.model.specs.Limits.{transitionLimit}
 use Rattle.model.specs.Bytes.{joined}
 use Rattle.model.specs.Room.{over}
-use Rattle.model.specs.Table.{transitionBytes}
+use Rattle.model.specs.Table.{transitionBytes, tableLimit}
+use Rattle.codec.proofs.Encoded.{kinds-room}
 use Rattle.frame.proofs.Written.{joined-none, joined-more}
 use borrow.Author.Needs.{needs}
 use Rattle.codec.proofs.table.encode_transitions.Statement.{statement}
 use Rattle.codec.proofs.table.encode_transitions.Tie as tie
 
 abbrev Inv-loop : tie.InvT-loop
-Inv-loop t out₀ n at₀ i₀ out at i = (i ≤ n) × (n ≤ transitionLimit) × (at ≤ 72 + 39 * i) × (length out ≡ length out₀)
-    × ((head room : List ℕ) → length head ≡ at₀ → 2568 ≤ length room → out₀ ≡ over head room
+Inv-loop t out₀ n at₀ i₀ out at i = (i ≤ n) × (n ≤ transitionLimit) × (at ≤ 104 + 39 * i) × (length out ≡ length out₀)
+    × ((head room : List ℕ) → length head ≡ at₀ → tableLimit ≤ length room → out₀ ≡ over head room
     → (out ≡ over (head ++ joined (transitionBytes t) i) room) × (at ≡ length (head ++ joined (transitionBytes t) i)))
 
 abbrev μ-loop : tie.MeasureT-loop
@@ -23,20 +24,17 @@ abbrev μ-loop : tie.MeasureT-loop
 cast-n : tie.Need-cast-n Inv-loop μ-loop
 cast-n c = search needs
 
+kind-at-requires : tie.Need-kind-at-requires Inv-loop μ-loop
+kind-at-requires c κs = search needs
+
 cast-at : tie.Need-cast-at Inv-loop μ-loop
 cast-at c = search needs
-
-mul-at : tie.Need-mul-at Inv-loop μ-loop
-mul-at c = search needs
-
-add-at : tie.Need-add-at Inv-loop μ-loop
-add-at c = search needs
 
 loop-holds : tie.Need-loop-holds Inv-loop μ-loop
 loop-holds c = let t = c .before .before .before .args .t in (
   omega arith,
   omega arith,
-  omega arith,
+  omega (arith, c .kind-at .ensures, kinds-room (t .version) (t .kinds) (c .before .before .before .pre .0)),
   refl,
   λ head room h k e.
       let none = joined-none head (transitionBytes t) in
@@ -73,7 +71,7 @@ returns : tie.Need-returns Inv-loop μ-loop
 returns c = let t = c .before .before .before .before .before .args .t in
     let all : c .before .loop .i ≡ t .transitions = omega arith in (
       λ head room h k e.
-          let q = c .before .loop .inv .4 head room h k e in
+          let q = c .before .loop .inv .4 head room (h ∙ sym (c .before .before .kind-at .ensures)) k e in
           (q .0 ∙ ap (λ n. over (head ++ joined (transitionBytes t) n) room) all, q .1 ∙ ap (λ n. length (head ++ joined (transitionBytes t) n)) all),
       omega arith,
     )
@@ -85,9 +83,8 @@ encode-transitions-spec =
     Inv-loop
     μ-loop
     cast-n
+    kind-at-requires
     cast-at
-    mul-at
-    add-at
     loop-holds
     put-transition-requires
     add-i

@@ -2,16 +2,18 @@ use Prim.Native.Nat.{_<_, _≤_, _-_, _+_, _*_}
 use Rattle.model.specs.Limits.{guardLimit, transitionLimit}
 use Rattle.codec.proofs.Tables.{next-at, guard-inside, guard-turn}
 use native.Mathlib.Omega.{arith}
-use mathlib.Core.Path.{_≡_, sym, refl, ap, _∙_}
+use mathlib.Core.Path.{_≡_, sym, refl, ap, ap₂, _∙_}
 use lib.ListN.{length}
 use Rattle.model.specs.Bytes.{joined, padded}
+use Rattle.model.specs.Kinds.{kindAt}
+use Rattle.model.proofs.KindForm.{kind-most}
 use Rattle.model.specs.Table.{transitionAt, transitionsAt, guardPlace}
 use borrow.Author.Needs.{needs}
 use Rattle.codec.proofs.table.guard_places.Statement.{statement}
 use Rattle.codec.proofs.table.guard_places.Tie as tie
 
 abbrev Inv-loop : tie.InvT-loop
-Inv-loop b n guards₀ at₀ i₀ guards at i = (i ≤ n) × (n ≡ transitionsAt b) × (at ≤ 518 + 262 * i) × (at ≡ transitionAt b i) × (length guards ≡ 2048) × (guards ≡ padded (guardLimit * transitionLimit) (joined (guardPlace b) i))
+Inv-loop b n guards₀ at₀ i₀ guards at i = (i ≤ n) × (n ≡ transitionsAt b) × (at ≤ 773 + 262 * i) × (at ≡ transitionAt b i) × (length guards ≡ 2048) × (guards ≡ padded (guardLimit * transitionLimit) (joined (guardPlace b) i))
 
 abbrev μ-loop : tie.MeasureT-loop
 μ-loop b n guards₀ at₀ i₀ guards at i = n - i
@@ -25,18 +27,20 @@ cast-n c = search needs
 byte-requires-2 : tie.Need-byte-requires-2 Inv-loop μ-loop
 byte-requires-2 c κs = search needs
 
+byte-requires-3 : tie.Need-byte-requires-3 Inv-loop μ-loop
+byte-requires-3 c κs = search needs
+
+kind-at-requires : tie.Need-kind-at-requires Inv-loop μ-loop
+kind-at-requires c κs = search needs
+
 cast-at : tie.Need-cast-at Inv-loop μ-loop
 cast-at c = search needs
 
-mul-at : tie.Need-mul-at Inv-loop μ-loop
-mul-at c = search needs
-
-add-at : tie.Need-add-at Inv-loop μ-loop
-add-at c = search needs
-
 loop-holds : tie.Need-loop-holds Inv-loop μ-loop
 unfolding padded joined transitionAt
-loop-holds c = (omega arith, c .before .byte .ensures .0, omega arith, ap (λ n. 8 + 2 * n) (c .byte2 .ensures .0), refl, refl)
+loop-holds c =
+    let most = kind-most (c .before .before .byte2 .result) (c .before .byte3 .result) (omega arith) in
+    (omega arith, c .before .before .before .byte .ensures .0, omega (arith, c .kind-at .ensures), c .kind-at .ensures ∙ ap₂ kindAt (c .before .before .byte2 .ensures .0) (c .before .byte3 .ensures .0), refl, refl)
 
 add-from : tie.Need-add-from Inv-loop μ-loop
 add-from c = search needs
@@ -44,8 +48,8 @@ add-from c = search needs
 add-byte : tie.Need-add-byte Inv-loop μ-loop
 add-byte c = search needs
 
-byte-requires-3 : tie.Need-byte-requires-3 Inv-loop μ-loop
-byte-requires-3 c κs = search needs
+byte-requires-4 : tie.Need-byte-requires-4 Inv-loop μ-loop
+byte-requires-4 c κs = search needs
 
 cast-to : tie.Need-cast-to Inv-loop μ-loop
 cast-to c = search needs
@@ -61,7 +65,7 @@ part-place-start c = search needs
 
 part-place-end : tie.Need-part-place-end Inv-loop μ-loop
 part-place-end c = let l = c .before .before .loop in
-    omega (arith, guard-inside (c .before .before .before .before .before .before .args .b .now) (c .before .before .before .before .before .before .pre) (l .i) (l .at) (c .byte3 .result) (omega arith) (l .inv .3) (c .byte3 .ensures .0) .1)
+    omega (arith, guard-inside (c .before .before .before .before .before .before .before .before .args .b .now) (c .before .before .before .before .before .before .before .before .pre) (l .i) (l .at) (c .byte4 .result) (omega arith) (l .inv .3) (c .byte4 .ensures .0) .1)
 
 slice-aggregate-place : tie.Need-slice-aggregate-place Inv-loop μ-loop
 slice-aggregate-place c = sym (c .before .before .before .before .loop .inv .4)
@@ -79,20 +83,20 @@ loop-less : tie.Need-loop-less Inv-loop μ-loop
 loop-less c = search needs
 
 loop-again : tie.Need-loop-again Inv-loop μ-loop
-loop-again c = let b = c .before .before .before .before .before .before .before .before .before .before .args .b .now in
+loop-again c = let b = c .before .before .before .before .before .before .before .before .before .before .before .before .args .b .now in
     let l = c .before .before .before .before .before .before .loop in
     let within : l .i < transitionsAt b = omega arith in (
       omega arith,
       l .inv .1,
       omega arith,
-      next-at b (l .at) (l .i) (c .before .before .before .before .byte3 .result) (l .inv .3) (c .before .before .before .before .byte3 .ensures .0),
+      next-at b (l .at) (l .i) (c .before .before .before .before .byte4 .result) (l .inv .3) (c .before .before .before .before .byte4 .ensures .0),
       c .before .place .kept .1 .0 ∙ l .inv .4,
-      c .before .place .ensures ∙ guard-turn b (c .before .before .before .before .before .before .before .before .before .before .pre) (l .i) (l .at) (c .before .before .before .before .byte3 .result) within (l .inv .3) (c .before .before .before .before .byte3 .ensures .0) (l .guards) (l .inv .5),
+      c .before .place .ensures ∙ guard-turn b (c .before .before .before .before .before .before .before .before .before .before .before .before .pre) (l .i) (l .at) (c .before .before .before .before .byte4 .result) within (l .inv .3) (c .before .before .before .before .byte4 .ensures .0) (l .guards) (l .inv .5),
     )
 
 returns : tie.Need-returns Inv-loop μ-loop
-returns c = let all : c .before .loop .i ≡ transitionsAt (c .before .before .before .before .before .args .b .now) = omega arith in
-    c .before .loop .inv .5 ∙ ap (λ n. padded (guardLimit * transitionLimit) (joined (guardPlace (c .before .before .before .before .before .args .b .now)) n)) all
+returns c = let all : c .before .loop .i ≡ transitionsAt (c .before .before .before .before .before .before .before .args .b .now) = omega arith in
+    c .before .loop .inv .5 ∙ ap (λ n. padded (guardLimit * transitionLimit) (joined (guardPlace (c .before .before .before .before .before .before .before .args .b .now)) n)) all
 
 pub guard-places-spec : {M : Type 1} → statement M
 guard-places-spec =
@@ -103,13 +107,13 @@ guard-places-spec =
     byte-requires
     cast-n
     byte-requires-2
+    byte-requires-3
+    kind-at-requires
     cast-at
-    mul-at
-    add-at
     loop-holds
     add-from
     add-byte
-    byte-requires-3
+    byte-requires-4
     cast-to
     add-to
     sub-place

@@ -1,34 +1,42 @@
-use native.Mathlib.Nat.{sub-zero}
-use Prim.Native.Nat.{_≤_, _-_, _+_, _*_}
+use Prim.Native.Nat.{ℕ, _≤_, _<_, _-_}
 use native.Mathlib.Omega.{arith}
-use mathlib.Core.Path.{_≡_, sym, ap, _∙_}
-use Rattle.model.specs.Table.{kindRecords}
-use Rattle.frame.proofs.Answers.{turn-stops, turn-goes}
-use Rattle.codec.proofs.Steps.{kinds-turn, kinds-end}
+use mathlib.Core.Path.{_≡_, refl, sym, ap, ap₂, _∙_}
+use borrow.Author.Tests.{not-true, not-false}
+use lib.ListN.{getD}
+use Rattle.model.specs.Kinds.{versionAt, kindAt, kindRecord}
+use Rattle.model.specs.Table.{kindRecords, kindsAt}
+use Rattle.model.specs.declared.Reading.{Reading}
+use Rattle.model.specs.declared.Reading.the-variants.{Sound}
+use Rattle.model.proofs.Tests.{first-passed}
+use Rattle.frame.proofs.Answers.{sound-is}
+use Rattle.codec.proofs.Steps.{first-stops, passed-more}
 use borrow.Author.Needs.{needs}
 use Rattle.codec.proofs.table.kind_records.Statement.{statement}
 use Rattle.codec.proofs.table.kind_records.Tie as tie
 
 abbrev Inv-loop : tie.InvT-loop
-Inv-loop b n i₀ i = (i ≤ n) × (n ≤ 255) × (kindRecords n b 8 ≡ kindRecords (n - i) b (8 + 2 * i))
+Inv-loop b devices version n i₀ i = (i ≤ n) × (version ≡ versionAt b) × (n ≡ kindsAt b) × ((k : ℕ) → k < i → kindRecord b (kindAt (versionAt b) k) (getD devices k 0) ≡ Sound)
 
 abbrev μ-loop : tie.MeasureT-loop
-μ-loop b n i₀ i = n - i
+μ-loop b devices version n i₀ i = n - i
 
 byte-requires : tie.Need-byte-requires Inv-loop μ-loop
 byte-requires c κs = search needs
 
-cast-n : tie.Need-cast-n Inv-loop μ-loop
-cast-n c = search needs
+byte-requires-2 : tie.Need-byte-requires-2 Inv-loop μ-loop
+byte-requires-2 c κs = search needs
 
 loop-holds : tie.Need-loop-holds Inv-loop μ-loop
-loop-holds c = (omega arith, search needs, rw sub-zero)
+loop-holds c = (omega arith, c .before .byte .ensures .0, c .byte2 .ensures .0, λ k h. absurd (omega arith))
 
-mul-kind-record : tie.Need-mul-kind-record Inv-loop μ-loop
-mul-kind-record c = search needs
+kind-at-requires : tie.Need-kind-at-requires Inv-loop μ-loop
+kind-at-requires c κs = search needs
 
-add-kind-record : tie.Need-add-kind-record Inv-loop μ-loop
-add-kind-record c = search needs
+cast-byte : tie.Need-cast-byte Inv-loop μ-loop
+cast-byte c = search needs
+
+byte-requires-3 : tie.Need-byte-requires-3 Inv-loop μ-loop
+byte-requires-3 c κs = search needs
 
 kind-record-requires : tie.Need-kind-record-requires Inv-loop μ-loop
 kind-record-requires c κs = search needs
@@ -37,11 +45,13 @@ sound-requires : tie.Need-sound-requires Inv-loop μ-loop
 sound-requires c κs = search needs
 
 returns : tie.Need-returns Inv-loop μ-loop
-returns c = let n = c .before .before .before .before .before .byte .result in
-    let b = c .before .before .before .before .before .before .before .args .b .now in
-    let i = c .before .before .before .before .loop .i in
-    turn-stops _ _ _ _ _ (kinds-turn b n i (c .before .before .before .loop-test .taken)) (c .before .before .kind-record .ensures) (c .before .sound .ensures) (c .if1 .taken) ∙ sym (c .before .before .before .before .loop .inv .2)
-    ∙ ap (λ k. kindRecords k b 8) (c .before .before .before .before .before .byte .ensures .0)
+unfolding kindRecords
+returns c =
+    let b = c .before .before .before .before .before .before .before .before .before .before .before .args .b .now in
+    let l = c .before .before .before .before .before .before .loop in
+    let at = c .before .before .before .before .kind-at .ensures ∙ ap (λ (v : ℕ). kindAt v (l .i)) (l .inv .1) in
+    let here = c .before .before .kind-record .ensures ∙ ap₂ (kindRecord b) at (c .before .before .before .byte3 .ensures .0) in
+    first-stops (λ k. kindRecord b (kindAt (versionAt b) k) (getD (c .before .before .before .before .before .before .before .before .before .before .before .args .devices .now) k 0)) (kindsAt b) (l .i) _ (omega arith) (l .inv .3) here (sym (c .before .sound .ensures) ∙ not-true (c .before .sound .result) (c .if1 .taken))
 
 add-i : tie.Need-add-i Inv-loop μ-loop
 add-i c = search needs
@@ -50,18 +60,23 @@ loop-less : tie.Need-loop-less Inv-loop μ-loop
 loop-less c = search needs
 
 loop-again : tie.Need-loop-again Inv-loop μ-loop
-loop-again c = let n = c .before .before .before .before .before .byte .result in
-    let b = c .before .before .before .before .before .before .before .args .b .now in
-    let i = c .before .before .before .before .loop .i in (
+loop-again c =
+    let b = c .before .before .before .before .before .before .before .before .before .before .before .args .b .now in
+    let l = c .before .before .before .before .before .before .loop in
+    let at = c .before .before .before .before .kind-at .ensures ∙ ap (λ (v : ℕ). kindAt v (l .i)) (l .inv .1) in
+    let here = c .before .before .kind-record .ensures ∙ ap₂ (kindRecord b) at (c .before .before .before .byte3 .ensures .0) in (
       omega arith,
-      omega arith,
-      c .before .before .before .before .loop .inv .2 ∙ turn-goes _ _ _ _ _ (kinds-turn b n i (c .before .before .before .loop-test .taken)) (c .before .before .kind-record .ensures) (c .before .sound .ensures) (c .if1 .left),
+      l .inv .1,
+      l .inv .2,
+      passed-more (λ k. kindRecord b (kindAt (versionAt b) k) (getD (c .before .before .before .before .before .before .before .before .before .before .before .args .devices .now) k 0)) (l .i) (l .inv .3) (sym here ∙ sound-is _ (sym (c .before .sound .ensures) ∙ not-false (c .before .sound .result) (c .if1 .left))),
     )
 
 returns-2 : tie.Need-returns-2 Inv-loop μ-loop
-returns-2 c = let n = c .before .before .byte .result in
-    let b = c .before .before .before .before .args .b .now in
-    sym (c .before .loop .inv .2 ∙ kinds-end b n (c .before .loop .i) (c .loop-test .left)) ∙ ap (λ k. kindRecords k b 8) (c .before .before .byte .ensures .0)
+unfolding kindRecords
+returns-2 c =
+    let b = c .before .before .before .before .before .before .args .b .now in
+    let l = c .before .loop in
+    sym (first-passed (λ k. kindRecord b (kindAt (versionAt b) k) (getD (c .before .before .before .before .before .before .args .devices .now) k 0)) (kindsAt b) (λ k h. l .inv .3 k (omega arith)))
 
 pub kind-records-spec : {M : Type 1} → statement M
 kind-records-spec =
@@ -70,10 +85,11 @@ kind-records-spec =
     Inv-loop
     μ-loop
     byte-requires
-    cast-n
+    byte-requires-2
     loop-holds
-    mul-kind-record
-    add-kind-record
+    kind-at-requires
+    cast-byte
+    byte-requires-3
     kind-record-requires
     sound-requires
     returns

@@ -11,8 +11,8 @@ use Rattle.codec.proofs.table.put_guard.Tie as tie
 mul-from : tie.Need-mul-from
 mul-from c = search needs
 
-within-place-requires : tie.Need-within-place-requires
-within-place-requires c κs = search needs
+smaller-requires : tie.Need-smaller-requires
+smaller-requires c κs = search needs
 
 add-to : tie.Need-add-to
 add-to c = search needs
@@ -37,9 +37,9 @@ same-length c = search needs
 
 returns : tie.Need-returns
 returns c = let a = c .before .before .before .before .before .before .before .before .args in
-    let w = c .before .before .before .before .before .within-place .result in (
-      c .before .before .place .ensures ∙ ap (λ (l : List ℕ). placed l (a .at) (a .out .now)) (guard-part (a .guards .now) (a .j) (a .count) w (c .before .before .before .before .before .within-place .ensures)),
-      guard-count (a .guards .now) (a .j) (a .count) w (c .before .before .before .before .before .within-place .ensures) (c .before .before .before .before .before .before .before .before .pre .0) (c .before .before .before .before .before .before .before .before .pre .1),
+    let w = c .before .before .before .before .before .smaller .result in (
+      c .before .before .place .ensures ∙ ap (λ (l : List ℕ). placed l (a .at) (a .out .now)) (guard-part (a .guards .now) (a .j) (a .count) w (c .before .before .before .before .before .smaller .ensures)),
+      guard-count (a .guards .now) (a .j) (a .count) w (c .before .before .before .before .before .smaller .ensures) (c .before .before .before .before .before .before .before .before .pre .0) (c .before .before .before .before .before .before .before .before .pre .1),
       omega arith,
     )
 
@@ -48,7 +48,7 @@ put-guard-spec =
     tie.close
     (tie.spec
     mul-from
-    within-place-requires
+    smaller-requires
     add-to
     sub-place
     part-place-start

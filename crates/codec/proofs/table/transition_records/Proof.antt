@@ -2,8 +2,10 @@ use Prim.Native.Nat.{_≤_, _<_, _-_, _+_, _*_}
 use native.Mathlib.Omega.{arith}
 use native.Mathlib.Nat.{sub-zero}
 use borrow.Author.Tests.{eq-eqb, ne-eqb}
-use mathlib.Core.Path.{_≡_, sym, _∙_}
-use Rattle.model.specs.Table.{transitionRecords}
+use mathlib.Core.Path.{_≡_, sym, ap₂, _∙_}
+use Rattle.model.specs.Kinds.{kindAt}
+use Rattle.model.specs.Table.{transitionRecords, transitionAt}
+use Rattle.model.proofs.KindForm.{kind-most}
 use Rattle.frame.proofs.Answers.{turn-stops, turn-goes}
 use Rattle.codec.proofs.Steps.{transitions-turn, transitions-end}
 use borrow.Author.Needs.{needs}
@@ -11,7 +13,7 @@ use Rattle.codec.proofs.table.transition_records.Statement.{statement}
 use Rattle.codec.proofs.table.transition_records.Tie as tie
 
 abbrev Inv-loop : tie.InvT-loop
-Inv-loop b n at₀ i₀ at i = (i ≤ n) × (n < 256) × (at ≤ 518 + 262 * i) × (transitionRecords n b at₀ ≡ transitionRecords (n - i) b at)
+Inv-loop b n at₀ i₀ at i = (i ≤ n) × (n < 256) × (at ≤ 773 + 262 * i) × (transitionRecords n b at₀ ≡ transitionRecords (n - i) b at)
 
 abbrev μ-loop : tie.MeasureT-loop
 μ-loop b n at₀ i₀ at i = n - i
@@ -22,17 +24,19 @@ byte-requires c κs = search needs
 byte-requires-2 : tie.Need-byte-requires-2 Inv-loop μ-loop
 byte-requires-2 c κs = search needs
 
+byte-requires-3 : tie.Need-byte-requires-3 Inv-loop μ-loop
+byte-requires-3 c κs = search needs
+
+kind-at-requires : tie.Need-kind-at-requires Inv-loop μ-loop
+kind-at-requires c κs = search needs
+
 cast-at : tie.Need-cast-at Inv-loop μ-loop
 cast-at c = search needs
 
-mul-at : tie.Need-mul-at Inv-loop μ-loop
-mul-at c = search needs
-
-add-at : tie.Need-add-at Inv-loop μ-loop
-add-at c = search needs
-
 loop-holds : tie.Need-loop-holds Inv-loop μ-loop
-loop-holds c = (omega arith, omega arith, omega arith, rw sub-zero)
+loop-holds c =
+    let most = kind-most (c .before .before .byte2 .result) (c .before .byte3 .result) (omega arith) in
+    (omega arith, omega arith, omega (arith, c .kind-at .ensures), rw sub-zero)
 
 transition-record-requires : tie.Need-transition-record-requires Inv-loop μ-loop
 transition-record-requires c κs = search needs
@@ -41,25 +45,26 @@ sound-requires : tie.Need-sound-requires Inv-loop μ-loop
 sound-requires c κs = search needs
 
 returns : tie.Need-returns Inv-loop μ-loop
+unfolding transitionAt
 returns c = let l = c .before .before .before .before .loop in
-    let b = c .before .before .before .before .before .before .before .before .args .b .now in
-    rw (← c .before .before .before .before .before .before .byte .ensures .0, ← c .before .before .before .before .before .byte2 .ensures .0)
-    (turn-stops _ _ _ _ _ (transitions-turn b (c .before .before .before .before .before .before .byte .result) (l .i) (l .at) (c .before .before .before .loop-test .taken)) (c .before .before .transition-record .ensures) (c .before .sound .ensures) (c .if1 .taken) ∙ sym (l .inv .3))
+    let b = c .before .before .before .before .before .before .before .before .before .before .args .b .now in
+    rw (← c .before .before .before .before .before .before .before .before .byte .ensures .0, ← c .before .before .before .before .before .kind-at .ensures ∙ ap₂ kindAt (c .before .before .before .before .before .before .before .byte2 .ensures .0) (c .before .before .before .before .before .before .byte3 .ensures .0))
+    (turn-stops _ _ _ _ _ (transitions-turn b (c .before .before .before .before .before .before .before .before .byte .result) (l .i) (l .at) (c .before .before .before .loop-test .taken)) (c .before .before .transition-record .ensures) (c .before .sound .ensures) (c .if1 .taken) ∙ sym (l .inv .3))
 
-add-at-2 : tie.Need-add-at-2 Inv-loop μ-loop
-add-at-2 c = search needs
+add-at : tie.Need-add-at Inv-loop μ-loop
+add-at c = search needs
 
 add-byte : tie.Need-add-byte Inv-loop μ-loop
 add-byte c = search needs
 
-byte-requires-3 : tie.Need-byte-requires-3 Inv-loop μ-loop
-byte-requires-3 c κs = search needs
+byte-requires-4 : tie.Need-byte-requires-4 Inv-loop μ-loop
+byte-requires-4 c κs = search needs
 
 cast-at-2 : tie.Need-cast-at-2 Inv-loop μ-loop
 cast-at-2 c = search needs
 
-add-at-3 : tie.Need-add-at-3 Inv-loop μ-loop
-add-at-3 c = search needs
+add-at-2 : tie.Need-add-at-2 Inv-loop μ-loop
+add-at-2 c = search needs
 
 add-i : tie.Need-add-i Inv-loop μ-loop
 add-i c = search needs
@@ -69,27 +74,29 @@ loop-less c = search needs
 
 loop-again : tie.Need-loop-again Inv-loop μ-loop
 loop-again c = let l = c .before .before .before .before .before .loop in
-    let b = c .before .before .before .before .before .before .before .before .before .args .b .now in
-    let length = c .byte3 .ensures .0 in (
+    let b = c .before .before .before .before .before .before .before .before .before .before .before .args .b .now in
+    let length = c .byte4 .ensures .0 in (
       omega arith,
       omega arith,
       omega arith,
       l .inv .3
-          ∙ turn-goes _ _ _ _ _ (transitions-turn b (c .before .before .before .before .before .before .before .byte .result) (l .i) (l .at) (c .before .before .before .before .loop-test .taken)) (c .before .before .before .transition-record .ensures) (c .before .before .sound .ensures) (c .before .if1 .left)
+          ∙ turn-goes _ _ _ _ _ (transitions-turn b (c .before .before .before .before .before .before .before .before .before .byte .result) (l .i) (l .at) (c .before .before .before .before .loop-test .taken)) (c .before .before .before .transition-record .ensures) (c .before .before .sound .ensures) (c .before .if1 .left)
           ∙ rw (← length),
     )
 
 returns-2 : tie.Need-returns-2 Inv-loop μ-loop
+unfolding transitionAt
 returns-2 c = let l = c .before .before .loop in
-    let b = c .before .before .before .before .before .before .args .b .now in
-    rw (← c .before .before .before .before .byte .ensures .0, ← c .before .before .before .byte2 .ensures .0)
-    (sym (l .inv .3 ∙ transitions-end b (c .before .before .before .before .byte .result) (l .i) (l .at) (c .before .loop-test .left) ∙ rw (ne-eqb _ _ (c .if2 .taken))))
+    let b = c .before .before .before .before .before .before .before .before .args .b .now in
+    rw (← c .before .before .before .before .before .before .byte .ensures .0, ← c .before .before .before .kind-at .ensures ∙ ap₂ kindAt (c .before .before .before .before .before .byte2 .ensures .0) (c .before .before .before .before .byte3 .ensures .0))
+    (sym (l .inv .3 ∙ transitions-end b (c .before .before .before .before .before .before .byte .result) (l .i) (l .at) (c .before .loop-test .left) ∙ rw (ne-eqb _ _ (c .if2 .taken))))
 
 returns-3 : tie.Need-returns-3 Inv-loop μ-loop
+unfolding transitionAt
 returns-3 c = let l = c .before .before .loop in
-    let b = c .before .before .before .before .before .before .args .b .now in
-    rw (← c .before .before .before .before .byte .ensures .0, ← c .before .before .before .byte2 .ensures .0)
-    (sym (l .inv .3 ∙ transitions-end b (c .before .before .before .before .byte .result) (l .i) (l .at) (c .before .loop-test .left) ∙ rw (eq-eqb _ _ (c .if2 .left))))
+    let b = c .before .before .before .before .before .before .before .before .args .b .now in
+    rw (← c .before .before .before .before .before .before .byte .ensures .0, ← c .before .before .before .kind-at .ensures ∙ ap₂ kindAt (c .before .before .before .before .before .byte2 .ensures .0) (c .before .before .before .before .byte3 .ensures .0))
+    (sym (l .inv .3 ∙ transitions-end b (c .before .before .before .before .before .before .byte .result) (l .i) (l .at) (c .before .loop-test .left) ∙ rw (eq-eqb _ _ (c .if2 .left))))
 
 pub transition-records-spec : {M : Type 1} → statement M
 transition-records-spec =
@@ -99,18 +106,18 @@ transition-records-spec =
     μ-loop
     byte-requires
     byte-requires-2
+    byte-requires-3
+    kind-at-requires
     cast-at
-    mul-at
-    add-at
     loop-holds
     transition-record-requires
     sound-requires
     returns
-    add-at-2
+    add-at
     add-byte
-    byte-requires-3
+    byte-requires-4
     cast-at-2
-    add-at-3
+    add-at-2
     add-i
     loop-less
     loop-again

@@ -37,7 +37,7 @@ returns : tie.Need-returns
 returns c =
     let w = c .before .before .before .before .before .before .before .before .write-table .ensures in
     let s = c .before .before .before .before .before .before .before .before .before .before .before in
-    table-read _ _ _ _ w _ (sym (length-map (s .args .t .guards) (λ x. x)) ∙ s .good .0 .1 .1 .1 .1 .1 .1 .1 .1 .1 .1 .1 .1 .1 .1 .1 .1 .0 .1 .0 .1) _ (c .before .before .before .before .written .given .1) (c .read-table .ensures .0)
+    table-read _ _ _ _ w _ (sym (length-map (s .args .t .guards) (λ x. x)) ∙ s .good .0 .1 .1 .1 .1 .1 .1 .1 .1 .1 .1 .1 .1 .1 .1 .1 .1 .1 .1 .0 .1 .0 .1) _ (c .before .before .before .before .written .given .1) (c .read-table .ensures .0)
 
 same-length-2 : tie.Need-same-length-2
 same-length-2 c = search needs

@@ -1,11 +1,11 @@
 use mathlib.Core.Path.{sym, _∙_}
 use borrow.Author.Tests.{not-true, not-false}
-use Rattle.model.specs.Table.{tableScan}
+use Rattle.model.specs.Table.{scanWith}
 use Rattle.frame.proofs.Answers.{stops, goes, then-sound}
 use Rattle.codec.proofs.Tables.{counts-are}
 use borrow.Author.Needs.{needs}
-use Rattle.codec.proofs.table.table_scan.Statement.{statement}
-use Rattle.codec.proofs.table.table_scan.Tie as tie
+use Rattle.codec.proofs.table.scan_with.Statement.{statement}
+use Rattle.codec.proofs.table.scan_with.Tie as tie
 
 framed-answer-requires : tie.Need-framed-answer-requires
 framed-answer-requires c κs = search needs
@@ -14,7 +14,7 @@ sound-requires : tie.Need-sound-requires
 sound-requires c κs = search needs
 
 returns : tie.Need-returns
-unfolding tableScan
+unfolding scanWith
 returns c = rw (← c .before .before .framed-answer .ensures, stops _ _ (sym (c .before .sound .ensures) ∙ not-true (c .before .sound .result) (c .if1 .taken)))
 
 byte-requires : tie.Need-byte-requires
@@ -39,8 +39,8 @@ sound-requires-2 : tie.Need-sound-requires-2
 sound-requires-2 c κs = search needs
 
 returns-2 : tie.Need-returns-2
-unfolding tableScan
-returns-2 c = let a = c .before .before .before .before .before .before .before .before .before .before .before .before .args in
+unfolding scanWith
+returns-2 c = let a = c .before .before .before .before .before .before .before .before .before .before .before .before .before .args in
     let counts = c .before .before .counts-answer .ensures ∙ counts-are (a .b .now) _ _ _ _ _ (c .before .before .before .before .before .before .before .byte .ensures .0) (c .before .before .before .before .before .before .byte2 .ensures .0) (c .before .before .before .before .before .byte3 .ensures .0) (c .before .before .before .before .byte4 .ensures .0) (c .before .before .before .byte5 .ensures .0) in
     rw (← c .before .before .before .before .before .before .before .before .before .before .framed-answer .ensures, goes _ _ (sym (c .before .before .before .before .before .before .before .before .before .sound .ensures) ∙ not-false (c .before .before .before .before .before .before .before .before .before .sound .result) (c .before .before .before .before .before .before .before .before .if1 .left)), ← counts, stops _ _ (sym (c .before .sound2 .ensures) ∙ not-true (c .before .sound2 .result) (c .if2 .taken)))
 
@@ -51,8 +51,8 @@ sound-requires-3 : tie.Need-sound-requires-3
 sound-requires-3 c κs = search needs
 
 returns-3 : tie.Need-returns-3
-unfolding tableScan
-returns-3 c = let a = c .before .before .before .before .before .before .before .before .before .before .before .before .before .before .before .args in
+unfolding scanWith
+returns-3 c = let a = c .before .before .before .before .before .before .before .before .before .before .before .before .before .before .before .before .args in
     let counts = c .before .before .before .before .before .counts-answer .ensures ∙ counts-are (a .b .now) _ _ _ _ _ (c .before .before .before .before .before .before .before .before .before .before .byte .ensures .0) (c .before .before .before .before .before .before .before .before .before .byte2 .ensures .0) (c .before .before .before .before .before .before .before .before .byte3 .ensures .0) (c .before .before .before .before .before .before .before .byte4 .ensures .0) (c .before .before .before .before .before .before .byte5 .ensures .0) in
     rw (← c .before .before .before .before .before .before .before .before .before .before .before .before .before .framed-answer .ensures, goes _ _ (sym (c .before .before .before .before .before .before .before .before .before .before .before .before .sound .ensures) ∙ not-false (c .before .before .before .before .before .before .before .before .before .before .before .before .sound .result) (c .before .before .before .before .before .before .before .before .before .before .before .if1 .left)), ← counts, goes _ _ (sym (c .before .before .before .before .sound2 .ensures) ∙ not-false (c .before .before .before .before .sound2 .result) (c .before .before .before .if2 .left)), ← c .before .before .kind-records .ensures, stops _ _ (sym (c .before .sound3 .ensures) ∙ not-true (c .before .sound3 .result) (c .if3 .taken)))
 
@@ -60,13 +60,13 @@ transition-records-requires : tie.Need-transition-records-requires
 transition-records-requires c κs = search needs
 
 returns-4 : tie.Need-returns-4
-unfolding tableScan
-returns-4 c = let a = c .before .before .before .before .before .before .before .before .before .before .before .before .before .before .before .before .args in
+unfolding scanWith
+returns-4 c = let a = c .before .before .before .before .before .before .before .before .before .before .before .before .before .before .before .before .before .args in
     let counts = c .before .before .before .before .before .before .counts-answer .ensures ∙ counts-are (a .b .now) _ _ _ _ _ (c .before .before .before .before .before .before .before .before .before .before .before .byte .ensures .0) (c .before .before .before .before .before .before .before .before .before .before .byte2 .ensures .0) (c .before .before .before .before .before .before .before .before .before .byte3 .ensures .0) (c .before .before .before .before .before .before .before .before .byte4 .ensures .0) (c .before .before .before .before .before .before .before .byte5 .ensures .0) in
     rw (← c .before .before .before .before .before .before .before .before .before .before .before .before .before .before .framed-answer .ensures, goes _ _ (sym (c .before .before .before .before .before .before .before .before .before .before .before .before .before .sound .ensures) ∙ not-false (c .before .before .before .before .before .before .before .before .before .before .before .before .before .sound .result) (c .before .before .before .before .before .before .before .before .before .before .before .before .if1 .left)), ← counts, goes _ _ (sym (c .before .before .before .before .before .sound2 .ensures) ∙ not-false (c .before .before .before .before .before .sound2 .result) (c .before .before .before .before .if2 .left)), ← c .before .before .before .kind-records .ensures, goes _ _ (sym (c .before .before .sound3 .ensures) ∙ not-false (c .before .before .sound3 .result) (c .before .if3 .left)), ← c .transition-records .ensures, then-sound)
 
-pub table-scan-spec : {M : Type 1} → statement M
-table-scan-spec =
+pub scan-with-spec : {M : Type 1} → statement M
+scan-with-spec =
     tie.close
     (tie.spec
     framed-answer-requires
