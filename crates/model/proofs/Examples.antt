@@ -71,9 +71,9 @@ two t k u l = 0 ∷ 9 ∷ 1 ∷ 0 ∷ 2 ∷ 0 ∷ t ∷ k ∷ 0 ∷ u ∷ l ∷ 
 unfoldable pub p5 : List ℕ
 p5 = 0 ∷ 12 ∷ 1 ∷ 0 ∷ 3 ∷ 0 ∷ 1 ∷ 0 ∷ 0 ∷ 3 ∷ 2 ∷ 0 ∷ 6 ∷ 1 ∷ []
 
-pub runs : List Run
-unfolding run table one two p5
-runs =
+unfoldable pub runs : (table : List ℕ) → List Run
+unfolding run one two p5
+runs table =
     run table (0 ∷ 3 ∷ 1 ∷ 0 ∷ 0 ∷ []) 0
     ∷ run table (one 1 0) 10000
     ∷ run table (one 1 1) 10000
@@ -94,7 +94,7 @@ p5Witness : List ℕ
 p5Witness = 0 ∷ 18 ∷ 1 ∷ 0 ∷ 3 ∷ 0 ∷ 0 ∷ 1 ∷ 0 ∷ 0 ∷ 1 ∷ 0 ∷ 3 ∷ 2 ∷ 255 ∷ 0 ∷ 0 ∷ 6 ∷ 1 ∷ 2 ∷ []
 
 -- P1 to P12 in order. P6 has two budgets and P12 two recordings
-pub expected : List Run
+unfoldable pub expected : List Run
 unfolding judged refused p5Witness
 expected =
     judged (values 0 0 0) 6 (0x00 ∷ 0x03 ∷ 0x01 ∷ 0x00 ∷ 0x00 ∷ [])
@@ -137,7 +137,7 @@ p5Output =
 
 -- what document 01 says of P1 to P12
 pub record Page : Type 0 where
-  pub runs-right : runs ≡ expected
+  pub runs-right : runs table ≡ expected
   pub p5-works : works table p5 6 ≡ 1 ∷ 1 ∷ 1 ∷ 2 ∷ 3 ∷ 5 ∷ []
   pub p5-output : printed p5Input ≡ p5Output
 

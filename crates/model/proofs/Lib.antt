@@ -11,6 +11,7 @@ pub mod NumberLaws
 pub mod ScanNumbers
 pub mod TableStates
 pub mod TableTrip
+pub mod DeviceLaws
 pub mod RecordingForm
 pub mod WitnessForm
 pub mod SetLaws
@@ -30,8 +31,11 @@ pub mod RowMoves
 pub mod Judgement
 pub mod VerdictLaws
 pub mod WalkLaws
+pub mod DeviceFree
+pub mod OtherBytes
 pub mod Examples
 pub mod Counterexample
 pub mod Overheard
 pub mod Unreached
+pub mod TwoVersions
 pub mod AnswerLaws

@@ -2,9 +2,11 @@
 use Prim.Native.Nat.{ℕ, _≤_}
 use native.Mathlib.Omega.{arith}
 use mathlib.Core.Path.{_≡_, refl, ap, _∙_}
-use Rattle.model.specs.Numbers.{Values, values, refusalValues, readingValues}
+use Rattle.model.specs.Numbers.{Values, values, refusalValues, readingValues, writingValues}
 use Rattle.model.specs.declared.Reading.{Reading}
 use Rattle.model.specs.declared.Reading.the-variants.{Sound, Unsound}
+use Rattle.model.specs.declared.Writing.{Writing}
+use Rattle.model.specs.declared.Writing.the-variants.{Written, Unwritten}
 use Rattle.model.specs.declared.Refusal.{Refusal}
 use Rattle.model.specs.declared.Refusal.the-variants.{TableFrame, TableVersion, TableCount, TableLength, TableField, TableGuard, TableSize, TableState, RecordingFrame, RecordingVersion, RecordingCount, RecordingRange, RecordingOrder, Scratch, WitnessRoom, WriteRoom, WitnessFrame, WitnessVersion, WitnessCount, WitnessRow}
 
@@ -34,6 +36,10 @@ refusal-number (WitnessRow n) = (omega arith, λ e. absurd (omega arith))
 pub number-0 : (x : Reading) → readingValues x ≡ values 0 0 0 → x ≡ Sound
 number-0 Sound e = refl
 number-0 (Unsound r) e = absurd (omega (arith, ap (λ (v : Values). v .number) e, refusal-number r .0))
+
+pub number-written : (w : Writing) (n : ℕ) → writingValues w ≡ values 0 n 0 → w ≡ Written n
+number-written (Written m) n e = ap Written (ap (λ (v : Values). v .second) e)
+number-written (Unwritten r) n e = absurd (omega (arith, ap (λ (v : Values). v .number) e, refusal-number r .0))
 
 pub number-17 : (x : Reading) (s : ℕ) → readingValues x ≡ values 17 s 0 → x ≡ Unsound (TableState s)
 number-17 Sound s e = absurd (omega (arith, ap (λ (v : Values). v .number) e))

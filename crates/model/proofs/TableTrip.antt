@@ -51,7 +51,7 @@ module _ {devices : List ℕ} (b : List ℕ) (facts : TableFacts devices b) wher
   unfolding tableParts
   length-of j h = getD-column transitionLimit (λ i. byteAt b (transitionAt b i + 6)) (transitionsAt b) j h
 
-  length-few : (j : ℕ) → j < transitionsAt b → byteAt (tableParts b .lengths) j ≤ guardLimit
+  pub length-few : (j : ℕ) → j < transitionsAt b → byteAt (tableParts b .lengths) j ≤ guardLimit
   length-few j h = rw (length-of j h) (facts .transition j h .few)
 
   offset : (j : ℕ) → j ≤ transitionsAt b → transitionAt b 0 + length (joined (transitionBytes (tableParts b)) j) ≡ transitionAt b j

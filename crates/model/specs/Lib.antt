@@ -9,6 +9,7 @@ pub mod Room
 pub mod Size
 pub mod Reach
 pub mod Kinds
+pub mod Devices
 pub mod Table
 pub mod Recording
 pub mod Witness
@@ -19,6 +20,7 @@ pub mod Sane
 pub mod Layers
 pub mod Order
 pub mod Validation
+pub mod Versions
 pub mod Numbers
 pub mod Answers
 pub mod Desk

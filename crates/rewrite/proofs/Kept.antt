@@ -35,35 +35,12 @@ use Rattle.model.specs.declared.Writing.{Writing}
 use Rattle.model.specs.declared.Writing.the-variants.{Written, Unwritten}
 use Rattle.model.proofs.Tests.{test, le-test}
 use Rattle.model.specs.Same.{SameTable, TableZero, SameRecording, RecordingZero, SameWitness, WitnessZero}
+use Rattle.model.proofs.AnswerLaws.{written}
 use Rattle.model.proofs.TableForm.{scan-sound}
 use Rattle.model.proofs.TableTrip.{sound-back, table-back, zero-beyond}
 use Rattle.model.proofs.RecordingForm.{recording-back, recording-zero}
 use Rattle.model.proofs.WitnessForm.{witness-parts-back, witness-zero}
 use Rattle.rewrite.specs.Back.{backBy, tableBack, recordingBack, witnessBack, TableKept, RecordingKept, WitnessKept, ReadsBack}
-
--- bytes that were written were sound, and stand at the start of the room
-written : (a : Reading) (bytes room : List ℕ) (n : ℕ) → write a bytes room .answer ≡ Written n
-    → (a ≡ Sound) × (take n (write a bytes room .room) ≡ bytes) × (n ≤ length (write a bytes room .room))
-written (Unsound r) bytes room n e = absurd (never e)
-  where
-    never : Unwritten r ≡ Written n → ⊥
-    never q = let z : _≡_ {A = ℕ} 0 1 = cc in omega arith
-written Sound bytes room n e = let (stands, fits) = by (leb (length bytes) (length room)) e in (refl, stands, fits)
-  where
-    answered : Bool → Lent
-    answered fits =
-        cond fits (record { answer = Written (length bytes); room = over bytes room }) (record { answer = Unwritten (WriteRoom (length bytes)); room = room })
-
-    by : (fits : Bool) → answered fits .answer ≡ Written n → (take n (answered fits .room) ≡ bytes) × (n ≤ length (answered fits .room))
-    by true q =
-        let whole : length bytes ≡ n = cc in (
-          subst (λ (k : ℕ). take k (bytes ++ drop (length bytes) room) ≡ bytes) whole (take-append-seam bytes (drop (length bytes) room)),
-          omega (arith, length-append bytes (drop (length bytes) room)),
-        )
-    by false q = absurd (never q)
-      where
-        never : Unwritten (WriteRoom (length bytes)) ≡ Written n → ⊥
-        never p = let z : _≡_ {A = ℕ} 0 1 = cc in omega arith
 
 -- what was written lies within the room
 module _ (w : Writing) (roomThen : List ℕ) (n : ℕ) where

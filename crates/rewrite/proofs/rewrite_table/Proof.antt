@@ -25,7 +25,7 @@ same-length c = search needs
 returns-2 : tie.Need-returns-2
 returns-2 c =
     table-rewritten _ _ (λ i. omega (arith, c .before .before .before .before .before .before .before .before .before .shared-slice-known .given i)) _ (c .before .before .before .before .before .before .before .read-table .ensures .0) (c .before .before .before .before .before .enum-told .given .1) _ _
-    (c .before .before .write-table .ensures)
+    (c .before .before .write-table .ensures .0)
 
 pub rewrite-table-spec : {M : Type 1} → statement M
 rewrite-table-spec =

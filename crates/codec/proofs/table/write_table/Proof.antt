@@ -1,10 +1,11 @@
 use Prim.Native.Nat.{_-_}
 use native.Mathlib.Omega.{arith}
 use mathlib.Core.Path.{_≡_, refl, sym, ap, _∙_}
-use lib.ListN.{replicate}
+use lib.ListN.{replicate, length-map}
 use Rattle.model.specs.First.{isSound}
 use Rattle.model.specs.Limits.{tableVersions}
 use Rattle.model.specs.Table.{tableBytes, tableLimit}
+use Rattle.model.proofs.AnswerLaws.{table-writes}
 use Rattle.codec.proofs.Encoded.{write-version, write-early, write-late, counts-within}
 use Rattle.frame.proofs.Written.{taken}
 use borrow.Author.Tests.{not-true, not-false}
@@ -18,7 +19,8 @@ is-version-requires c κs = search needs
 returns : tie.Need-returns
 returns c =
     let a = c .before .before .before .args in
-    write-version (a .t) (a .room .now) (omega arith) (omega arith) (sym (c .before .is-version .ensures) ∙ not-true (c .before .is-version .result) (c .if1 .taken))
+    table-writes (a .t) (sym (length-map (c .before .before .before .args .t .guards) (λ x. x)) ∙ c .before .before .before .good .0 .1 .1 .1 .1 .1 .1 .1 .1 .1 .1 .1 .1 .1 .1 .1 .1 .1 .1 .0 .1 .0 .1) (a .room .now) _ _
+    (write-version (a .t) (a .room .now) (omega arith) (omega arith) (sym (c .before .is-version .ensures) ∙ not-true (c .before .is-version .result) (c .if1 .taken)))
 
 counts-answer-requires : tie.Need-counts-answer-requires
 counts-answer-requires c κs = search needs
@@ -29,7 +31,7 @@ enum-known-counts c = search needs
 returns-2 : tie.Need-returns-2
 returns-2 c = let a = c .before .before .before .before .before .before .before .args in
     let known = sym (c .before .before .before .before .before .is-version .ensures) ∙ not-false (c .before .before .before .before .before .is-version .result) (c .before .before .before .before .if1 .left) in
-    write-early (a .t) known _ (c .before .before .before .counts-answer .ensures) (a .room .now) (omega arith) (omega arith) _ (c .before .counts .given .1)
+    table-writes (a .t) (sym (length-map (c .before .before .before .before .before .before .before .args .t .guards) (λ x. x)) ∙ c .before .before .before .before .before .before .before .good .0 .1 .1 .1 .1 .1 .1 .1 .1 .1 .1 .1 .1 .1 .1 .1 .1 .1 .1 .0 .1 .0 .1) (a .room .now) _ _ (write-early (a .t) known _ (c .before .before .before .counts-answer .ensures) (a .room .now) (omega arith) (omega arith) _ (c .before .counts .given .1))
 
 enum-told : tie.Need-enum-told
 enum-told c = search needs
@@ -68,7 +70,7 @@ returns-3 c = let a = c .before .before .before .before .before .before .before 
     let n = c .before .before .before .before .before .before .before .before .encode .result in
     let same : n - 0 ≡ n = omega arith in
     let bytes = taken (tableBytes (a .t)) (replicate tableLimit 0) _ (n - 0) (c .before .before .before .before .before .before .before .before .encode .ensures .0) (sym (c .before .before .before .before .before .before .before .before .encode .ensures .1) ∙ sym same) in
-    write-late (a .t) (a .room .now) _ _ bytes (c .before .before .before .before .writable .ensures) _ _ (c .before .before .put .ensures)
+    table-writes (a .t) (sym (length-map (c .before .before .before .before .before .before .before .before .before .before .before .before .before .before .before .before .args .t .guards) (λ x. x)) ∙ c .before .before .before .before .before .before .before .before .before .before .before .before .before .before .before .before .good .0 .1 .1 .1 .1 .1 .1 .1 .1 .1 .1 .1 .1 .1 .1 .1 .1 .1 .1 .0 .1 .0 .1) (a .room .now) _ _ (write-late (a .t) (a .room .now) _ _ bytes (c .before .before .before .before .writable .ensures) _ _ (c .before .before .put .ensures))
 
 pub write-table-spec : {M : Type 1} → statement M
 write-table-spec =

@@ -19,7 +19,7 @@ part-read-table-start : tie.Need-part-read-table-start
 part-read-table-start c = search needs
 
 part-read-table-end : tie.Need-part-read-table-end
-part-read-table-end c = omega (arith, table-fits _ _ _ _ _ (c .before .before .before .before .before .before .write-table .ensures) (c .before .before .written .given .1))
+part-read-table-end c = omega (arith, table-fits _ _ _ _ _ (c .before .before .before .before .before .before .write-table .ensures .0) (c .before .before .written .given .1))
 
 read-table-requires : tie.Need-read-table-requires
 read-table-requires c κs = search needs
@@ -35,7 +35,7 @@ same-length c = search needs
 
 returns : tie.Need-returns
 returns c =
-    let w = c .before .before .before .before .before .before .before .before .write-table .ensures in
+    let w = c .before .before .before .before .before .before .before .before .write-table .ensures .0 in
     let s = c .before .before .before .before .before .before .before .before .before .before .before in
     table-read _ _ _ _ w _ (sym (length-map (s .args .t .guards) (λ x. x)) ∙ s .good .0 .1 .1 .1 .1 .1 .1 .1 .1 .1 .1 .1 .1 .1 .1 .1 .1 .1 .1 .0 .1 .0 .1) _ (c .before .before .before .before .written .given .1) (c .read-table .ensures .0)
 
@@ -44,7 +44,7 @@ same-length-2 c = search needs
 
 returns-2 : tie.Need-returns-2
 returns-2 c =
-    let w = c .before .before .before .before .before .before .write-table .ensures in
+    let w = c .before .before .before .before .before .before .write-table .ensures .0 in
     table-unwritten _ _ _ _ w _ _ (c .before .before .written2 .given .1) (c .refused-table .ensures)
 
 pub table-back-spec : {M : Type 1} → statement M

@@ -1,0 +1,88 @@
+-- A table that is read, or written, has the devices that R-6 asks for.
+use Prim.Native.Nat.{ℕ, _+_, _*_, _<_, _≤_}
+use native.Mathlib.Nat.{add-zero}
+use native.Mathlib.Omega.{arith}
+use native.Mathlib.Decide.{ℕ-discrete}
+use mathlib.Core.Path.{_≡_, sym, ap, ap₂, _∙_}
+use mathlib.Core.Logic.{_⊎_, inl, inr}
+use mathlib.Core.List.{List}
+use mathlib.Core.Bool.{Bool, true, false, cond, _&&_}
+use lib.ListN.{length}
+use lib.Dec.{leb, eqb}
+use borrow.Author.Tests.{leb-true, eqb-true, eq-eqb}
+use Rattle.model.specs.Limits.{deviceLimit, kindLimit, transitionLimit, guardLimit}
+use Rattle.model.specs.Bytes.{byteAt}
+use Rattle.model.specs.Kinds.{versionAt, kindAt, impliedDevice, deviceFits}
+use Rattle.model.specs.Devices.{SoundDevices}
+use Rattle.model.specs.Table.{kindsAt, kindColumn, deviceColumn, tableParts, tableBytes, scanWith, SoundTable}
+use Rattle.model.specs.Same.{SameTable}
+use Rattle.model.specs.declared.TableParts.{TableParts}
+use Rattle.model.specs.declared.Reading.the-variants.{Sound}
+use Rattle.model.proofs.Basics.{and-left, and-right}
+use Rattle.model.proofs.Places.{getD-column}
+use Rattle.model.proofs.TableForm.{TableFacts, scan-facts, table-facts}
+use Rattle.model.proofs.TableTrip.{table-back}
+
+-- a device that fits, in words
+module _ (version direction device : ℕ) (fits : deviceFits version direction device ≡ true) where
+  fits-implied : version ≡ 1 → device ≡ impliedDevice direction
+  unfolding deviceFits
+  fits-implied e = eqb-true device (impliedDevice direction) (rw (eq-eqb version 1 e) at fits)
+
+  fits-from : direction ≡ 0 → device ≡ 0
+  unfolding deviceFits impliedDevice
+  fits-from e = go (eqb version 1) (rw (eq-eqb direction 0 e) at fits)
+    where
+      go : (one : Bool) → cond one (eqb device 0) (eqb device 0) ≡ true → device ≡ 0
+      go true h = eqb-true device 0 h
+      go false h = eqb-true device 0 h
+
+  fits-to : direction ≡ 1 → (1 ≤ device) × (device ≤ deviceLimit)
+  unfolding deviceFits impliedDevice
+  fits-to e = go (eqb version 1) (rw e at fits)
+    where
+      go : (one : Bool) → cond one (eqb device 1) (leb 1 device && leb device deviceLimit) ≡ true → (1 ≤ device) × (device ≤ deviceLimit)
+      go true h = let one : device ≡ 1 = eqb-true device 1 h in (omega arith, omega arith)
+      go false h = (leb-true 1 device (and-left _ _ h), leb-true device deviceLimit (and-right (leb 1 device) (leb device deviceLimit) h))
+
+  fits-one : version ≡ 1 → direction ≡ 1 → device ≡ 1
+  unfolding impliedDevice
+  fits-one v e = fits-implied v ∙ ap impliedDevice e
+
+devices-by :
+    (t : TableParts) → 1 ≤ t .version → t .version ≤ 2
+    → ((i : ℕ) → i < t .kinds → deviceFits (t .version) (byteAt (t .directions) i) (byteAt (t .devices) i) ≡ true) → SoundDevices t
+devices-by t least most fits =
+    record {
+      version = go (ℕ-discrete (t .version) 1);
+      from = λ i h. fits-from (t .version) (byteAt (t .directions) i) (byteAt (t .devices) i) (fits i h);
+      to = λ i h. fits-to (t .version) (byteAt (t .directions) i) (byteAt (t .devices) i) (fits i h);
+      implied = λ v i h. fits-one (t .version) (byteAt (t .directions) i) (byteAt (t .devices) i) (fits i h) v;
+    }
+  where
+    go : Dec (t .version ≡ 1) → (t .version ≡ 1) ⊎ (t .version ≡ 2)
+    go (yes e) = inl e
+    go (no e) = inr (omega arith)
+
+-- the direction of a kind, from its record
+direction-of : (b : List ℕ) (i : ℕ) → i < kindsAt b → byteAt (kindColumn b 0) i ≡ byteAt b (kindAt (versionAt b) i)
+direction-of b i h = getD-column kindLimit (λ k. byteAt b (kindAt (versionAt b) k + 0)) (kindsAt b) i h ∙ ap (byteAt b) (add-zero (kindAt (versionAt b) i))
+
+pub read-devices : (b : List ℕ) → SoundTable b → SoundDevices (tableParts b)
+unfolding tableParts
+read-devices b s =
+    let facts : TableFacts (deviceColumn b) b = table-facts b s in
+    devices-by (tableParts b) (facts .head .numbered) (facts .head .known) (λ i h. rw (direction-of b i h) (facts .kind i h .sender))
+
+pub written-devices : (t : TableParts) → length (t .guards) ≡ guardLimit * transitionLimit → scanWith (t .devices) (tableBytes t) ≡ Sound → SoundDevices t
+unfolding tableParts
+written-devices t full s =
+    let b : List ℕ = tableBytes t in
+    let facts : TableFacts (t .devices) b = scan-facts (t .devices) b s in
+    let same : SameTable (tableParts b) t = table-back t full s in
+    let version : versionAt b ≡ t .version = same .version in
+    devices-by t (omega (arith, facts .head .numbered)) (omega (arith, facts .head .known))
+    (λ i h.
+    let within : i < kindsAt b = rw (same .kinds) h in
+    let direction : byteAt b (kindAt (versionAt b) i) ≡ byteAt (t .directions) i = sym (direction-of b i within) ∙ same .directions i h in
+    ap₂ (λ (v d : ℕ). deviceFits v d (byteAt (t .devices) i)) (sym version) (sym direction) ∙ facts .kind i within .sender)

@@ -1,0 +1,215 @@
+-- Sound tables with the same bytes but for length, version and devices are answered alike (R-6).
+use Prim.Native.Nat.{ℕ, zero, suc, _+_, _*_, _<_}
+use native.Mathlib.Nat.{add-zero}
+use native.Mathlib.Omega.{arith}
+use mathlib.Core.Path.{_≡_, refl, sym, ap, ap₂, _∙_}
+use mathlib.Core.List.{List, [], _∷_}
+use lib.ListN.{length, take, drop}
+use lib.Seq.{getD-take, getD-drop}
+use lib.Dec.{ltb}
+use Rattle.model.specs.Limits.{kindLimit, transitionLimit, guardLimit}
+use Rattle.model.specs.Bytes.{byteAt, tab}
+use Rattle.model.specs.First.{firstOf}
+use Rattle.model.specs.Monitor.{Monitor, airtime}
+use Rattle.model.specs.Trace.{Packet}
+use Rattle.model.specs.Size.{size}
+use Rattle.model.specs.Kinds.{versionAt, kindAt}
+use Rattle.model.specs.Table.{guardIn, transitionIn, monitorOf, monitorAt, kindsAt, transitionsAt, guardLengthAt, transitionAt, kindColumn, transitionColumn, tableParts, SoundTable}
+use Rattle.model.specs.Recording.{timeAt, rowKindAt, countAt, clearOfBefore, recordedRow, recordedRows, recordingScan, recordingAnswer, packetsAt}
+use Rattle.model.specs.Witness.{rowsAt}
+use Rattle.model.specs.Rules.{begin, broken, checkRefusal, checkAnswer}
+use Rattle.model.specs.Validation.{preferred, verdict, refusal, validation, scratchAfter, roomAfter}
+use Rattle.model.specs.Same.{SameTable}
+use Rattle.model.specs.Versions.{SameOtherBytes, SameAnswers}
+use Rattle.model.specs.declared.TableParts.{TableParts}
+use Rattle.model.specs.declared.Reading.{Reading}
+use Rattle.model.specs.declared.Reading.the-variants.{Sound, Unsound}
+use Rattle.model.specs.declared.Verdict.{Verdict}
+use Rattle.model.specs.declared.Verdict.the-variants.{Refused}
+use Rattle.model.proofs.Places.{getD-column}
+use Rattle.model.proofs.TableForm.{table-facts, guard-byte}
+use Rattle.model.proofs.TableTrip.{length-few, same-monitor}
+use Rattle.model.proofs.DeviceFree.{withDevices, same-size, same-preferred, same-verdict, same-broken}
+
+-- bytes of a part that two lists share
+module _ (b c : List ℕ) (at to : ℕ) where
+  part-byte : (n : ℕ) → take n (drop at b) ≡ take n (drop to c) → (k : ℕ) → k < n → byteAt b (at + k) ≡ byteAt c (to + k)
+  part-byte n e k h =
+      sym (getD-take n (drop at b) k 0 h ∙ getD-drop at b k 0)
+      ∙ ap (λ (l : List ℕ). byteAt l k) e
+      ∙ getD-take n (drop to c) k 0 h
+      ∙ getD-drop to c k 0
+
+  rest-byte : drop at b ≡ drop to c → (k : ℕ) → byteAt b (at + k) ≡ byteAt c (to + k)
+  rest-byte e k = sym (getD-drop at b k 0) ∙ ap (λ (l : List ℕ). byteAt l k) e ∙ getD-drop to c k 0
+
+next-at : (b : List ℕ) (j : ℕ) → transitionAt b (suc j) ≡ transitionAt b j + 7 + guardLengthAt b (transitionAt b j)
+unfolding transitionAt
+next-at b j = refl
+
+-- the parts of one table, with version and devices of another
+abbrev likewise : TableParts → TableParts → TableParts
+likewise t u =
+    record {
+      version = t .version;
+      states = u .states;
+      variables = u .variables;
+      clocks = u .clocks;
+      kinds = u .kinds;
+      transitions = u .transitions;
+      directions = u .directions;
+      airtimes = u .airtimes;
+      devices = t .devices;
+      sources = u .sources;
+      targets = u .targets;
+      triggers = u .triggers;
+      sets = u .sets;
+      clears = u .clears;
+      resets = u .resets;
+      lengths = u .lengths;
+      guards = u .guards;
+    }
+
+module _ (b c : List ℕ) (soundb : SoundTable b) (soundc : SoundTable c) (same : SameOtherBytes b c) where
+  count : (k : ℕ) → k < 5 → byteAt b (3 + k) ≡ byteAt c (3 + k)
+  count k h = part-byte b c 3 3 5 (same .counts) k h
+
+  behind : (k : ℕ) → byteAt b (transitionAt b 0 + k) ≡ byteAt c (transitionAt c 0 + k)
+  behind k = rest-byte b c (transitionAt b 0) (transitionAt c 0) (same .transitions) k
+
+  -- each transition record stands as far behind the first one
+
+  field-by : (j d k : ℕ) → transitionAt b j ≡ transitionAt b 0 + d → transitionAt c j ≡ transitionAt c 0 + d → byteAt b (transitionAt b j + k) ≡ byteAt c (transitionAt c j + k)
+  field-by j d k p q =
+      let there : transitionAt b j + k ≡ transitionAt b 0 + (d + k) = omega arith in
+      let here : transitionAt c 0 + (d + k) ≡ transitionAt c j + k = omega arith in
+      ap (byteAt b) there ∙ behind (d + k) ∙ ap (byteAt c) here
+
+  offset : (j : ℕ) → (d : ℕ) × (transitionAt b j ≡ transitionAt b 0 + d) × (transitionAt c j ≡ transitionAt c 0 + d)
+  offset zero = (0, sym (add-zero (transitionAt b 0)), sym (add-zero (transitionAt c 0)))
+  offset (suc j) = let (d, p, q) = offset j in (d + 7 + guardLengthAt c (transitionAt c j), next d p (field-by j d 6 p q), last d q)
+    where
+      next : (d : ℕ) → transitionAt b j ≡ transitionAt b 0 + d → guardLengthAt b (transitionAt b j) ≡ guardLengthAt c (transitionAt c j)
+          → transitionAt b (suc j) ≡ transitionAt b 0 + (d + 7 + guardLengthAt c (transitionAt c j))
+      next d p e = let step : transitionAt b (suc j) ≡ transitionAt b j + 7 + guardLengthAt b (transitionAt b j) = next-at b j in omega arith
+
+      last : (d : ℕ) → transitionAt c j ≡ transitionAt c 0 + d → transitionAt c (suc j) ≡ transitionAt c 0 + (d + 7 + guardLengthAt c (transitionAt c j))
+      last d q = let step : transitionAt c (suc j) ≡ transitionAt c j + 7 + guardLengthAt c (transitionAt c j) = next-at c j in omega arith
+
+  field : (j k : ℕ) → byteAt b (transitionAt b j + k) ≡ byteAt c (transitionAt c j + k)
+  field j k = let (d, p, q) = offset j in field-by j d k p q
+
+  -- the columns of the parts
+
+  kind-field : (k : ℕ) → k < 2 → (i : ℕ) → i < kindsAt c → byteAt (kindColumn b k) i ≡ byteAt (kindColumn c k) i
+  kind-field k h i l =
+      let within : i < kindsAt b = rw (count 3 (omega arith)) l in
+      getD-column kindLimit (λ i. byteAt b (kindAt (versionAt b) i + k)) (kindsAt b) i within
+      ∙ part-byte b c (kindAt (versionAt b) i) (kindAt (versionAt c) i) 2 (same .kinds i within) k h
+      ∙ sym (getD-column kindLimit (λ i. byteAt c (kindAt (versionAt c) i + k)) (kindsAt c) i l)
+
+  transition-field : (k j : ℕ) → j < transitionsAt c → byteAt (transitionColumn b k) j ≡ byteAt (transitionColumn c k) j
+  transition-field k j l =
+      let within : j < transitionsAt b = rw (count 4 (omega arith)) l in
+      getD-column transitionLimit (λ i. byteAt b (transitionAt b i + k)) (transitionsAt b) j within
+      ∙ field j k
+      ∙ sym (getD-column transitionLimit (λ i. byteAt c (transitionAt c i + k)) (transitionsAt c) j l)
+
+  guard-bytes : (j : ℕ) → j < transitionsAt c → (i : ℕ) → i < byteAt (transitionColumn c 6) j → byteAt (tableParts b .guards) (guardLimit * j + i) ≡ byteAt (tableParts c .guards) (guardLimit * j + i)
+  guard-bytes j l i p =
+      let within : j < transitionsAt b = rw (count 4 (omega arith)) l in
+      let long : byteAt (transitionColumn c 6) j ≡ guardLengthAt c (transitionAt c j) = getD-column transitionLimit (λ i. byteAt c (transitionAt c i + 6)) (transitionsAt c) j l in
+      let q : i < guardLengthAt c (transitionAt c j) = rw long at p in
+      let r : i < guardLengthAt b (transitionAt b j) = rw (field j 6) q in
+      let there : transitionAt b j + 7 + i ≡ transitionAt b j + (7 + i) = omega arith in
+      let here : transitionAt c j + (7 + i) ≡ transitionAt c j + 7 + i = omega arith in
+      guard-byte b (table-facts b soundb) j within i r ∙ ap (byteAt b) there ∙ field j (7 + i) ∙ ap (byteAt c) here ∙ sym (guard-byte c (table-facts c soundc) j l i q)
+
+  same-parts : SameTable (tableParts b) (likewise (tableParts b) (tableParts c))
+  unfolding tableParts
+  same-parts =
+      record {
+        version = refl;
+        states = count 0 (omega arith);
+        variables = count 1 (omega arith);
+        clocks = count 2 (omega arith);
+        kinds = count 3 (omega arith);
+        transitions = count 4 (omega arith);
+        directions = kind-field 0 (omega arith);
+        airtimes = kind-field 1 (omega arith);
+        devices = λ i h. refl;
+        sources = transition-field 0;
+        targets = transition-field 1;
+        triggers = transition-field 2;
+        sets = transition-field 3;
+        clears = transition-field 4;
+        resets = transition-field 5;
+        lengths = transition-field 6;
+        guards = guard-bytes;
+      }
+
+  -- the monitors differ in their devices alone
+
+  abbrev devices : List ℕ
+  devices = tab (byteAt (tableParts b .devices)) (tableParts c .kinds)
+
+  same-monitors : monitorAt b ≡ withDevices devices (monitorAt c)
+  unfolding monitorOf transitionIn guardIn tableParts
+  same-monitors = same-monitor (tableParts b) (likewise (tableParts b) (tableParts c)) same-parts (length-few c (table-facts c soundc))
+
+  -- what is asked of a recording
+
+  same-kinds : kindsAt b ≡ kindsAt c
+  same-kinds = count 3 (omega arith)
+
+  clear-alike : (r : List ℕ) (i : ℕ) → clearOfBefore b r i ≡ clearOfBefore c r i
+  unfolding clearOfBefore
+  clear-alike r zero = refl
+  clear-alike r (suc i) = ap (λ (m : Monitor). ltb (timeAt r i + airtime m (rowKindAt r i)) (timeAt r (suc i))) same-monitors
+
+  row-alike : (r : List ℕ) (i : ℕ) → recordedRow b r i ≡ recordedRow c r i
+  unfolding recordedRow
+  row-alike r i = rw (clear-alike r i, same-kinds)
+
+  rows-alike : (n : ℕ) (r : List ℕ) (i : ℕ) → recordedRows n b r i ≡ recordedRows n c r i
+  unfolding recordedRows
+  rows-alike zero r i = refl
+  rows-alike (suc n) r i = ap₂ (λ (x y : Reading). firstOf (x ∷ y ∷ [])) (row-alike r i) (rows-alike n r (suc i))
+
+  answer-alike : (r : List ℕ) → recordingAnswer b r ≡ recordingAnswer c r
+  unfolding recordingAnswer recordingScan
+  answer-alike r = rw (soundb, soundc, rows-alike (countAt r) r 0)
+
+  -- the rest is asked of the monitor
+
+  size-alike : size (monitorAt b) ≡ size (monitorAt c)
+  size-alike = ap size same-monitors ∙ same-size devices (monitorAt c)
+
+  preferred-alike : (recording : List Packet) → preferred (monitorAt b) recording ≡ preferred (monitorAt c) recording
+  preferred-alike recording = ap (λ (m : Monitor). preferred m recording) same-monitors ∙ same-preferred devices (monitorAt c) recording
+
+  verdict-alike : (recording : List Packet) (budget : ℕ) → verdict (monitorAt b) recording budget ≡ verdict (monitorAt c) recording budget
+  verdict-alike recording budget = ap (λ (m : Monitor). verdict m recording budget) same-monitors ∙ same-verdict devices (monitorAt c) recording budget
+
+  refusal-alike : (recording : List ℕ) (scratchLength roomLength : ℕ) → refusal b recording scratchLength roomLength ≡ refusal c recording scratchLength roomLength
+  unfolding refusal
+  refusal-alike recording scratchLength roomLength = rw (answer-alike recording, size-alike)
+
+  validation-alike : (recording : List ℕ) (budget scratchLength roomLength : ℕ) → validation b recording budget scratchLength roomLength ≡ validation c recording budget scratchLength roomLength
+  unfolding validation
+  validation-alike recording budget scratchLength roomLength =
+      ap₂ by (refusal-alike recording scratchLength roomLength) (verdict-alike (packetsAt recording) budget)
+    where
+      by : Reading → Verdict → Verdict
+      by x v = elim x [ Sound ↦ v | Unsound r ↦ Refused r ]
+
+  pub same-answers : SameAnswers b c
+  unfolding scratchAfter roomAfter checkAnswer checkRefusal
+  same-answers =
+      record {
+        verdict = validation-alike;
+        scratch = λ recording budget scratch room. rw (validation-alike recording budget (length scratch) (length room), size-alike);
+        room = λ recording budget scratch room. rw (validation-alike recording budget (length scratch) (length room), preferred-alike (packetsAt recording));
+        checking = λ recording witness.
+            rw (answer-alike recording, ap (λ (m : Monitor). broken m (begin (packetsAt recording)) 0 (rowsAt witness)) same-monitors ∙ same-broken devices (monitorAt c) (begin (packetsAt recording)) 0 (rowsAt witness));
+      }
