@@ -1,8 +1,9 @@
 /* Lutarosa: can a unit have kept its protocol, from what a sniffer heard?
  *
  * Tables, recordings and witnesses are bytes in the formats of document 01; the times of a witness rise strictly (R-3
- * of document 02). Any bytes may be handed in: what is wrong with them is told by a number. A call always returns and
- * keeps nothing of what it was lent.
+ * of document 02). A table has version 1 or 2; in version 2 the record of a kind has a third byte, the device that sends
+ * it: 0 if from the unit, 1 to 15 if to it (R-6). Devices change no answer but 14. Any bytes may be handed in: what is
+ * wrong with them is told by a number. A call always returns and keeps nothing of what it was lent.
  *
  * A slice is a pointer and a length in bytes. The pointer must not be null, even if the length is 0. A slice that a call
  * writes (scratch, room) must not overlap another slice of that call. While the call runs, nothing else may write its
@@ -65,7 +66,8 @@ struct lutarosa_answer lutarosa_check(const uint8_t *table, size_t table_length,
                                       const uint8_t *recording, size_t recording_length,
                                       const uint8_t *witness, size_t witness_length);
 
-/* Each reads bytes and writes what it read into the room. Sound bytes come out the same, so a room of their length is enough.
+/* Each reads bytes and writes what it read into the room. Sound bytes come out the same, in either version of a table, so a room of their length
+ * is enough.
  * A recording is read against a table; of a witness the form alone is judged.
  *
  *    0   written      second: bytes written, at the start of the room; the rest of the room is as it was

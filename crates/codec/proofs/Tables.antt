@@ -1,13 +1,12 @@
 -- What a sound scan of a table ensures, and guards in their places.
-use Prim.Native.Nat.{ℕ, zero, suc, _+_, _-_, _*_, _^_, _≤_, _<_, min}
+use Prim.Native.Nat.{ℕ, _+_, _-_, _*_, _^_, _≤_, _<_, min}
 use native.Mathlib.Omega.{arith}
-use native.Mathlib.Nat.{sub-zero}
 use native.Mathlib.Numerals.{add-one}
 use mathlib.Core.Path.{_≡_, refl, sym, ap, _∙_}
 use mathlib.Core.List.{List, [], _∷_}
 use mathlib.Core.Bool.{Bool, true, false, _&&_}
 use lib.Dec.{leb, ltb}
-use lib.ListN.{length, getD, take, drop, length-take}
+use lib.ListN.{length, take, drop, length-take}
 use borrow.Author.Tests.{le-leb, lt-leb}
 use Rattle.model.specs.Limits.{tableVersions, kindLimit, transitionLimit, guardLimit, sizeLimit}
 use Rattle.model.specs.Bytes.{byteAt, joined, padded}
@@ -23,13 +22,11 @@ use Rattle.model.specs.declared.Refusal.the-variants.{TableFrame, TableVersion,
 use Rattle.model.specs.declared.Refusal.{Refusal}
 use Rattle.model.specs.declared.Reading.{Reading}
 use Rattle.model.specs.declared.Reading.the-variants.{Sound, Unsound}
-use Rattle.model.proofs.Basics.{andThen-left, andThen-right}
 use Rattle.model.proofs.Tests.{test, le-test, tests}
 use Rattle.model.proofs.TableForm.{TableFacts, countTests, scan-facts, places}
 use Rattle.wire.specs.Placed.{placed}
-use Rattle.frame.proofs.Columns.{joined-long, padded-long, place-more}
+use Rattle.frame.proofs.Columns.{joined-long, place-more}
 use Rattle.frame.proofs.Answers.{then-sound}
-use Rattle.codec.proofs.Steps.{transitions-turn}
 
 pub counts-are : (b : List ℕ) (s v c k t : ℕ) → s ≡ statesAt b → v ≡ variablesAt b → c ≡ clocksAt b → k ≡ kindsAt b → t ≡ transitionsAt b → countsOf s v c k t ≡ tableCounts b
 unfolding countsOf

@@ -37,8 +37,8 @@ ghost use mathlib.Core.List.{List, _++_};
 ghost use lib.ListN.{length};
 ghost use lib.Dec.{leb, ltb, eqb};
 ghost use Rattle.model.specs.Answers.{Reads, RefusesUnreached, Writes};
-ghost use Rattle.model.specs.Numbers.{values, readingValues, writingValues};
-ghost use Rattle.model.specs.Devices.{SoundDevices};
+ghost use Rattle.model.specs.Numbers.{readingValues, writingValues};
+ghost use Rattle.model.specs.Devices.{JudgesDevices};
 ghost use Rattle.model.specs.First.{unless};
 ghost use Rattle.model.specs.Limits.{kindLimit, transitionLimit, guardLimit, sizeLimit};
 ghost use Rattle.model.specs.Size.{size};
@@ -438,7 +438,7 @@ fn whole_answer(t: TableParts) -> Reading
 
 pub fn read_table(b: &[u8]) -> TableReading
     ensures { λ r. ⌜ r ≡ readTable (now (b .entry)) ⌝ }
-    ensures { λ r. ⌜ Reads (tableAnswer (now (b .entry))) (tableParts (now (b .entry))) noTable (r .answer) (r .parts) × RefusesUnreached (now (b .entry)) (r .answer) × (readingValues (r .answer) ≡ values 0 0 0 → SoundDevices (r .parts)) ⌝ }
+    ensures { λ r. ⌜ Reads (tableAnswer (now (b .entry))) (tableParts (now (b .entry))) noTable (r .answer) (r .parts) × RefusesUnreached (now (b .entry)) (r .answer) × JudgesDevices (r .parts) (deviceColumn (now (b .entry))) (now (b .entry)) (readingValues (r .answer)) ⌝ }
 {
     let devices = device_column(b);
     let scan = scan_with(b, &devices);
@@ -588,7 +588,7 @@ fn writable(t: TableParts, encoded: &[u8]) -> Reading
 
 pub fn write_table(t: TableParts, room: &mut [u8]) -> Writing
     ensures { λ w. ⌜ Writes (writeTable t (now (room .entry))) w (now (room .exit)) ⌝ }
-    ensures { λ w. ⌜ ((n : ℕ) → writingValues w ≡ values 0 n 0 → SoundDevices t) ⌝ }
+    ensures { λ w. ⌜ JudgesDevices t (t .devices) (tableBytes t) (writingValues w) ⌝ }
 {
     if !is_version(TABLE_VERSIONS, t.version) {
         return Writing::Unwritten(Refusal::TableVersion);

@@ -10,10 +10,10 @@ use lib.Dec.{leb}
 use Rattle.model.specs.Answers.{Reads, RefusesUnreached, Writes}
 use Rattle.model.specs.First.{isSound}
 use Rattle.model.specs.Numbers.{values, readingValues, writingValues}
-use Rattle.model.specs.Devices.{SoundDevices}
+use Rattle.model.specs.Devices.{SoundDevices, JudgesDevices}
 use Rattle.model.specs.Limits.{guardLimit, transitionLimit}
 use Rattle.model.specs.Room.{Lent, over, write}
-use Rattle.model.specs.Table.{tableAnswer, tableParts, noTable, readTable, tableBytes, tableWritable, writeTable}
+use Rattle.model.specs.Table.{tableAnswer, deviceColumn, tableParts, noTable, readTable, tableBytes, tableWritable, writeTable}
 use Rattle.model.specs.Recording.{recordingAnswer, recordingParts, noRecording, readRecording}
 use Rattle.model.specs.Witness.{witnessAnswer, witnessParts, noWitness, readWitness}
 use Rattle.model.specs.declared.TableReading.{TableReading}
@@ -27,7 +27,7 @@ use Rattle.model.specs.declared.Writing.{Writing}
 use Rattle.model.specs.declared.Writing.the-variants.{Written, Unwritten}
 use Rattle.model.proofs.NumberLaws.{number-0, number-written}
 use Rattle.model.proofs.TableForm.{scan-sound}
-use Rattle.model.proofs.DeviceLaws.{read-devices, written-devices}
+use Rattle.model.proofs.DeviceLaws.{read-devices, written-devices, first-device}
 use Rattle.model.proofs.TableStates.{refuses-unreached}
 
 pub reads-by : {P : Type 0} (given : Reading) (whole none : P) (answer : Reading) (parts : P) → answer ≡ given → parts ≡ cond (isSound given) whole none
@@ -42,8 +42,8 @@ reads-by given whole none answer parts same are =
 
 pub table-reads : (b : List ℕ) (x : TableReading) → x ≡ readTable b
     → (x ≡ readTable b)
-    × (Reads (tableAnswer b) (tableParts b) noTable (x .answer) (x .parts) × RefusesUnreached b (x .answer) × (readingValues (x .answer) ≡ values 0 0 0 → SoundDevices (x .parts)))
-unfolding readTable
+    × (Reads (tableAnswer b) (tableParts b) noTable (x .answer) (x .parts) × RefusesUnreached b (x .answer) × JudgesDevices (x .parts) (deviceColumn b) b (readingValues (x .answer)))
+unfolding readTable tableAnswer
 table-reads b x e =
     let answer : x .answer ≡ tableAnswer b = ap (λ (y : TableReading). y .answer) e in
     let reads : Reads (tableAnswer b) (tableParts b) noTable (x .answer) (x .parts) = reads-by _ _ _ _ _ answer (ap (λ (y : TableReading). y .parts) e) in (
@@ -51,7 +51,10 @@ table-reads b x e =
       (
         reads,
         subst (λ (r : Reading). RefusesUnreached b r) (sym answer) (refuses-unreached b),
-        λ v. let sound : tableAnswer b ≡ Sound = sym answer ∙ number-0 (x .answer) v in subst SoundDevices (sym (reads .sound sound .1)) (read-devices b sound),
+        record {
+          sound = λ n v. let sound : tableAnswer b ≡ Sound = sym answer ∙ number-0 (x .answer) n v in subst SoundDevices (sym (reads .sound sound .1)) (read-devices b sound);
+          refused = λ i within before there bad. ap readingValues (answer ∙ first-device (deviceColumn b) b i within before there bad);
+        },
       ),
     )
 
@@ -91,13 +94,17 @@ written Sound bytes room n e = let (stands, fits) = by (leb (length bytes) (leng
         never : Unwritten (WriteRoom (length bytes)) ≡ Written n → ⊥
         never p = let z : _≡_ {A = ℕ} 0 1 = cc in omega arith
 
--- what writing a table promises: its devices were those that R-6 asks for
+-- what writing a table promises
 pub table-writes : (t : TableParts) → length (t .guards) ≡ guardLimit * transitionLimit → (room : List ℕ) (w : Writing) (roomThen : List ℕ) → Writes (writeTable t room) w roomThen
-    → Writes (writeTable t room) w roomThen × ((n : ℕ) → writingValues w ≡ values 0 n 0 → SoundDevices t)
+    → Writes (writeTable t room) w roomThen × JudgesDevices t (t .devices) (tableBytes t) (writingValues w)
 unfolding writeTable
 table-writes t full room w roomThen g = (
   g,
-  λ n v.
-      let writable = written (tableWritable t) (tableBytes t) room n (sym (g .answered) ∙ number-written w n v) .0 in
-      written-devices t full (scan-sound (t .devices) (tableBytes t) writable),
+  record {
+    sound = λ n v.
+        let writable = written (tableWritable t) (tableBytes t) room n (sym (g .answered) ∙ number-written w n v) .0 in
+        written-devices t full (scan-sound (t .devices) (tableBytes t) writable);
+    refused = λ i within before there bad.
+        g .numbers ∙ ap (λ (a : Reading). writingValues (write a (tableBytes t) room .answer)) (first-device (t .devices) (tableBytes t) i within before there bad);
+  },
 )

@@ -1,34 +1,34 @@
 -- A table that is read, or written, has the devices that R-6 asks for.
-use Prim.Native.Nat.{ℕ, _+_, _*_, _<_, _≤_}
+use Prim.Native.Nat.{ℕ, suc, _+_, _*_, _<_, _≤_}
 use native.Mathlib.Nat.{add-zero}
 use native.Mathlib.Omega.{arith}
 use native.Mathlib.Decide.{ℕ-discrete}
-use mathlib.Core.Path.{_≡_, sym, ap, ap₂, _∙_}
+use mathlib.Core.Path.{_≡_, refl, sym, ap, ap₂, _∙_}
 use mathlib.Core.Logic.{_⊎_, inl, inr}
-use mathlib.Core.List.{List}
+use mathlib.Core.List.{List, [], _∷_}
 use mathlib.Core.Bool.{Bool, true, false, cond, _&&_}
 use lib.ListN.{length}
 use lib.Dec.{leb, eqb}
-use borrow.Author.Tests.{leb-true, eqb-true, eq-eqb}
-use Rattle.model.specs.Limits.{deviceLimit, kindLimit, transitionLimit, guardLimit}
+use borrow.Author.Tests.{leb-true, le-leb, eqb-true, eq-eqb}
+use Rattle.model.specs.Limits.{airtimeLimit, deviceLimit, kindLimit, transitionLimit, guardLimit}
 use Rattle.model.specs.Bytes.{byteAt}
-use Rattle.model.specs.Kinds.{versionAt, kindAt, impliedDevice, deviceFits}
-use Rattle.model.specs.Devices.{SoundDevices}
-use Rattle.model.specs.Table.{kindsAt, kindColumn, deviceColumn, tableParts, tableBytes, scanWith, SoundTable}
+use Rattle.model.specs.First.{firstOf}
+use Rattle.model.specs.Kinds.{versionAt, kindWidth, kindAt, impliedDevice, deviceFits, kindRecord}
+use Rattle.model.specs.Devices.{Suits, SoundDevices, SoundBefore}
+use Rattle.model.specs.Table.{kindsAt, kindColumn, deviceColumn, tableParts, tableBytes, kindRecords, scanWith, answerWith, SoundTable}
 use Rattle.model.specs.Same.{SameTable}
 use Rattle.model.specs.declared.TableParts.{TableParts}
-use Rattle.model.specs.declared.Reading.the-variants.{Sound}
+use Rattle.model.specs.declared.Reading.the-variants.{Sound, Unsound}
+use Rattle.model.specs.declared.Refusal.the-variants.{TableField}
 use Rattle.model.proofs.Basics.{and-left, and-right}
+use Rattle.model.proofs.Tests.{tests, first-refused}
+use Rattle.model.proofs.KindForm.{kind-next}
 use Rattle.model.proofs.Places.{getD-column}
 use Rattle.model.proofs.TableForm.{TableFacts, scan-facts, table-facts}
 use Rattle.model.proofs.TableTrip.{table-back}
 
 -- a device that fits, in words
 module _ (version direction device : ℕ) (fits : deviceFits version direction device ≡ true) where
-  fits-implied : version ≡ 1 → device ≡ impliedDevice direction
-  unfolding deviceFits
-  fits-implied e = eqb-true device (impliedDevice direction) (rw (eq-eqb version 1 e) at fits)
-
   fits-from : direction ≡ 0 → device ≡ 0
   unfolding deviceFits impliedDevice
   fits-from e = go (eqb version 1) (rw (eq-eqb direction 0 e) at fits)
@@ -46,19 +46,16 @@ module _ (version direction device : ℕ) (fits : deviceFits version direction d
       go false h = (leb-true 1 device (and-left _ _ h), leb-true device deviceLimit (and-right (leb 1 device) (leb device deviceLimit) h))
 
   fits-one : version ≡ 1 → direction ≡ 1 → device ≡ 1
-  unfolding impliedDevice
-  fits-one v e = fits-implied v ∙ ap impliedDevice e
+  unfolding deviceFits impliedDevice
+  fits-one v e = eqb-true device 1 (rw (eq-eqb version 1 v, e) at fits)
+
+  fits-suits : Suits version direction device
+  fits-suits = record { from = fits-from; to = fits-to; implied = fits-one }
 
 devices-by :
     (t : TableParts) → 1 ≤ t .version → t .version ≤ 2
     → ((i : ℕ) → i < t .kinds → deviceFits (t .version) (byteAt (t .directions) i) (byteAt (t .devices) i) ≡ true) → SoundDevices t
-devices-by t least most fits =
-    record {
-      version = go (ℕ-discrete (t .version) 1);
-      from = λ i h. fits-from (t .version) (byteAt (t .directions) i) (byteAt (t .devices) i) (fits i h);
-      to = λ i h. fits-to (t .version) (byteAt (t .directions) i) (byteAt (t .devices) i) (fits i h);
-      implied = λ v i h. fits-one (t .version) (byteAt (t .directions) i) (byteAt (t .devices) i) (fits i h) v;
-    }
+devices-by t least most fits = record { version = go (ℕ-discrete (t .version) 1); suit = λ i h. fits-suits (t .version) (byteAt (t .directions) i) (byteAt (t .devices) i) (fits i h) }
   where
     go : Dec (t .version ≡ 1) → (t .version ≡ 1) ⊎ (t .version ≡ 2)
     go (yes e) = inl e
@@ -86,3 +83,28 @@ written-devices t full s =
     let within : i < kindsAt b = rw (same .kinds) h in
     let direction : byteAt b (kindAt (versionAt b) i) ≡ byteAt (t .directions) i = sym (direction-of b i within) ∙ same .directions i h in
     ap₂ (λ (v d : ℕ). deviceFits v d (byteAt (t .devices) i)) (sym version) (sym direction) ∙ facts .kind i within .sender)
+
+-- a record that is there, of a kind whose device does not suit it, is 14 at its offset
+bad-device : (b : List ℕ) (at device : ℕ) → at + kindWidth (versionAt b) ≤ length b → (Suits (versionAt b) (byteAt b at) device → ⊥) → kindRecord b at device ≡ Unsound (TableField at)
+unfolding kindRecord
+bad-device b at device there bad =
+    let fits : Bool = deviceFits (versionAt b) (byteAt b at) device in
+    rw (le-leb (at + kindWidth (versionAt b)) (length b) there) (go (leb (byteAt b at) 1) (leb (byteAt b (at + 1)) airtimeLimit) fits (λ e. bad (fits-suits (versionAt b) (byteAt b at) device e)))
+  where
+    go :
+        (direction airtime fits : Bool) → (fits ≡ true → ⊥)
+        → firstOf (tests ((direction, TableField at) ∷ (airtime, TableField at) ∷ (fits, TableField at) ∷ [])) ≡ Unsound (TableField at)
+    go true true true h = absurd (h refl)
+    go true true false h = refl
+    go true false fits h = refl
+    go false airtime fits h = refl
+
+pub first-device :
+    (devices b : List ℕ) (i : ℕ) → i < kindsAt b → SoundBefore devices b i → kindAt (versionAt b) (suc i) ≤ length b
+    → (Suits (versionAt b) (byteAt b (kindAt (versionAt b) i)) (byteAt devices i) → ⊥) → answerWith devices b ≡ Unsound (TableField (kindAt (versionAt b) i))
+unfolding answerWith scanWith kindRecords
+first-device devices b i within before there bad =
+    let at : ℕ → ℕ = λ k. kindAt (versionAt b) k in
+    let record-is : kindRecord b (at i) (byteAt devices i) ≡ Unsound (TableField (at i)) = bad-device b (at i) (byteAt devices i) (omega (arith, kind-next (versionAt b) i)) bad in
+    let kinds = first-refused (λ k. kindRecord b (at k) (byteAt devices k)) (kindsAt b) i (TableField (at i)) within (before .2) record-is in
+    rw (before .0, before .1, kinds)

@@ -11,7 +11,7 @@ use Rattle.model.specs.Guard.{holds, largest, leafAt, guardAt}
 use Rattle.model.specs.Monitor.{changed, reset, fires}
 use Rattle.model.specs.Size.{largestIn, greatest, cap, size}
 use Rattle.model.specs.Reach.{among, targets, reachedIn, isReached, lowestMissing, statesAnswer}
-use Rattle.model.specs.Kinds.{kindWidth, impliedDevice, deviceAt, deviceFits, kindRecord}
+use Rattle.model.specs.Kinds.{impliedDevice, deviceAt, deviceFits, kindRecord}
 use Rattle.model.specs.Table.{guardIn, transitionIn, monitorOf, countsOf, kindRecords, apart, transitionFields, guardRecord, transitionRecord, transitionRecords, transitionAt, guardPlace, tableParts, scanWith, tableScan, wholeAnswer, answerWith, tableAnswer, monitorAt}
 use Rattle.model.specs.Recording.{clearOfBefore, recordedRow, recordedRows, recordingFrame, recordingScan, recordingAnswer, recordingParts, packetsOf, packetsAt, endOf}
 use Rattle.model.specs.Situation.{capped, sent, missed, moved, stepBy, recordedAt, moveOf, number, situationOf, stepNumber}

@@ -33,9 +33,9 @@ refusal-number WitnessVersion = (omega arith, λ e. absurd (omega arith))
 refusal-number WitnessCount = (omega arith, λ e. absurd (omega arith))
 refusal-number (WitnessRow n) = (omega arith, λ e. absurd (omega arith))
 
-pub number-0 : (x : Reading) → readingValues x ≡ values 0 0 0 → x ≡ Sound
-number-0 Sound e = refl
-number-0 (Unsound r) e = absurd (omega (arith, ap (λ (v : Values). v .number) e, refusal-number r .0))
+pub number-0 : (x : Reading) (n : ℕ) → readingValues x ≡ values 0 n 0 → x ≡ Sound
+number-0 Sound n e = refl
+number-0 (Unsound r) n e = absurd (omega (arith, ap (λ (v : Values). v .number) e, refusal-number r .0))
 
 pub number-written : (w : Writing) (n : ℕ) → writingValues w ≡ values 0 n 0 → w ≡ Written n
 number-written (Written m) n e = ap Written (ap (λ (v : Values). v .second) e)

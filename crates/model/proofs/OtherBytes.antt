@@ -43,10 +43,6 @@ module _ (b c : List ℕ) (at to : ℕ) where
   rest-byte : drop at b ≡ drop to c → (k : ℕ) → byteAt b (at + k) ≡ byteAt c (to + k)
   rest-byte e k = sym (getD-drop at b k 0) ∙ ap (λ (l : List ℕ). byteAt l k) e ∙ getD-drop to c k 0
 
-next-at : (b : List ℕ) (j : ℕ) → transitionAt b (suc j) ≡ transitionAt b j + 7 + guardLengthAt b (transitionAt b j)
-unfolding transitionAt
-next-at b j = refl
-
 -- the parts of one table, with version and devices of another
 abbrev likewise : TableParts → TableParts → TableParts
 likewise t u =
@@ -86,15 +82,12 @@ module _ (b c : List ℕ) (soundb : SoundTable b) (soundc : SoundTable c) (same 
       ap (byteAt b) there ∙ behind (d + k) ∙ ap (byteAt c) here
 
   offset : (j : ℕ) → (d : ℕ) × (transitionAt b j ≡ transitionAt b 0 + d) × (transitionAt c j ≡ transitionAt c 0 + d)
+  unfolding transitionAt
   offset zero = (0, sym (add-zero (transitionAt b 0)), sym (add-zero (transitionAt c 0)))
-  offset (suc j) = let (d, p, q) = offset j in (d + 7 + guardLengthAt c (transitionAt c j), next d p (field-by j d 6 p q), last d q)
-    where
-      next : (d : ℕ) → transitionAt b j ≡ transitionAt b 0 + d → guardLengthAt b (transitionAt b j) ≡ guardLengthAt c (transitionAt c j)
-          → transitionAt b (suc j) ≡ transitionAt b 0 + (d + 7 + guardLengthAt c (transitionAt c j))
-      next d p e = let step : transitionAt b (suc j) ≡ transitionAt b j + 7 + guardLengthAt b (transitionAt b j) = next-at b j in omega arith
-
-      last : (d : ℕ) → transitionAt c j ≡ transitionAt c 0 + d → transitionAt c (suc j) ≡ transitionAt c 0 + (d + 7 + guardLengthAt c (transitionAt c j))
-      last d q = let step : transitionAt c (suc j) ≡ transitionAt c j + 7 + guardLengthAt c (transitionAt c j) = next-at c j in omega arith
+  offset (suc j) =
+      let (d, p, q) = offset j in
+      let long : guardLengthAt b (transitionAt b j) ≡ guardLengthAt c (transitionAt c j) = field-by j d 6 p q in
+      (d + 7 + guardLengthAt c (transitionAt c j), omega arith, omega arith)
 
   field : (j k : ℕ) → byteAt b (transitionAt b j + k) ≡ byteAt c (transitionAt c j + k)
   field j k = let (d, p, q) = offset j in field-by j d k p q

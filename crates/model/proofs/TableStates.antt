@@ -11,7 +11,7 @@ use Rattle.model.specs.First.{unless, firstOf}
 use Rattle.model.specs.Monitor.{Monitor}
 use Rattle.model.specs.Reach.{Reached, LowestUnreached, StatesJudged, isReached, lowestMissing, statesAnswer}
 use Rattle.model.specs.Size.{size}
-use Rattle.model.specs.Table.{tableParts, scanWith, tableScan, wholeAnswer, answerWith, tableAnswer, monitorOf, monitorAt}
+use Rattle.model.specs.Table.{tableParts, tableScan, wholeAnswer, answerWith, tableAnswer, monitorOf, monitorAt}
 use Rattle.model.specs.Numbers.{readingValues}
 use Rattle.model.specs.Answers.{SoundButStates, RefusesUnreached}
 use Rattle.model.specs.declared.Reading.{Reading}
@@ -85,7 +85,7 @@ module _ (b : List ℕ) where
       let m : Monitor = monitorAt b in
       record {
         sound = (
-          λ v. let w = sound-last .0 (number-0 (tableAnswer b) v) in (w .0, states-judged m .sound .0 (w .1)),
+          λ v. let w = sound-last .0 (number-0 (tableAnswer b) 0 v) in (w .0, states-judged m .sound .0 (w .1)),
           λ w. ap readingValues (sound-last .1 (w .0, states-judged m .sound .1 (w .1))),
         );
         refused = λ s. (

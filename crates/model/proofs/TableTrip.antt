@@ -16,7 +16,7 @@ use Rattle.model.specs.Kinds.{versionAt, kindWidth, kindAt, deviceAt, ki
 use Rattle.model.specs.Same.{Zero, SameTable, TableZero}
 use Rattle.model.specs.declared.Reading.the-variants.{Sound}
 use Rattle.model.specs.declared.TableParts.{TableParts}
-use Rattle.model.proofs.Places.{AllBytes, Stands, stands-append, stands-left, stands-right, stands-moved, stands-self, stands-whole, word-at, length-padded, getD-padded-past, getD-column, getD-column-past, length-joined, stands-joined, joined-stands, tab-same}
+use Rattle.model.proofs.Places.{AllBytes, Stands, stands-append, stands-left, stands-right, stands-moved, stands-self, stands-whole, word-at, length-padded, getD-padded-past, getD-column, getD-column-past, stands-joined, joined-stands, tab-same}
 use Rattle.model.proofs.KindForm.{wide-enough, no-wider, kind-length, kinds-length, kind-byte, device-byte, device-back}
 use Rattle.model.proofs.TableForm.{SoundTransition, TableFacts, scan-facts, scan-sound, table-facts, places-length, guard-place, guard-byte}
 

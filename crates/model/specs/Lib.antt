@@ -9,7 +9,6 @@ pub mod Room
 pub mod Size
 pub mod Reach
 pub mod Kinds
-pub mod Devices
 pub mod Table
 pub mod Recording
 pub mod Witness
@@ -22,6 +21,7 @@ pub mod Order
 pub mod Validation
 pub mod Versions
 pub mod Numbers
+pub mod Devices
 pub mod Answers
 pub mod Desk
 pub mod Claims

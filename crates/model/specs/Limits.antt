@@ -1,7 +1,7 @@
--- The limits that document 01 sets, each once.
+-- The limits that document 01 and R-6 of document 02 set, each once.
 use Prim.Native.Nat.{ℕ}
 
--- a table's version is 1 or 2 (document 02, R-6); a recording and a witness have version 1
+-- the latest version: a table has version 1 or 2 (R-6), a recording and a witness version 1
 
 abbrev pub tableVersions : ℕ
 tableVersions = 2

@@ -6,10 +6,9 @@ use denote.Struct.Field.{u16-field}
 use mir.Val.{Val}
 use native.Mathlib.Omega.{arith}
 use mathlib.Core.Path.{_≡_, refl, sym, ap, ap₂, subst, _∙_}
-use mathlib.Core.List.{List, [], _∷_, _++_, map}
-use mathlib.Core.Bool.{Bool, true, false, cond}
-use lib.ListN.{length, take, drop, length-append}
-use lib.Seq.{take-append-seam}
+use mathlib.Core.List.{List, [], _∷_, map}
+use mathlib.Core.Bool.{cond}
+use lib.ListN.{length, take}
 use lib.Dec.{leb}
 use Rattle.model.specs.Limits.{transitionLimit, guardLimit, rowLimit, witnessLimit}
 use Rattle.model.specs.Answers.{Writes}
@@ -17,7 +16,7 @@ use Rattle.model.specs.Bytes.{byteAt}
 use Rattle.model.specs.First.{unless, isSound}
 use Rattle.model.specs.Numbers.{readingValues}
 use Rattle.model.specs.Frame.{framed, framedRows}
-use Rattle.model.specs.Room.{Lent, over, write}
+use Rattle.model.specs.Room.{Lent, write}
 use Rattle.model.specs.Table.{scanWith, answerWith, tableAnswer, tableBytes, tableParts, noTable, readTable, tableWritable, writeTable}
 use Rattle.model.specs.Recording.{recordingAnswer, recordingBytes, recordingParts, noRecording, readRecording, recordingEarly, recordingWritable, writeRecording}
 use Rattle.model.specs.Witness.{witnessFrame, witnessAnswer, witnessBytes, witnessParts, noWitness, readWitness, rowsIn, witnessWritable, writeWitness}
@@ -30,7 +29,7 @@ use Rattle.model.specs.declared.WitnessReading.{WitnessReading}
 use Rattle.model.specs.declared.Reading.{Reading}
 use Rattle.model.specs.declared.Reading.the-variants.{Sound, Unsound}
 use Rattle.model.specs.declared.Refusal.{Refusal}
-use Rattle.model.specs.declared.Refusal.the-variants.{WriteRoom, RecordingCount, WitnessCount}
+use Rattle.model.specs.declared.Refusal.the-variants.{RecordingCount, WitnessCount}
 use Rattle.model.specs.declared.Writing.{Writing}
 use Rattle.model.specs.declared.Writing.the-variants.{Written, Unwritten}
 use Rattle.model.proofs.Tests.{test, le-test}

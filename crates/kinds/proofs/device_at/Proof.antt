@@ -1,6 +1,5 @@
 use borrow.Author.Tests.{eq-eqb, ne-eqb}
-use mathlib.Core.Path.{ap}
-use Rattle.model.specs.Kinds.{impliedDevice, deviceAt}
+use Rattle.model.specs.Kinds.{deviceAt}
 use borrow.Author.Needs.{needs}
 use Rattle.kinds.proofs.device_at.Statement.{statement}
 use Rattle.kinds.proofs.device_at.Tie as tie

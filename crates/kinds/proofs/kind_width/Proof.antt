@@ -1,5 +1,4 @@
 use borrow.Author.Tests.{eq-eqb, ne-eqb}
-use Rattle.model.specs.Kinds.{kindWidth}
 use Rattle.kinds.proofs.kind_width.Statement.{statement}
 use Rattle.kinds.proofs.kind_width.Tie as tie
 

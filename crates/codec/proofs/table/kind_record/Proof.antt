@@ -1,5 +1,4 @@
 use borrow.Author.Tests.{le-leb, lt-leb, not-true, not-false}
-use mathlib.Core.Path.{sym, _∙_}
 use Rattle.model.specs.Kinds.{kindRecord}
 use borrow.Author.Needs.{needs}
 use Rattle.codec.proofs.table.kind_record.Statement.{statement}

@@ -3,7 +3,6 @@ use native.Mathlib.Omega.{arith}
 use mathlib.Core.Path.{_≡_, refl, sym, ap, _∙_}
 use lib.ListN.{replicate, length-map}
 use Rattle.model.specs.First.{isSound}
-use Rattle.model.specs.Limits.{tableVersions}
 use Rattle.model.specs.Table.{tableBytes, tableLimit}
 use Rattle.model.proofs.AnswerLaws.{table-writes}
 use Rattle.codec.proofs.Encoded.{write-version, write-early, write-late, counts-within}
