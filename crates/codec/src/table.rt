@@ -1,4 +1,4 @@
-// The table: its scan, which tests and touches no arrays, its fill, and what reading gives.
+// The table: its scan, which tests, its fill, which copies, and what reading and writing give.
 use frame::column::bytes_column;
 use frame::column::smaller;
 use frame::framed_answer;
@@ -12,6 +12,8 @@ use kinds::WIDEST_KIND;
 use kinds::device_fits;
 use kinds::kind_at;
 use kinds::kind_width;
+use kinds::record_at;
+use kinds::transitions_at;
 use model::AIRTIME_LIMIT;
 use model::CLOCK_LIMIT;
 use model::GUARD_LIMIT;
@@ -115,11 +117,10 @@ fn kind_record(b: &[u8], at: u16, device: u8) -> Reading
 fn kind_records<'a>(b: &'a [u8], devices: &'a [u8]) -> Reading
     ensures { λ r. ⌜ r ≡ kindRecords (now (devices .entry)) (now (b .entry)) ⌝ }
 {
-    let version = byte(b, 2);
     let n = byte(b, 6);
     let mut i = 0u8;
     while i < n {
-        let r = kind_record(b, kind_at(version, i), byte(devices, i as usize));
+        let r = kind_record(b, record_at(b, i), byte(devices, i as usize));
         if !sound(r) {
             return r;
         }
@@ -258,7 +259,7 @@ fn transition_records(b: &[u8]) -> Reading
     ensures { λ r. ⌜ r ≡ transitionRecords (transitionsAt (now (b .entry))) (now (b .entry)) (transitionAt (now (b .entry)) 0) ⌝ }
 {
     let n = byte(b, 7);
-    let mut at = kind_at(byte(b, 2), byte(b, 6)) as usize;
+    let mut at = transitions_at(b) as usize;
     let mut i = 0;
     while i < n {
         let r = transition_record(b, at);
@@ -330,7 +331,7 @@ fn transition_column(b: &[u8], field: usize) -> [u8; TRANSITION_LIMIT]
 {
     let n = byte(b, 7) as usize;
     let mut column = [0u8; TRANSITION_LIMIT];
-    let mut at = kind_at(byte(b, 2), byte(b, 6)) as usize;
+    let mut at = transitions_at(b) as usize;
     let mut i = 0;
     while i < n {
         column[i] = byte(b, at + field);
@@ -347,7 +348,7 @@ fn guard_places(b: &[u8]) -> [u8; GUARD_LIMIT * TRANSITION_LIMIT]
 {
     let n = byte(b, 7) as usize;
     let mut guards = [0u8; GUARD_LIMIT * TRANSITION_LIMIT];
-    let mut at = kind_at(byte(b, 2), byte(b, 6)) as usize;
+    let mut at = transitions_at(b) as usize;
     let mut i = 0;
     while i < n {
         let from = at + 7;

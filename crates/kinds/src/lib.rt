@@ -2,7 +2,10 @@
 use model::DEVICE_LIMIT;
 use wire::byte;
 ghost use mathlib.Core.Path.{_≡_};
-ghost use Rattle.model.specs.Kinds.{kindWidth, kindAt, impliedDevice, deviceAt, deviceFits};
+ghost use Prim.Native.Nat.{_≤_};
+ghost use Rattle.model.specs.Limits.{tableVersions};
+ghost use Rattle.model.specs.Table.{transitionAt};
+ghost use Rattle.model.specs.Kinds.{versionAt, kindWidth, kindAt, impliedDevice, deviceAt, deviceFits};
 
 // Where the first record starts, and how long the longest is.
 pub const FIRST_KIND: u8 = 8;
@@ -21,6 +24,20 @@ pub fn kind_at(version: u8, i: u8) -> u16
     ensures { λ r. ⌜ r ≡ kindAt version i ⌝ }
 {
     FIRST_KIND as u16 + kind_width(version) as u16 * i as u16
+}
+
+// Where the record of a kind starts in a table.
+pub fn record_at(table: &[u8], kind: u8) -> u16
+    ensures { λ r. ⌜ r ≡ kindAt (versionAt (now (table .entry))) kind ⌝ }
+{
+    kind_at(byte(table, 2), kind)
+}
+
+// Where the first transition record starts in a table.
+pub fn transitions_at(table: &[u8]) -> u16
+    ensures { λ r. ⌜ (r ≡ transitionAt (now (table .entry)) 0) × (r ≤ kindAt tableVersions 255) ⌝ }
+{
+    record_at(table, byte(table, 6))
 }
 
 // The device that version 1 gives to kinds of a direction.

@@ -9,7 +9,7 @@ use lib.Seq.{take-append-seam}
 use lib.Dec.{leb}
 use Rattle.model.specs.Answers.{Reads, RefusesUnreached, Writes}
 use Rattle.model.specs.First.{isSound}
-use Rattle.model.specs.Numbers.{values, readingValues, writingValues}
+use Rattle.model.specs.Numbers.{readingValues, writingValues}
 use Rattle.model.specs.Devices.{SoundDevices, JudgesDevices}
 use Rattle.model.specs.Limits.{guardLimit, transitionLimit}
 use Rattle.model.specs.Room.{Lent, over, write}

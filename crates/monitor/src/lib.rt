@@ -1,7 +1,8 @@
 // The monitor, straight from a table's bytes: which transition fires, and what a kind's record says. Each function takes any bytes.
 use guard::guard_holds;
 use kinds::device_at;
-use kinds::kind_at;
+use kinds::record_at;
+use kinds::transitions_at;
 use model::Config;
 use model::TRANSITION_LIMIT;
 use wire::byte;
@@ -41,7 +42,7 @@ pub fn offsets(table: &[u8]) -> [u16; TRANSITION_LIMIT]
 {
     let mut found = [0u16; TRANSITION_LIMIT];
     let count = transitions(table);
-    let mut at = kind_at(byte(table, 2), byte(table, 6));
+    let mut at = transitions_at(table);
     let mut j = 0;
     while j < count {
         found[j] = at;
@@ -57,7 +58,7 @@ pub fn to_unit(table: &[u8], kind: u8) -> bool
     if byte(table, 6) <= kind {
         return false;
     }
-    byte(table, kind_at(byte(table, 2), kind) as usize) == 1
+    byte(table, record_at(table, kind) as usize) == 1
 }
 
 pub fn airtime_of(table: &[u8], kind: u8) -> u8
@@ -66,7 +67,7 @@ pub fn airtime_of(table: &[u8], kind: u8) -> u8
     if byte(table, 6) <= kind {
         return 0;
     }
-    byte(table, kind_at(byte(table, 2), kind) as usize + 1)
+    byte(table, record_at(table, kind) as usize + 1)
 }
 
 pub fn device_of(table: &[u8], kind: u8) -> u8
@@ -75,7 +76,7 @@ pub fn device_of(table: &[u8], kind: u8) -> u8
     if byte(table, 6) <= kind {
         return 0;
     }
-    device_at(table, kind_at(byte(table, 2), kind))
+    device_at(table, record_at(table, kind))
 }
 
 // The first n variables after some are set and some are cleared.

@@ -17,11 +17,8 @@ returns : tie.Need-returns
 unfolding monitorFrom
 returns c offsets = let b = c .before .before .before .args .table .now in sym (getD-tab-past (λ k. byteAt b (kindAt (versionAt b) k + 1)) 0 (kindsAt b) (c .before .before .before .args .kind) (omega arith))
 
-byte-requires-2 : tie.Need-byte-requires-2
-byte-requires-2 c κs = search needs
-
-kind-at-requires : tie.Need-kind-at-requires
-kind-at-requires c κs = search needs
+record-at-requires : tie.Need-record-at-requires
+record-at-requires c κs = search needs
 
 cast-byte : tie.Need-cast-byte
 cast-byte c = search needs
@@ -29,16 +26,16 @@ cast-byte c = search needs
 add-byte : tie.Need-add-byte
 add-byte c = search needs
 
-byte-requires-3 : tie.Need-byte-requires-3
-byte-requires-3 c κs = search needs
+byte-requires-2 : tie.Need-byte-requires-2
+byte-requires-2 c κs = search needs
 
 returns-2 : tie.Need-returns-2
 unfolding monitorFrom
 returns-2 c offsets =
-    let b = c .before .before .before .before .before .before .args .table .now in
-    c .byte3 .ensures .0
-    ∙ ap (λ (at : ℕ). byteAt b (at + 1)) (c .before .kind-at .ensures ∙ ap (λ (v : ℕ). kindAt v (c .before .before .before .before .before .before .args .kind)) (c .before .before .byte2 .ensures .0))
-    ∙ sym (getD-tab (λ k. byteAt b (kindAt (versionAt b) k + 1)) 0 (kindsAt b) (c .before .before .before .before .before .before .args .kind) (omega arith))
+    let b = c .before .before .before .before .before .args .table .now in
+    c .byte2 .ensures .0
+    ∙ ap (λ (at : ℕ). byteAt b (at + 1)) (c .before .record-at .ensures)
+    ∙ sym (getD-tab (λ k. byteAt b (kindAt (versionAt b) k + 1)) 0 (kindsAt b) (c .before .before .before .before .before .args .kind) (omega arith))
 
 pub airtime-of-spec : {M : Type 1} → statement M
-airtime-of-spec = tie.close (tie.spec byte-requires returns byte-requires-2 kind-at-requires cast-byte add-byte byte-requires-3 returns-2)
+airtime-of-spec = tie.close (tie.spec byte-requires returns record-at-requires cast-byte add-byte byte-requires-2 returns-2)

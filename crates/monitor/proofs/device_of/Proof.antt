@@ -1,4 +1,3 @@
-use Prim.Native.Nat.{ℕ}
 use native.Mathlib.Omega.{arith}
 use mathlib.Core.Path.{sym, ap, _∙_}
 use Rattle.model.specs.Kinds.{versionAt, kindAt, deviceAt}
@@ -16,11 +15,8 @@ returns : tie.Need-returns
 unfolding monitorFrom
 returns c offsets = let b = c .before .before .before .args .table .now in sym (getD-tab-past (λ k. deviceAt b (kindAt (versionAt b) k)) 0 (kindsAt b) (c .before .before .before .args .kind) (omega arith))
 
-byte-requires-2 : tie.Need-byte-requires-2
-byte-requires-2 c κs = search needs
-
-kind-at-requires : tie.Need-kind-at-requires
-kind-at-requires c κs = search needs
+record-at-requires : tie.Need-record-at-requires
+record-at-requires c κs = search needs
 
 device-at-requires : tie.Need-device-at-requires
 device-at-requires c κs = search needs
@@ -28,10 +24,10 @@ device-at-requires c κs = search needs
 returns-2 : tie.Need-returns-2
 unfolding monitorFrom
 returns-2 c offsets =
-    let b = c .before .before .before .before .before .before .args .table .now in
+    let b = c .before .before .before .before .before .args .table .now in
     c .device-at .ensures
-    ∙ ap (deviceAt b) (c .before .kind-at .ensures ∙ ap (λ (v : ℕ). kindAt v (c .before .before .before .before .before .before .args .kind)) (c .before .before .byte2 .ensures .0))
-    ∙ sym (getD-tab (λ k. deviceAt b (kindAt (versionAt b) k)) 0 (kindsAt b) (c .before .before .before .before .before .before .args .kind) (omega arith))
+    ∙ ap (deviceAt b) (c .before .record-at .ensures)
+    ∙ sym (getD-tab (λ k. deviceAt b (kindAt (versionAt b) k)) 0 (kindsAt b) (c .before .before .before .before .before .args .kind) (omega arith))
 
 pub device-of-spec : {M : Type 1} → statement M
-device-of-spec = tie.close (tie.spec byte-requires returns byte-requires-2 kind-at-requires device-at-requires returns-2)
+device-of-spec = tie.close (tie.spec byte-requires returns record-at-requires device-at-requires returns-2)

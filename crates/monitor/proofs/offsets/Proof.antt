@@ -5,12 +5,10 @@ use Rattle.monitor.specs.From.{offsetsOf}
 use Prim.Native.Nat.{ℕ, suc, _+_, _*_, _-_, _≤_, _<_, min}
 use native.Mathlib.Omega.{arith}
 use native.Mathlib.Numerals.{add-one}
-use mathlib.Core.Path.{_≡_, refl, sym, ap, ap₂, _∙_}
+use mathlib.Core.Path.{_≡_, refl, sym, ap, _∙_}
 use Rattle.model.specs.Limits.{transitionLimit}
 use Rattle.model.specs.Bytes.{byteAt, tab, padded}
-use Rattle.model.specs.Kinds.{kindAt}
 use Rattle.model.specs.Table.{transitionsAt, transitionAt}
-use Rattle.model.proofs.KindForm.{kind-most}
 use Rattle.model.proofs.Basics.{length-tab}
 use borrow.Author.Needs.{needs}
 use Rattle.monitor.proofs.offsets.Statement.{statement}
@@ -46,25 +44,12 @@ abbrev μ-loop : tie.MeasureT-loop
 transitions-requires : tie.Need-transitions-requires Inv-loop μ-loop
 transitions-requires c κs = search needs
 
-byte-requires : tie.Need-byte-requires Inv-loop μ-loop
-byte-requires c κs = search needs
-
-byte-requires-2 : tie.Need-byte-requires-2 Inv-loop μ-loop
-byte-requires-2 c κs = search needs
-
-kind-at-requires : tie.Need-kind-at-requires Inv-loop μ-loop
-kind-at-requires c κs = search needs
+transitions-at-requires : tie.Need-transitions-at-requires Inv-loop μ-loop
+transitions-at-requires c κs = search needs
 
 loop-holds : tie.Need-loop-holds Inv-loop μ-loop
-unfolding transitionAt tab padded
-loop-holds c =
-    let most = kind-most (c .before .before .byte .result) (c .before .byte2 .result) (omega arith) in (
-      omega arith,
-      c .before .before .before .transitions .ensures,
-      c .kind-at .ensures ∙ ap₂ kindAt (c .before .before .byte .ensures .0) (c .before .byte2 .ensures .0),
-      omega (arith, c .kind-at .ensures),
-      refl,
-    )
+unfolding tab padded
+loop-holds c = (omega arith, c .before .transitions .ensures, c .transitions-at .ensures .0, omega (arith, c .transitions-at .ensures .1), refl)
 
 mul-found : tie.Need-mul-found Inv-loop μ-loop
 mul-found c = search needs
@@ -78,8 +63,8 @@ cast-byte c = search needs
 add-byte : tie.Need-add-byte Inv-loop μ-loop
 add-byte c = search needs
 
-byte-requires-3 : tie.Need-byte-requires-3 Inv-loop μ-loop
-byte-requires-3 c κs = search needs
+byte-requires : tie.Need-byte-requires Inv-loop μ-loop
+byte-requires c κs = search needs
 
 cast-at : tie.Need-cast-at Inv-loop μ-loop
 cast-at c = search needs
@@ -99,9 +84,9 @@ loop-less c = search needs
 loop-again : tie.Need-loop-again Inv-loop μ-loop
 loop-again c =
     let l = c .before .before .loop in
-    let table = c .before .before .before .before .before .before .before .before .args .table .now in
-    let next : l .at + (7 + c .byte3 .result) ≡ transitionAt table (l .j + 1) =
-    next-record table (l .j) (l .at) (c .byte3 .result) (l .inv .2) (c .byte3 .ensures .0) in (
+    let table = c .before .before .before .before .before .before .args .table .now in
+    let next : l .at + (7 + c .byte .result) ≡ transitionAt table (l .j + 1) =
+    next-record table (l .j) (l .at) (c .byte .result) (l .inv .2) (c .byte .ensures .0) in (
       omega arith,
       l .inv .1,
       next,
@@ -113,7 +98,7 @@ returns : tie.Need-returns Inv-loop μ-loop
 unfolding offsetsOf
 returns c =
     let l = c .before .loop in
-    let table = c .before .before .before .before .before .before .before .args .table .now in
+    let table = c .before .before .before .before .before .args .table .now in
     let full : l .j ≡ min (transitionsAt table) transitionLimit = omega arith in
     l .inv .4 ∙ ap (λ (n : ℕ). padded transitionLimit (tab (transitionAt table) n)) full
 
@@ -124,15 +109,13 @@ offsets-spec =
     Inv-loop
     μ-loop
     transitions-requires
-    byte-requires
-    byte-requires-2
-    kind-at-requires
+    transitions-at-requires
     loop-holds
     mul-found
     array-write-found
     cast-byte
     add-byte
-    byte-requires-3
+    byte-requires
     cast-at
     add-at
     add-at-2

@@ -2,11 +2,9 @@ use Prim.Native.Nat.{_<_, _≤_, _-_, _+_, _*_}
 use Rattle.model.specs.Limits.{guardLimit, transitionLimit}
 use Rattle.codec.proofs.Tables.{next-at, guard-inside, guard-turn}
 use native.Mathlib.Omega.{arith}
-use mathlib.Core.Path.{_≡_, sym, refl, ap, ap₂, _∙_}
+use mathlib.Core.Path.{_≡_, sym, refl, ap, _∙_}
 use lib.ListN.{length}
 use Rattle.model.specs.Bytes.{joined, padded}
-use Rattle.model.specs.Kinds.{kindAt}
-use Rattle.model.proofs.KindForm.{kind-most}
 use Rattle.model.specs.Table.{transitionAt, transitionsAt, guardPlace}
 use borrow.Author.Needs.{needs}
 use Rattle.codec.proofs.table.guard_places.Statement.{statement}
@@ -24,23 +22,15 @@ byte-requires c κs = search needs
 cast-n : tie.Need-cast-n Inv-loop μ-loop
 cast-n c = search needs
 
-byte-requires-2 : tie.Need-byte-requires-2 Inv-loop μ-loop
-byte-requires-2 c κs = search needs
-
-byte-requires-3 : tie.Need-byte-requires-3 Inv-loop μ-loop
-byte-requires-3 c κs = search needs
-
-kind-at-requires : tie.Need-kind-at-requires Inv-loop μ-loop
-kind-at-requires c κs = search needs
+transitions-at-requires : tie.Need-transitions-at-requires Inv-loop μ-loop
+transitions-at-requires c κs = search needs
 
 cast-at : tie.Need-cast-at Inv-loop μ-loop
 cast-at c = search needs
 
 loop-holds : tie.Need-loop-holds Inv-loop μ-loop
-unfolding padded joined transitionAt
-loop-holds c =
-    let most = kind-most (c .before .before .byte2 .result) (c .before .byte3 .result) (omega arith) in
-    (omega arith, c .before .before .before .byte .ensures .0, omega (arith, c .kind-at .ensures), c .kind-at .ensures ∙ ap₂ kindAt (c .before .before .byte2 .ensures .0) (c .before .byte3 .ensures .0), refl, refl)
+unfolding padded joined
+loop-holds c = (omega arith, c .before .byte .ensures .0, omega (arith, c .transitions-at .ensures .1), c .transitions-at .ensures .0, refl, refl)
 
 add-from : tie.Need-add-from Inv-loop μ-loop
 add-from c = search needs
@@ -48,8 +38,8 @@ add-from c = search needs
 add-byte : tie.Need-add-byte Inv-loop μ-loop
 add-byte c = search needs
 
-byte-requires-4 : tie.Need-byte-requires-4 Inv-loop μ-loop
-byte-requires-4 c κs = search needs
+byte-requires-2 : tie.Need-byte-requires-2 Inv-loop μ-loop
+byte-requires-2 c κs = search needs
 
 cast-to : tie.Need-cast-to Inv-loop μ-loop
 cast-to c = search needs
@@ -65,7 +55,7 @@ part-place-start c = search needs
 
 part-place-end : tie.Need-part-place-end Inv-loop μ-loop
 part-place-end c = let l = c .before .before .loop in
-    omega (arith, guard-inside (c .before .before .before .before .before .before .before .before .args .b .now) (c .before .before .before .before .before .before .before .before .pre) (l .i) (l .at) (c .byte4 .result) (omega arith) (l .inv .3) (c .byte4 .ensures .0) .1)
+    omega (arith, guard-inside (c .before .before .before .before .before .before .args .b .now) (c .before .before .before .before .before .before .pre) (l .i) (l .at) (c .byte2 .result) (omega arith) (l .inv .3) (c .byte2 .ensures .0) .1)
 
 slice-aggregate-place : tie.Need-slice-aggregate-place Inv-loop μ-loop
 slice-aggregate-place c = sym (c .before .before .before .before .loop .inv .4)
@@ -83,20 +73,20 @@ loop-less : tie.Need-loop-less Inv-loop μ-loop
 loop-less c = search needs
 
 loop-again : tie.Need-loop-again Inv-loop μ-loop
-loop-again c = let b = c .before .before .before .before .before .before .before .before .before .before .before .before .args .b .now in
+loop-again c = let b = c .before .before .before .before .before .before .before .before .before .before .args .b .now in
     let l = c .before .before .before .before .before .before .loop in
     let within : l .i < transitionsAt b = omega arith in (
       omega arith,
       l .inv .1,
       omega arith,
-      next-at b (l .at) (l .i) (c .before .before .before .before .byte4 .result) (l .inv .3) (c .before .before .before .before .byte4 .ensures .0),
+      next-at b (l .at) (l .i) (c .before .before .before .before .byte2 .result) (l .inv .3) (c .before .before .before .before .byte2 .ensures .0),
       c .before .place .kept .1 .0 ∙ l .inv .4,
-      c .before .place .ensures ∙ guard-turn b (c .before .before .before .before .before .before .before .before .before .before .before .before .pre) (l .i) (l .at) (c .before .before .before .before .byte4 .result) within (l .inv .3) (c .before .before .before .before .byte4 .ensures .0) (l .guards) (l .inv .5),
+      c .before .place .ensures ∙ guard-turn b (c .before .before .before .before .before .before .before .before .before .before .pre) (l .i) (l .at) (c .before .before .before .before .byte2 .result) within (l .inv .3) (c .before .before .before .before .byte2 .ensures .0) (l .guards) (l .inv .5),
     )
 
 returns : tie.Need-returns Inv-loop μ-loop
-returns c = let all : c .before .loop .i ≡ transitionsAt (c .before .before .before .before .before .before .before .args .b .now) = omega arith in
-    c .before .loop .inv .5 ∙ ap (λ n. padded (guardLimit * transitionLimit) (joined (guardPlace (c .before .before .before .before .before .before .before .args .b .now)) n)) all
+returns c = let all : c .before .loop .i ≡ transitionsAt (c .before .before .before .before .before .args .b .now) = omega arith in
+    c .before .loop .inv .5 ∙ ap (λ n. padded (guardLimit * transitionLimit) (joined (guardPlace (c .before .before .before .before .before .args .b .now)) n)) all
 
 pub guard-places-spec : {M : Type 1} → statement M
 guard-places-spec =
@@ -106,14 +96,12 @@ guard-places-spec =
     μ-loop
     byte-requires
     cast-n
-    byte-requires-2
-    byte-requires-3
-    kind-at-requires
+    transitions-at-requires
     cast-at
     loop-holds
     add-from
     add-byte
-    byte-requires-4
+    byte-requires-2
     cast-to
     add-to
     sub-place

@@ -4,12 +4,10 @@ use Rattle.codec.proofs.Tables.{next-at}
 use Rattle.model.specs.Bytes.{padded, byteAt, tab}
 use Prim.Native.Nat.{ℕ, _≤_, _-_, _+_, _*_}
 use native.Mathlib.Omega.{arith}
-use mathlib.Core.Path.{_≡_, refl, ap, ap₂, _∙_}
+use mathlib.Core.Path.{_≡_, refl, ap, _∙_}
 use mathlib.Core.List.{List, _++_}
 use lib.ListN.{drop, set}
-use Rattle.model.specs.Kinds.{kindAt}
 use Rattle.model.specs.Table.{transitionAt}
-use Rattle.model.proofs.KindForm.{kind-most}
 use borrow.Author.Needs.{needs}
 use Rattle.codec.proofs.table.transition_column.Statement.{statement}
 use Rattle.codec.proofs.table.transition_column.Tie as tie
@@ -26,29 +24,21 @@ byte-requires c κs = search needs
 cast-n : tie.Need-cast-n Inv-loop μ-loop
 cast-n c = search needs
 
-byte-requires-2 : tie.Need-byte-requires-2 Inv-loop μ-loop
-byte-requires-2 c κs = search needs
-
-byte-requires-3 : tie.Need-byte-requires-3 Inv-loop μ-loop
-byte-requires-3 c κs = search needs
-
-kind-at-requires : tie.Need-kind-at-requires Inv-loop μ-loop
-kind-at-requires c κs = search needs
+transitions-at-requires : tie.Need-transitions-at-requires Inv-loop μ-loop
+transitions-at-requires c κs = search needs
 
 cast-at : tie.Need-cast-at Inv-loop μ-loop
 cast-at c = search needs
 
 loop-holds : tie.Need-loop-holds Inv-loop μ-loop
-unfolding tab transitionAt
-loop-holds c =
-    let most = kind-most (c .before .before .byte2 .result) (c .before .byte3 .result) (omega arith) in
-    (omega arith, omega arith, omega (arith, c .kind-at .ensures), c .kind-at .ensures ∙ ap₂ kindAt (c .before .before .byte2 .ensures .0) (c .before .byte3 .ensures .0), refl)
+unfolding tab
+loop-holds c = (omega arith, omega arith, omega (arith, c .transitions-at .ensures .1), c .transitions-at .ensures .0, refl)
 
 add-byte : tie.Need-add-byte Inv-loop μ-loop
 add-byte c = search needs
 
-byte-requires-4 : tie.Need-byte-requires-4 Inv-loop μ-loop
-byte-requires-4 c κs = search needs
+byte-requires-2 : tie.Need-byte-requires-2 Inv-loop μ-loop
+byte-requires-2 c κs = search needs
 
 array-write-column : tie.Need-array-write-column Inv-loop μ-loop
 array-write-column c = search needs
@@ -59,8 +49,8 @@ add-at c = search needs
 add-byte-2 : tie.Need-add-byte-2 Inv-loop μ-loop
 add-byte-2 c = search needs
 
-byte-requires-5 : tie.Need-byte-requires-5 Inv-loop μ-loop
-byte-requires-5 c κs = search needs
+byte-requires-3 : tie.Need-byte-requires-3 Inv-loop μ-loop
+byte-requires-3 c κs = search needs
 
 cast-at-2 : tie.Need-cast-at-2 Inv-loop μ-loop
 cast-at-2 c = search needs
@@ -75,22 +65,22 @@ loop-less : tie.Need-loop-less Inv-loop μ-loop
 loop-less c = search needs
 
 loop-again : tie.Need-loop-again Inv-loop μ-loop
-loop-again c = let a = c .before .before .before .before .before .before .before .before .before .args in
+loop-again c = let a = c .before .before .before .before .before .before .before .args in
     let l = c .before .before .before .loop in
     let b = a .b .now in (
       omega arith,
       omega arith,
       omega arith,
-      next-at b (l .at) (l .i) (c .byte5 .result) (l .inv .3) (c .byte5 .ensures .0),
-      ap (λ (k : List ℕ). set k (l .i) (c .before .byte4 .result)) (l .inv .4)
-          ∙ rw (c .before .byte4 .ensures .0, l .inv .3) (column-more (λ j. byteAt b (transitionAt b j + a .field)) _ (l .i) (omega arith)),
+      next-at b (l .at) (l .i) (c .byte3 .result) (l .inv .3) (c .byte3 .ensures .0),
+      ap (λ (k : List ℕ). set k (l .i) (c .before .byte2 .result)) (l .inv .4)
+          ∙ rw (c .before .byte2 .ensures .0, l .inv .3) (column-more (λ j. byteAt b (transitionAt b j + a .field)) _ (l .i) (omega arith)),
     )
 
 returns : tie.Need-returns Inv-loop μ-loop
-returns c = let a = c .before .before .before .before .before .before .before .args in
+returns c = let a = c .before .before .before .before .before .args in
     let f : ℕ → ℕ = λ j. byteAt (a .b .now) (transitionAt (a .b .now) j + a .field) in
-    let all : c .before .loop .i ≡ c .before .before .before .before .before .byte .result = omega arith in
-    c .before .loop .inv .4 ∙ column-padded f (c .before .loop .i) transitionLimit ∙ ap (λ n. padded transitionLimit (tab f n)) (all ∙ c .before .before .before .before .before .byte .ensures .0)
+    let all : c .before .loop .i ≡ c .before .before .before .byte .result = omega arith in
+    c .before .loop .inv .4 ∙ column-padded f (c .before .loop .i) transitionLimit ∙ ap (λ n. padded transitionLimit (tab f n)) (all ∙ c .before .before .before .byte .ensures .0)
 
 pub transition-column-spec : {M : Type 1} → statement M
 transition-column-spec =
@@ -100,17 +90,15 @@ transition-column-spec =
     μ-loop
     byte-requires
     cast-n
-    byte-requires-2
-    byte-requires-3
-    kind-at-requires
+    transitions-at-requires
     cast-at
     loop-holds
     add-byte
-    byte-requires-4
+    byte-requires-2
     array-write-column
     add-at
     add-byte-2
-    byte-requires-5
+    byte-requires-3
     cast-at-2
     add-at-2
     add-i
