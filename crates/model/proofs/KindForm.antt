@@ -11,7 +11,7 @@ use lib.Dec.{leb, eqb}
 use borrow.Author.Tests.{eqb-true}
 use Rattle.model.specs.Limits.{airtimeLimit, deviceLimit}
 use Rattle.model.specs.Bytes.{byteAt, joined}
-use Rattle.model.specs.Kinds.{versionAt, kindWidth, kindAt, impliedDevice, deviceAt, deviceFits, kindRecord, kindBytes}
+use Rattle.model.specs.Kinds.{versionAt, kindWidth, kindAt, impliedDevice, deviceAt, deviceFits, kindRecord, kindFields, kindBytes}
 use Rattle.model.specs.declared.TableParts.{TableParts}
 use Rattle.model.specs.declared.Reading.{Reading}
 use Rattle.model.specs.declared.Refusal.{Refusal}
@@ -48,7 +48,7 @@ pub kind-length : (t : TableParts) (i : ℕ) → length (kindBytes t i) ≡ kind
 unfolding kindBytes
 kind-length t i = go (eqb (t .version) 1)
   where
-    go : (one : Bool) → length (take (cond one 2 3) (byteAt (t .directions) i ∷ byteAt (t .airtimes) i ∷ byteAt (t .devices) i ∷ [])) ≡ cond one 2 3
+    go : (one : Bool) → length (take (cond one 2 3) (kindFields t i)) ≡ cond one 2 3
     go true = refl
     go false = refl
 
@@ -57,9 +57,9 @@ kinds-length t n = length-joined (kindBytes t) (kindWidth (t .version)) n (λ i 
 
 pub kind-byte :
     (t : TableParts) (i k : ℕ) → k < kindWidth (t .version)
-    → byteAt (kindBytes t i) k ≡ byteAt (byteAt (t .directions) i ∷ byteAt (t .airtimes) i ∷ byteAt (t .devices) i ∷ []) k
+    → byteAt (kindBytes t i) k ≡ byteAt (kindFields t i) k
 unfolding kindBytes
-kind-byte t i k h = getD-take (kindWidth (t .version)) (byteAt (t .directions) i ∷ byteAt (t .airtimes) i ∷ byteAt (t .devices) i ∷ []) k 0 h
+kind-byte t i k h = getD-take (kindWidth (t .version)) (kindFields t i) k 0 h
 
 -- where a third byte is, it is the device
 pub device-byte : (b : List ℕ) (at : ℕ) → 2 < kindWidth (versionAt b) → deviceAt b at ≡ byteAt b (at + 2)

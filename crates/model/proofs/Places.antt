@@ -156,6 +156,9 @@ module _ {A : Type 0} where
   tab-same f g zero h = refl
   tab-same f g (suc n) h = ap₂ (λ (l : List A) (x : A). l ++ (x ∷ [])) (tab-same f g n (λ i p. h i (omega arith))) (h n (omega arith))
 
+  pub tab-alike : (f g : ℕ → A) (n m : ℕ) → n ≡ m → ((i : ℕ) → i < m → f i ≡ g i) → tab f n ≡ tab g m
+  tab-alike f g n m e h = ap (tab f) e ∙ tab-same f g m h
+
   pub tab-cons : (f : ℕ → A) (n : ℕ) → tab f (suc n) ≡ f 0 ∷ tab (λ i. f (suc i)) n
   unfolding tab
   tab-cons f zero = refl

@@ -158,7 +158,7 @@ pub record TableFacts (devices b : List ℕ) : Type 0 where
   pub transition : (j : ℕ) → j < transitionsAt b → SoundTransition b (transitionAt b j)
   pub end : transitionAt b (transitionsAt b) ≡ length b
 
-abbrev pub scanTests : (devices b : List ℕ) → List Reading
+abbrev scanTests : (devices b : List ℕ) → List Reading
 scanTests devices b =
     framed b 8 tableVersions TableFrame TableVersion
     ∷ tableCounts b

@@ -7,16 +7,16 @@ use mathlib.Core.List.{List, [], _∷_, _++_}
 use lib.ListN.{length, take, drop, length-append, length-take, length-drop}
 use lib.Seq.{length-take-le, getD-take, getD-drop}
 use Rattle.model.specs.Limits.{kindLimit, transitionLimit, guardLimit}
-use Rattle.model.specs.Bytes.{byteAt, tab, wordAt, wordBytes, joined}
+use Rattle.model.specs.Bytes.{byteAt, wordAt, wordBytes, joined}
 use lib.Dec.{eqb}
 use Rattle.model.specs.Guard.{guardAt, guardOf}
 use Rattle.model.proofs.GuardForm.{guard-moved, moved-guard}
 use Rattle.model.specs.Table.{guardIn, transitionIn, monitorOf, monitorAt, kindsAt, transitionsAt, guardLengthAt, transitionAt, guardPlace, tableParts, SoundTable, kindRecords, scanWith, answerWith, tableAnswer, tableWritable, kindColumn, deviceColumn, transitionColumn, fieldBytes, guardBytesIn, transitionBytes, countBytes, tableBody, tableBytes}
-use Rattle.model.specs.Kinds.{versionAt, kindWidth, kindAt, deviceAt, kindRecord, kindBytes}
+use Rattle.model.specs.Kinds.{versionAt, kindWidth, kindAt, deviceAt, kindRecord, kindFields, kindBytes}
 use Rattle.model.specs.Same.{Zero, SameTable, TableZero}
 use Rattle.model.specs.declared.Reading.the-variants.{Sound}
 use Rattle.model.specs.declared.TableParts.{TableParts}
-use Rattle.model.proofs.Places.{AllBytes, Stands, stands-append, stands-left, stands-right, stands-moved, stands-self, stands-whole, word-at, length-padded, getD-padded-past, getD-column, getD-column-past, stands-joined, joined-stands, tab-same}
+use Rattle.model.proofs.Places.{AllBytes, Stands, stands-append, stands-left, stands-right, stands-moved, stands-self, stands-whole, word-at, length-padded, getD-padded-past, getD-column, getD-column-past, stands-joined, joined-stands, tab-same, tab-alike}
 use Rattle.model.proofs.KindForm.{wide-enough, no-wider, kind-length, kinds-length, kind-byte, device-byte, device-back}
 use Rattle.model.proofs.TableForm.{SoundTransition, TableFacts, scan-facts, scan-sound, table-facts, places-length, guard-place, guard-byte}
 
@@ -241,7 +241,7 @@ module _ (t : TableParts) (full : length (t .guards) ≡ guardLimit * transition
   read-kind : (i : ℕ) → i < t .kinds → (k : ℕ) → k < kindWidth (t .version) → byteAt (tableBytes t) (kindAt (versionAt (tableBytes t)) i + k) ≡ byteAt (kindBytes t i) k
   read-kind i h k p = let v : versionAt (tableBytes t) ≡ t .version = written-counts t 0 (omega arith) in rw v (written-kind t i h k (rw (kind-length t i) p))
 
-  back-kind : (i : ℕ) → i < t .kinds → (k : ℕ) → k < 2 → byteAt (kindColumn (tableBytes t) k) i ≡ byteAt (byteAt (t .directions) i ∷ byteAt (t .airtimes) i ∷ byteAt (t .devices) i ∷ []) k
+  back-kind : (i : ℕ) → i < t .kinds → (k : ℕ) → k < 2 → byteAt (kindColumn (tableBytes t) k) i ≡ byteAt (kindFields t i) k
   back-kind i h k p =
       let b : List ℕ = tableBytes t in
       let q : k < kindWidth (t .version) = omega (arith, wide-enough (t .version)) in
@@ -339,21 +339,10 @@ module _ (t u : TableParts) (same : SameTable t u) (few : (j : ℕ) → j < u .t
   pub same-monitor : monitorOf t ≡ monitorOf u
   unfolding monitorOf
   same-monitor =
-      let inbound : tab (λ k. eqb (byteAt (t .directions) k) 1) (t .kinds) ≡ tab (λ k. eqb (byteAt (u .directions) k) 1) (u .kinds) =
-      ap (λ (n : ℕ). tab (λ k. eqb (byteAt (t .directions) k) 1) n) (same .kinds)
-      ∙ tab-same (λ k. eqb (byteAt (t .directions) k) 1) (λ k. eqb (byteAt (u .directions) k) 1) (u .kinds) (λ k h. ap (λ (x : ℕ). eqb x 1) (same .directions k h))
-      in
-      let airtimes : tab (λ k. byteAt (t .airtimes) k) (t .kinds) ≡ tab (λ k. byteAt (u .airtimes) k) (u .kinds) =
-      ap (λ (n : ℕ). tab (λ k. byteAt (t .airtimes) k) n) (same .kinds)
-      ∙ tab-same (λ k. byteAt (t .airtimes) k) (λ k. byteAt (u .airtimes) k) (u .kinds) (same .airtimes)
-      in
-      let devices : tab (λ k. byteAt (t .devices) k) (t .kinds) ≡ tab (λ k. byteAt (u .devices) k) (u .kinds) =
-      ap (λ (n : ℕ). tab (λ k. byteAt (t .devices) k) n) (same .kinds)
-      ∙ tab-same (λ k. byteAt (t .devices) k) (λ k. byteAt (u .devices) k) (u .kinds) (same .devices)
-      in
-      let transitions : tab (transitionIn t) (t .transitions) ≡ tab (transitionIn u) (u .transitions) =
-      ap (λ (n : ℕ). tab (transitionIn t) n) (same .transitions) ∙ tab-same (transitionIn t) (transitionIn u) (u .transitions) same-transition
-      in
+      let inbound = tab-alike (λ k. eqb (byteAt (t .directions) k) 1) (λ k. eqb (byteAt (u .directions) k) 1) (t .kinds) (u .kinds) (same .kinds) (λ k h. ap (λ (x : ℕ). eqb x 1) (same .directions k h)) in
+      let airtimes = tab-alike (λ k. byteAt (t .airtimes) k) (λ k. byteAt (u .airtimes) k) (t .kinds) (u .kinds) (same .kinds) (same .airtimes) in
+      let devices = tab-alike (λ k. byteAt (t .devices) k) (λ k. byteAt (u .devices) k) (t .kinds) (u .kinds) (same .kinds) (same .devices) in
+      let transitions = tab-alike (transitionIn t) (transitionIn u) (t .transitions) (u .transitions) (same .transitions) same-transition in
       λ i.
       record {
         states = same .states i;

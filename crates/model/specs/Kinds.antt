@@ -48,5 +48,9 @@ kindRecord b at device =
     ∷ [])
 
 -- the record of kind i as it is written
+
+abbrev pub kindFields : TableParts → ℕ → List ℕ
+kindFields t i = getD (t .directions) i 0 ∷ getD (t .airtimes) i 0 ∷ getD (t .devices) i 0 ∷ []
+
 unfoldable pub kindBytes : TableParts → ℕ → List ℕ
-kindBytes t i = take (kindWidth (t .version)) (getD (t .directions) i 0 ∷ getD (t .airtimes) i 0 ∷ getD (t .devices) i 0 ∷ [])
+kindBytes t i = take (kindWidth (t .version)) (kindFields t i)

@@ -1,11 +1,11 @@
-use mathlib.Core.List.{List, [], _∷_, _++_}
+use mathlib.Core.List.{List, _++_}
 use Prim.Native.Nat.{ℕ, _≤_, _+_, _-_}
 use native.Mathlib.Omega.{arith}
 use mathlib.Core.Path.{_≡_, refl, sym, ap, ap₂, _∙_}
-use lib.ListN.{length, getD, take}
+use lib.ListN.{length, take}
 use Rattle.model.specs.Bytes.{joined}
 use Rattle.model.specs.Room.{over}
-use Rattle.model.specs.Kinds.{kindWidth, kindAt, kindBytes}
+use Rattle.model.specs.Kinds.{kindWidth, kindAt, kindFields, kindBytes}
 use Rattle.model.specs.Table.{tableLimit}
 use Rattle.model.proofs.KindForm.{no-wider}
 use Rattle.wire.specs.Placed.{placed}
@@ -75,8 +75,8 @@ loop-again c =
     let row = kindBytes t (l .i) in
     let width = c .before .before .before .before .before .before .before .before .before .before .before .before .kind-width .result in
     let all : width - 0 ≡ kindWidth (t .version) = omega (arith, l .inv .2) in
-    let record-is : take (width - 0) (getD (t .directions) (l .i) 0 ∷ getD (t .airtimes) (l .i) 0 ∷ getD (t .devices) (l .i) 0 ∷ []) ≡ row =
-    ap (λ (n : ℕ). take n (getD (t .directions) (l .i) 0 ∷ getD (t .airtimes) (l .i) 0 ∷ getD (t .devices) (l .i) 0 ∷ [])) all in (
+    let record-is : take (width - 0) (kindFields t (l .i)) ≡ row =
+    ap (λ (n : ℕ). take n (kindFields t (l .i))) all in (
       omega arith,
       c .before .before .place .kept .1 .0 ∙ l .inv .1,
       l .inv .2,
