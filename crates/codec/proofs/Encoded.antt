@@ -1,7 +1,7 @@
 -- The bytes of a table, as they are placed record by record.
-use Prim.Native.Nat.{ℕ, _+_, _-_, _*_, _≤_, _<_, min}
+use Prim.Native.Nat.{ℕ, suc, _+_, _-_, _*_, _≤_, _<_, min}
 use native.Mathlib.Omega.{arith}
-use native.Mathlib.Nat.{min-eq-left, min-eq-right, mul-le-mul}
+use native.Mathlib.Nat.{min-eq-left, min-eq-right}
 use native.Mathlib.Decide.{decLe}
 use mathlib.Core.Path.{_≡_, refl, sym, ap, _∙_}
 use mathlib.Core.List.{List, [], _∷_, _++_, append-assoc}
@@ -24,7 +24,7 @@ use Rattle.model.specs.declared.Refusal.{Refusal}
 use Rattle.model.specs.declared.Writing.{Writing}
 use Rattle.model.specs.declared.Writing.the-variants.{Unwritten}
 use Rattle.model.specs.declared.TableParts.{TableParts}
-use Rattle.model.proofs.KindForm.{no-wider, kind-length, kinds-length, kind-most}
+use Rattle.model.proofs.KindForm.{kind-next, kind-most, kind-length, kinds-length}
 use Rattle.model.proofs.TableTrip.{monitor-back}
 use Rattle.wire.specs.Placed.{placed}
 use Rattle.wire.proofs.Room.{placed-behind}
@@ -62,13 +62,7 @@ kinds-long t head i h = length-append head (joined (kindBytes t) i) ∙ omega (a
 
 -- a kind's record ends before the longest table does
 pub kind-room : (t : TableParts) (i : ℕ) → i < kindLimit → kindAt (t .version) i + length (kindBytes t i) ≤ tableLimit
-kind-room t i h =
-    let few : i ≤ 31 = omega arith in
-    omega (arith, kind-length t i, no-wider (t .version), mul-le-mul (no-wider (t .version)) few)
-
--- the transitions start before the longest table does
-pub kinds-room : (version n : ℕ) → n ≤ kindLimit → kindAt version n ≤ kindAt tableVersions kindLimit
-kinds-room version n h = omega (arith, mul-le-mul (no-wider version) h)
+kind-room t i h = omega (arith, kind-length t i, kind-next (t .version) i, kind-most (t .version) (suc i) kindLimit h)
 
 -- a record of two parts, the first of seven bytes
 module _ (head room x y : List ℕ) (at : ℕ) (long : length head ≡ at) (seven : length x ≡ 7) where
@@ -138,9 +132,8 @@ module _ (t : TableParts) where
 
   body-most : t .kinds ≤ 255 → t .transitions ≤ 255 → length (tableBody t) < 65536
   body-most h k =
-      let few : t .kinds < 256 = omega arith in
       let z : List ℕ = 0 ∷ 0 ∷ 0 ∷ 0 ∷ 0 ∷ 0 ∷ 0 ∷ 0 ∷ [] in
-      omega (arith, body-long z refl, length-append (z ++ kinds) transitions, length-append z kinds, kinds-length t (t .kinds), kind-most (t .version) (t .kinds) few, joined-most (transitionBytes t) (7 + guardLimit) (t .transitions) transition-most)
+      omega (arith, body-long z refl, length-append (z ++ kinds) transitions, length-append z kinds, kinds-length t (t .kinds), kind-most (t .version) (t .kinds) 255 h, joined-most (transitionBytes t) (7 + guardLimit) (t .transitions) transition-most)
 
   word-is : length (tableBody t) < 65536 → wordAt (tableBytes t) 0 ≡ length (tableBody t)
   unfolding tableBytes

@@ -439,7 +439,7 @@ fn whole_answer(t: TableParts) -> Reading
 
 pub fn read_table(b: &[u8]) -> TableReading
     ensures { λ r. ⌜ r ≡ readTable (now (b .entry)) ⌝ }
-    ensures { λ r. ⌜ Reads (tableAnswer (now (b .entry))) (tableParts (now (b .entry))) noTable (r .answer) (r .parts) × RefusesUnreached (now (b .entry)) (r .answer) × JudgesDevices (r .parts) (deviceColumn (now (b .entry))) (now (b .entry)) (readingValues (r .answer)) ⌝ }
+    ensures { λ r. ⌜ Reads (tableAnswer (now (b .entry))) (tableParts (now (b .entry))) noTable (r .answer) (r .parts) × RefusesUnreached (now (b .entry)) (r .answer) × JudgesDevices (tableParts (now (b .entry))) (now (b .entry)) (readingValues (r .answer)) ⌝ }
 {
     let devices = device_column(b);
     let scan = scan_with(b, &devices);
@@ -466,7 +466,7 @@ pub fn read_table(b: &[u8]) -> TableReading
 // The table's numbers alone.
 pub fn table_answer(b: &[u8]) -> Reading
     ensures { λ r. ⌜ r ≡ tableAnswer (now (b .entry)) ⌝ }
-    ensures { λ r. ⌜ RefusesUnreached (now (b .entry)) r ⌝ }
+    ensures { λ r. ⌜ RefusesUnreached (now (b .entry)) r × JudgesDevices (tableParts (now (b .entry))) (now (b .entry)) (readingValues r) ⌝ }
 {
     let reading = read_table(b);
     reading.answer
@@ -589,7 +589,7 @@ fn writable(t: TableParts, encoded: &[u8]) -> Reading
 
 pub fn write_table(t: TableParts, room: &mut [u8]) -> Writing
     ensures { λ w. ⌜ Writes (writeTable t (now (room .entry))) w (now (room .exit)) ⌝ }
-    ensures { λ w. ⌜ JudgesDevices t (t .devices) (tableBytes t) (writingValues w) ⌝ }
+    ensures { λ w. ⌜ JudgesDevices t (tableBytes t) (writingValues w) ⌝ }
 {
     if !is_version(TABLE_VERSIONS, t.version) {
         return Writing::Unwritten(Refusal::TableVersion);

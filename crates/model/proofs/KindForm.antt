@@ -9,7 +9,7 @@ use lib.ListN.{length, take}
 use lib.Seq.{getD-take}
 use lib.Dec.{leb, eqb}
 use borrow.Author.Tests.{eqb-true}
-use Rattle.model.specs.Limits.{airtimeLimit, deviceLimit}
+use Rattle.model.specs.Limits.{tableVersions, airtimeLimit, deviceLimit}
 use Rattle.model.specs.Bytes.{byteAt, joined}
 use Rattle.model.specs.Kinds.{versionAt, kindWidth, kindAt, impliedDevice, deviceAt, deviceFits, kindRecord, kindFields, kindBytes}
 use Rattle.model.specs.declared.TableParts.{TableParts}
@@ -21,28 +21,19 @@ use Rattle.model.proofs.Basics.{unless-sound}
 use Rattle.model.proofs.Tests.{test, le-test, tests}
 use Rattle.model.proofs.Places.{length-joined}
 
--- two or three bytes
-
-pub wide-enough : (version : ℕ) → 2 ≤ kindWidth version
-wide-enough version = go (eqb version 1)
+pub two-or-three : (version : ℕ) → (2 ≤ kindWidth version) × (kindWidth version ≤ 3)
+two-or-three version = go (eqb version 1)
   where
-    go : (one : Bool) → 2 ≤ cond one 2 3
-    go true = omega arith
-    go false = omega arith
-
-pub no-wider : (version : ℕ) → kindWidth version ≤ 3
-no-wider version = go (eqb version 1)
-  where
-    go : (one : Bool) → cond one 2 3 ≤ 3
-    go true = omega arith
-    go false = omega arith
+    go : (one : Bool) → (2 ≤ cond one 2 3) × (cond one 2 3 ≤ 3)
+    go true = (omega arith, omega arith)
+    go false = (omega arith, omega arith)
 
 pub kind-next : (version i : ℕ) → kindAt version (suc i) ≡ kindAt version i + kindWidth version
 kind-next version i = omega (arith, mul-suc (kindWidth version) i)
 
--- from the count of kinds in a byte, a bound that needs no version
-pub kind-most : (version i : ℕ) → i < 256 → kindAt version i ≤ 773
-kind-most version i h = let few : i ≤ 255 = omega arith in omega (arith, mul-le-mul (no-wider version) few)
+-- version 2 has the longest records
+pub kind-most : (version i n : ℕ) → i ≤ n → kindAt version i ≤ kindAt tableVersions n
+kind-most version i n h = omega (arith, mul-le-mul (two-or-three version .1) h)
 
 pub kind-length : (t : TableParts) (i : ℕ) → length (kindBytes t i) ≡ kindWidth (t .version)
 unfolding kindBytes

@@ -11,6 +11,7 @@ pub mod NumberLaws
 pub mod ScanNumbers
 pub mod TableStates
 pub mod TableTrip
+pub mod RoomLaws
 pub mod DeviceLaws
 pub mod RecordingForm
 pub mod WitnessForm

@@ -43,30 +43,34 @@ module _ (b c : List ℕ) (at to : ℕ) where
   rest-byte : drop at b ≡ drop to c → (k : ℕ) → byteAt b (at + k) ≡ byteAt c (to + k)
   rest-byte e k = sym (getD-drop at b k 0) ∙ ap (λ (l : List ℕ). byteAt l k) e ∙ getD-drop to c k 0
 
--- the parts of one table, with version and devices of another
-abbrev likewise : TableParts → TableParts → TableParts
-likewise t u =
+-- parts in a version, with these devices
+abbrev pub inVersion : (version : ℕ) → (devices : List ℕ) → TableParts → TableParts
+inVersion version devices t =
     record {
-      version = t .version;
-      states = u .states;
-      variables = u .variables;
-      clocks = u .clocks;
-      kinds = u .kinds;
-      transitions = u .transitions;
-      directions = u .directions;
-      airtimes = u .airtimes;
-      devices = t .devices;
-      sources = u .sources;
-      targets = u .targets;
-      triggers = u .triggers;
-      sets = u .sets;
-      clears = u .clears;
-      resets = u .resets;
-      lengths = u .lengths;
-      guards = u .guards;
+      version = version;
+      states = t .states;
+      variables = t .variables;
+      clocks = t .clocks;
+      kinds = t .kinds;
+      transitions = t .transitions;
+      directions = t .directions;
+      airtimes = t .airtimes;
+      devices = devices;
+      sources = t .sources;
+      targets = t .targets;
+      triggers = t .triggers;
+      sets = t .sets;
+      clears = t .clears;
+      resets = t .resets;
+      lengths = t .lengths;
+      guards = t .guards;
     }
 
 module _ (b c : List ℕ) (soundb : SoundTable b) (soundc : SoundTable c) (same : SameOtherBytes b c) where
+  -- the parts of c, with the version and devices of b
+  abbrev likewise : TableParts
+  likewise = inVersion (tableParts b .version) (tableParts b .devices) (tableParts c)
+
   count : (k : ℕ) → k < 5 → byteAt b (3 + k) ≡ byteAt c (3 + k)
   count k h = part-byte b c 3 3 5 (same .counts) k h
 
@@ -118,7 +122,7 @@ module _ (b c : List ℕ) (soundb : SoundTable b) (soundc : SoundTable c) (same 
       let here : transitionAt c j + (7 + i) ≡ transitionAt c j + 7 + i = omega arith in
       guard-byte b (table-facts b soundb) j within i r ∙ ap (byteAt b) there ∙ field j (7 + i) ∙ ap (byteAt c) here ∙ sym (guard-byte c (table-facts c soundc) j l i q)
 
-  same-parts : SameTable (tableParts b) (likewise (tableParts b) (tableParts c))
+  same-parts : SameTable (tableParts b) likewise
   unfolding tableParts
   same-parts =
       record {
@@ -148,7 +152,7 @@ module _ (b c : List ℕ) (soundb : SoundTable b) (soundc : SoundTable c) (same 
 
   same-monitors : monitorAt b ≡ withDevices devices (monitorAt c)
   unfolding monitorOf transitionIn guardIn tableParts
-  same-monitors = same-monitor (tableParts b) (likewise (tableParts b) (tableParts c)) same-parts (length-few c (table-facts c soundc))
+  same-monitors = same-monitor (tableParts b) likewise same-parts (length-few c (table-facts c soundc))
 
   -- what is asked of a recording
 

@@ -17,7 +17,7 @@ use Rattle.model.specs.Same.{Zero, SameTable, TableZero}
 use Rattle.model.specs.declared.Reading.the-variants.{Sound}
 use Rattle.model.specs.declared.TableParts.{TableParts}
 use Rattle.model.proofs.Places.{AllBytes, Stands, stands-append, stands-left, stands-right, stands-moved, stands-self, stands-whole, word-at, length-padded, getD-padded-past, getD-column, getD-column-past, stands-joined, joined-stands, tab-same, tab-alike}
-use Rattle.model.proofs.KindForm.{wide-enough, no-wider, kind-length, kinds-length, kind-byte, device-byte, device-back}
+use Rattle.model.proofs.KindForm.{two-or-three, kind-length, kinds-length, kind-byte, device-byte, device-back}
 use Rattle.model.proofs.TableForm.{SoundTransition, TableFacts, scan-facts, scan-sound, table-facts, places-length, guard-place, guard-byte}
 
 -- the guard of transition j as it is written
@@ -76,7 +76,7 @@ module _ {devices : List ℕ} (b : List ℕ) (facts : TableFacts devices b) wher
       go zero q = field 0
       go (suc zero) q = field 1
       go (suc (suc zero)) q = sym (getD-column kindLimit (λ i. deviceAt b (kindAt (versionAt b) i)) (kindsAt b) i h ∙ device-byte b (kindAt (versionAt b) i) q)
-      go (suc (suc (suc k))) q = absurd (omega (arith, no-wider (versionAt b)))
+      go (suc (suc (suc k))) q = absurd (omega (arith, two-or-three (versionAt b) .1))
 
   column : (j : ℕ) → j < transitionsAt b → (k : ℕ) → byteAt b (transitionAt b j + k) ≡ byteAt (transitionColumn b k) j
   column j h k = sym (getD-column transitionLimit (λ i. byteAt b (transitionAt b i + k)) (transitionsAt b) j h)
@@ -187,12 +187,12 @@ module _ (t : TableParts) where
   unfolding tableBytes tableBody
   written-body = stands-right (tableBytes t) 0 (wordBytes (length (tableBody t))) (tableBody t) (stands-self (tableBytes t))
 
-  written-counts : Stands (tableBytes t) 2 (countBytes t)
+  pub written-counts : Stands (tableBytes t) 2 (countBytes t)
   written-counts =
       stands-left (tableBytes t) 2 (countBytes t) (joined (kindBytes t) (t .kinds))
       (stands-left (tableBytes t) 2 (countBytes t ++ joined (kindBytes t) (t .kinds)) (joined (transitionBytes t) (t .transitions)) written-body)
 
-  written-kind : (i : ℕ) → i < t .kinds → Stands (tableBytes t) (kindAt (t .version) i) (kindBytes t i)
+  pub written-kind : (i : ℕ) → i < t .kinds → Stands (tableBytes t) (kindAt (t .version) i) (kindBytes t i)
   written-kind i h =
       stands-moved (tableBytes t) (8 + length (joined (kindBytes t) i)) (kindAt (t .version) i) (kindBytes t i) (omega (arith, kinds-length t i))
       (joined-stands (kindBytes t) (tableBytes t) 8 (t .kinds) i h
@@ -244,7 +244,7 @@ module _ (t : TableParts) (full : length (t .guards) ≡ guardLimit * transition
   back-kind : (i : ℕ) → i < t .kinds → (k : ℕ) → k < 2 → byteAt (kindColumn (tableBytes t) k) i ≡ byteAt (kindFields t i) k
   back-kind i h k p =
       let b : List ℕ = tableBytes t in
-      let q : k < kindWidth (t .version) = omega (arith, wide-enough (t .version)) in
+      let q : k < kindWidth (t .version) = omega (arith, two-or-three (t .version) .0) in
       getD-column kindLimit (λ i. byteAt b (kindAt (versionAt b) i + k)) (kindsAt b) i (rw (written-counts t 4 (omega arith)) h) ∙ read-kind i h k q ∙ kind-byte t i k q
 
   back-device : (i : ℕ) → i < t .kinds → byteAt (deviceColumn (tableBytes t)) i ≡ byteAt (t .devices) i

@@ -11,6 +11,7 @@ use Rattle.model.specs.Numbers.{Values, values, readingValues, writingVa
 use Rattle.model.specs.Versions.{SameOtherBytes}
 use Rattle.model.specs.declared.TableParts.{TableParts}
 use Rattle.model.proofs.Examples.{run, runs, expected, table}
+use Rattle.model.proofs.OtherBytes.{inVersion}
 
 -- three kinds as version 2 has them: DATA and RETRY from the unit, ACK from device 5
 threeKinds : List ℕ
@@ -49,46 +50,31 @@ cases =
     ∷ (set (smallWith 2 threeKinds ++ (0 ∷ [])) 1 70, values 13 71 0)
     ∷ []
 
--- the small monitor's parts with another version, other airtimes and other devices
-pub partsWith : (version : ℕ) → (airtimes devices : List ℕ) → TableParts
+-- the small monitor, and the same with an airtime of RETRY that is out of range
+
+pub small : TableParts
 unfolding tableParts table
-partsWith version airtimes devices =
-    let t : TableParts = tableParts table in
-    record {
-      version = version;
-      states = t .states;
-      variables = t .variables;
-      clocks = t .clocks;
-      kinds = t .kinds;
-      transitions = t .transitions;
-      directions = t .directions;
-      airtimes = airtimes;
-      devices = devices;
-      sources = t .sources;
-      targets = t .targets;
-      triggers = t .triggers;
-      sets = t .sets;
-      clears = t .clears;
-      resets = t .resets;
-      lengths = t .lengths;
-      guards = t .guards;
-    }
+small = tableParts table
+
+pub smallBad : TableParts
+unfolding tableParts table
+smallBad = tableParts (set table 11 16)
 
 -- Parts of version 1 as they are read, and with other devices of DATA and of the ACK, before and behind a bad airtime; the same of version 2; other versions
 pub writings : List (TableParts × Values)
-unfolding partsWith
+unfolding small smallBad
 writings =
-    (partsWith 1 (1 ∷ 1 ∷ 0 ∷ []) (0 ∷ 0 ∷ 1 ∷ []), values 0 68 0)
-    ∷ (partsWith 1 (1 ∷ 1 ∷ 0 ∷ []) (0 ∷ 0 ∷ 5 ∷ []), values 14 12 0)
-    ∷ (partsWith 1 (1 ∷ 1 ∷ 0 ∷ []) (0 ∷ 0 ∷ 0 ∷ []), values 14 12 0)
-    ∷ (partsWith 1 (1 ∷ 1 ∷ 0 ∷ []) (1 ∷ 1 ∷ 1 ∷ []), values 14 8 0)
-    ∷ (partsWith 1 (1 ∷ 16 ∷ 0 ∷ []) (0 ∷ 0 ∷ 5 ∷ []), values 14 10 0)
-    ∷ (partsWith 1 (1 ∷ 16 ∷ 0 ∷ []) (2 ∷ 0 ∷ 1 ∷ []), values 14 8 0)
-    ∷ (partsWith 2 (1 ∷ 1 ∷ 0 ∷ []) (0 ∷ 0 ∷ 5 ∷ []), values 0 71 0)
-    ∷ (partsWith 2 (1 ∷ 1 ∷ 0 ∷ []) (0 ∷ 0 ∷ 16 ∷ []), values 14 14 0)
-    ∷ (partsWith 2 (1 ∷ 1 ∷ 0 ∷ []) (0 ∷ 1 ∷ 0 ∷ []), values 14 11 0)
-    ∷ (partsWith 0 (1 ∷ 1 ∷ 0 ∷ []) (0 ∷ 0 ∷ 1 ∷ []), values 11 2 0)
-    ∷ (partsWith 3 (1 ∷ 16 ∷ 0 ∷ []) (0 ∷ 0 ∷ 1 ∷ []), values 11 2 0)
+    (inVersion 1 (0 ∷ 0 ∷ 1 ∷ []) small, values 0 68 0)
+    ∷ (inVersion 1 (0 ∷ 0 ∷ 5 ∷ []) small, values 14 12 0)
+    ∷ (inVersion 1 (0 ∷ 0 ∷ 0 ∷ []) small, values 14 12 0)
+    ∷ (inVersion 1 (1 ∷ 1 ∷ 1 ∷ []) small, values 14 8 0)
+    ∷ (inVersion 1 (0 ∷ 0 ∷ 5 ∷ []) smallBad, values 14 10 0)
+    ∷ (inVersion 1 (2 ∷ 0 ∷ 1 ∷ []) smallBad, values 14 8 0)
+    ∷ (inVersion 2 (0 ∷ 0 ∷ 5 ∷ []) small, values 0 71 0)
+    ∷ (inVersion 2 (0 ∷ 0 ∷ 16 ∷ []) small, values 14 14 0)
+    ∷ (inVersion 2 (0 ∷ 1 ∷ 0 ∷ []) small, values 14 11 0)
+    ∷ (inVersion 0 (0 ∷ 0 ∷ 1 ∷ []) small, values 11 2 0)
+    ∷ (inVersion 3 (0 ∷ 0 ∷ 1 ∷ []) smallBad, values 11 2 0)
     ∷ []
 
 -- a room long enough, and dirty
@@ -99,14 +85,14 @@ pub record Answered : Type 0 where
   pub twelve : runs versionTwo ≡ expected
   pub other : SameOtherBytes versionTwo table
   pub read : map (λ c. readingValues (tableAnswer (c .0))) cases ≡ map (λ c. c .1) cases
-  pub devices : take 4 (tableParts table .devices) ≡ 0 ∷ 0 ∷ 1 ∷ 0 ∷ []
-  pub devices2 : take 4 (tableParts versionTwo .devices) ≡ 0 ∷ 0 ∷ 5 ∷ 0 ∷ []
+  pub implied : take 4 (tableParts table .devices) ≡ 0 ∷ 0 ∷ 1 ∷ 0 ∷ []
+  pub stated : take 4 (tableParts versionTwo .devices) ≡ 0 ∷ 0 ∷ 5 ∷ 0 ∷ []
   pub wrote : map (λ c. writingValues (writeTable (c .0) room .answer)) writings ≡ map (λ c. c .1) writings
-  pub bytes : take 71 (writeTable (partsWith 2 (1 ∷ 1 ∷ 0 ∷ []) (0 ∷ 0 ∷ 5 ∷ [])) room .room) ≡ versionTwo
+  pub bytes : take 71 (writeTable (inVersion 2 (0 ∷ 0 ∷ 5 ∷ []) small) room .room) ≡ versionTwo
 
 pub two-versions : Answered
-unfolding run runs expected versionTwo smallWith threeKinds table cases partsWith writings room kindBytes tableBody tableBytes writeTable tableParts
-two-versions = record { twelve = refl; other = record { counts = refl; kinds = kind; transitions = refl }; read = refl; devices = refl; devices2 = refl; wrote = refl; bytes = refl }
+unfolding run runs expected versionTwo smallWith threeKinds table cases small smallBad writings room kindBytes tableBody tableBytes writeTable tableParts
+two-versions = record { twelve = refl; other = record { counts = refl; kinds = kind; transitions = refl }; read = refl; implied = refl; stated = refl; wrote = refl; bytes = refl }
   where
     kind : (i : ℕ) → i < 3 → take 2 (drop (8 + 3 * i) versionTwo) ≡ take 2 (drop (8 + 2 * i) table)
     kind zero h = refl

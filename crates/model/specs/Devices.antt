@@ -1,14 +1,14 @@
--- The devices of a table's kinds in the words of document 02, R-6.
-use Prim.Native.Nat.{ℕ, suc, _<_, _≤_}
+-- A table's version and the devices of its kinds, in the words of document 02, R-6.
+use Prim.Native.Nat.{ℕ, suc, _+_, _<_, _≤_}
 use mathlib.Core.Path.{_≡_}
 use mathlib.Core.Logic.{_⊎_}
 use mathlib.Core.List.{List}
 use lib.ListN.{length}
 use Rattle.model.specs.Limits.{tableVersions, deviceLimit}
-use Rattle.model.specs.Bytes.{byteAt}
+use Rattle.model.specs.Bytes.{byteAt, wordAt}
 use Rattle.model.specs.Frame.{framed}
 use Rattle.model.specs.Kinds.{versionAt, kindAt, kindRecord}
-use Rattle.model.specs.Table.{kindsAt, tableCounts}
+use Rattle.model.specs.Table.{tableCounts}
 use Rattle.model.specs.Numbers.{Values, values}
 use Rattle.model.specs.declared.TableParts.{TableParts}
 use Rattle.model.specs.declared.Reading.the-variants.{Sound}
@@ -31,10 +31,11 @@ SoundBefore devices b i =
     × (tableCounts b ≡ Sound)
     × ((k : ℕ) → k < i → kindRecord b (kindAt (versionAt b) k) (byteAt devices k) ≡ Sound)
 
--- what an answer to these bytes, or to parts with these bytes, says of devices: accepted parts have those that suit, and the first that does not is 14 at the
--- kind's record, if the record is there
-pub record JudgesDevices (t : TableParts) (devices b : List ℕ) (answer : Values) : Type 0 where
+-- what the answer to a table says of its version and devices; t: its parts, b: its bytes. What is accepted has version 1 or 2 and devices that suit. If the
+-- length matches, another version is 11. The first device that does not suit is 14 with the offset of its kind's record, if the record is there
+pub record JudgesDevices (t : TableParts) (b : List ℕ) (answer : Values) : Type 0 where
   pub sound : (n : ℕ) → answer ≡ values 0 n 0 → SoundDevices t
+  pub unknown : 8 ≤ length b → wordAt b 0 + 2 ≡ length b → (t .version ≡ 1 → ⊥) → (t .version ≡ 2 → ⊥) → answer ≡ values 11 2 0
   pub refused :
-      (i : ℕ) → i < kindsAt b → SoundBefore devices b i → kindAt (versionAt b) (suc i) ≤ length b
-      → (Suits (versionAt b) (byteAt b (kindAt (versionAt b) i)) (byteAt devices i) → ⊥) → answer ≡ values 14 (kindAt (versionAt b) i) 0
+      (i : ℕ) → i < t .kinds → SoundBefore (t .devices) b i → kindAt (t .version) (suc i) ≤ length b
+      → (Suits (t .version) (byteAt (t .directions) i) (byteAt (t .devices) i) → ⊥) → answer ≡ values 14 (kindAt (t .version) i) 0

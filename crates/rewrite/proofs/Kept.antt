@@ -34,7 +34,7 @@ use Rattle.model.specs.declared.Writing.{Writing}
 use Rattle.model.specs.declared.Writing.the-variants.{Written, Unwritten}
 use Rattle.model.proofs.Tests.{test, le-test}
 use Rattle.model.specs.Same.{SameTable, TableZero, SameRecording, RecordingZero, SameWitness, WitnessZero}
-use Rattle.model.proofs.AnswerLaws.{written}
+use Rattle.model.proofs.RoomLaws.{written}
 use Rattle.model.proofs.TableForm.{scan-sound}
 use Rattle.model.proofs.TableTrip.{sound-back, table-back, zero-beyond}
 use Rattle.model.proofs.RecordingForm.{recording-back, recording-zero}

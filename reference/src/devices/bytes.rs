@@ -8,14 +8,16 @@ use crate::papers::{SMALL_MONITOR, SMALL_MONITOR_2};
 use crate::table::{Kind, Table};
 
 pub fn tables() -> Vec<Told> {
-    let mut tables = devices();
-    tables.extend(versions());
-    tables.extend(unknown_versions());
-    tables.extend(other_body());
-    tables.extend(small_monitor_cut());
-    tables.extend(most_kinds());
-    tables.extend(what_comes_first());
-    tables
+    let groups = [
+        devices(),
+        versions(),
+        unknown_versions(),
+        other_body(),
+        small_monitor_cut(),
+        most_kinds(),
+        what_comes_first(),
+    ];
+    groups.into_iter().flatten().collect()
 }
 
 fn told(name: impl Into<String>, bytes: Vec<u8>, refusal: Option<Refusal>) -> Told {

@@ -21,12 +21,9 @@ pub fn each_device() -> Vec<Given> {
 }
 
 pub fn parts() -> Vec<Given> {
-    let mut all = devices_in_version_1();
-    all.extend(most_kinds());
-    all.extend(versions());
-    all.extend(other_devices());
-    all.extend(beyond_the_count());
-    all
+    let groups =
+        [devices_in_version_1(), most_kinds(), versions(), other_devices(), beyond_the_count()];
+    groups.into_iter().flatten().collect()
 }
 
 fn given(name: impl Into<String>, table: &Table, refusal: Option<Refusal>) -> Given {

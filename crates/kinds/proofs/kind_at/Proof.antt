@@ -14,10 +14,10 @@ cast-result-2 : tie.Need-cast-result-2
 cast-result-2 c = search needs
 
 mul-result : tie.Need-mul-result
-mul-result c = record { fits = rw (c .kind-width .ensures) (omega (arith, kind-most (c .before .args .version) (c .before .args .i) (omega arith))) }
+mul-result c = record { fits = rw (c .kind-width .ensures) (omega (arith, kind-most (c .before .args .version) (c .before .args .i) 255 (omega arith))) }
 
 add-result : tie.Need-add-result
-add-result c = record { fits = rw (c .kind-width .ensures) (omega (arith, kind-most (c .before .args .version) (c .before .args .i) (omega arith))) }
+add-result c = record { fits = rw (c .kind-width .ensures) (omega (arith, kind-most (c .before .args .version) (c .before .args .i) 255 (omega arith))) }
 
 returns : tie.Need-returns
 returns c = rw (c .kind-width .ensures)

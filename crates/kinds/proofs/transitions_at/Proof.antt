@@ -18,7 +18,7 @@ unfolding transitionAt
 returns c =
     let b = c .before .before .before .args .table .now in (
       c .record-at .ensures ∙ ap (kindAt (versionAt b)) (c .before .byte .ensures .0),
-      omega (arith, c .record-at .ensures, kind-most (versionAt b) (c .before .byte .result) (omega arith)),
+      omega (arith, c .record-at .ensures, kind-most (versionAt b) (c .before .byte .result) 255 (omega arith)),
     )
 
 pub transitions-at-spec : {M : Type 1} → statement M

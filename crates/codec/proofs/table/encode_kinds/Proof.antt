@@ -7,7 +7,7 @@ use Rattle.model.specs.Bytes.{joined}
 use Rattle.model.specs.Room.{over}
 use Rattle.model.specs.Kinds.{kindWidth, kindAt, kindFields, kindBytes}
 use Rattle.model.specs.Table.{tableLimit}
-use Rattle.model.proofs.KindForm.{no-wider}
+use Rattle.model.proofs.KindForm.{two-or-three}
 use Rattle.wire.specs.Placed.{placed}
 use Rattle.codec.proofs.Encoded.{kinds-long, kind-room}
 use Rattle.frame.proofs.Written.{joined-none, placed-row}
@@ -50,7 +50,7 @@ part-place-start : tie.Need-part-place-start Inv-loop μ-loop
 part-place-start c = search needs
 
 part-place-end : tie.Need-part-place-end Inv-loop μ-loop
-part-place-end c = omega (arith, no-wider (c .before .before .before .before .before .before .before .before .args .t1 .version), c .before .before .before .before .before .loop .inv .2)
+part-place-end c = omega (arith, two-or-three (c .before .before .before .before .before .before .before .before .args .t1 .version) .1, c .before .before .before .before .before .loop .inv .2)
 
 kind-at-requires : tie.Need-kind-at-requires Inv-loop μ-loop
 kind-at-requires c κs = search needs

@@ -3,11 +3,11 @@ use native.Mathlib.Omega.{arith}
 use mathlib.Core.Path.{_≡_, refl, sym, ap, _∙_}
 use mathlib.Core.List.{List, _++_}
 use lib.ListN.{length}
-use Rattle.model.specs.Limits.{transitionLimit}
+use Rattle.model.specs.Limits.{kindLimit, transitionLimit}
 use Rattle.model.specs.Bytes.{joined}
 use Rattle.model.specs.Room.{over}
 use Rattle.model.specs.Table.{transitionBytes, tableLimit}
-use Rattle.codec.proofs.Encoded.{kinds-room}
+use Rattle.model.proofs.KindForm.{kind-most}
 use Rattle.frame.proofs.Written.{joined-none, joined-more}
 use borrow.Author.Needs.{needs}
 use Rattle.codec.proofs.table.encode_transitions.Statement.{statement}
@@ -34,7 +34,7 @@ loop-holds : tie.Need-loop-holds Inv-loop μ-loop
 loop-holds c = let t = c .before .before .before .args .t in (
   omega arith,
   omega arith,
-  omega (arith, c .kind-at .ensures, kinds-room (t .version) (t .kinds) (c .before .before .before .pre .0)),
+  omega (arith, c .kind-at .ensures, kind-most (t .version) (t .kinds) kindLimit (c .before .before .before .pre .0)),
   refl,
   λ head room h k e.
       let none = joined-none head (transitionBytes t) in
