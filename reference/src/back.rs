@@ -1,6 +1,7 @@
 //! Parts written into a room, and what was written read back.
 
 use crate::answer::{Answer, Refusal};
+use crate::edition::Edition;
 use crate::parts::{RecordingParts, TableParts, WitnessParts};
 use crate::{recording, table, witness};
 
@@ -18,9 +19,13 @@ pub fn recording_back(
     back(written, room, |bytes| Ok(RecordingParts::of(&recording::read(table, bytes)?.1)))
 }
 
-pub fn witness_back(parts: &WitnessParts, room: &mut [u8]) -> (Answer, WitnessParts) {
-    let written = witness::write(&parts.covered(), room);
-    back(written, room, |bytes| Ok(WitnessParts::of(&witness::read(bytes)?)))
+pub fn witness_back(
+    edition: Edition,
+    parts: &WitnessParts,
+    room: &mut [u8],
+) -> (Answer, WitnessParts) {
+    let written = witness::write(edition, &parts.covered(), room);
+    back(written, room, |bytes| Ok(WitnessParts::of(&witness::read(edition, bytes)?)))
 }
 
 /// The first refusal of either beside parts that are all 0, else 0, 0 and 0 beside the parts.

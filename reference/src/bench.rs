@@ -4,10 +4,10 @@ use std::time::{Duration, Instant};
 
 use crate::answer::Answer;
 use crate::call::{Engine, ORDINARY};
-use crate::recording::LAST_TIME;
+use crate::edition::Edition;
 use crate::situation::Space;
 use crate::table;
-use crate::wide::{wide_recording, wide_table};
+use crate::wide::{wide_recording, wide_table, LAST_TIME};
 
 const ROOM: usize = 23_045;
 
@@ -62,7 +62,8 @@ pub fn bench(verified: Option<&Engine>, runs: usize) -> (String, bool) {
 impl Desk {
     fn new() -> Desk {
         let (table, recording) = (wide_table(), wide_recording());
-        let wanted = (ORDINARY.validate)(&table, &recording, 0, &mut [], &mut []).second;
+        let wanted =
+            (ORDINARY.validate)(Edition::One, &table, &recording, 0, &mut [], &mut []).second;
         Desk { table, recording, scratch: vec![0; wanted as usize], room: vec![0; ROOM] }
     }
 
@@ -71,7 +72,7 @@ impl Desk {
         scratch.fill(0);
         room.fill(0);
         let (start, processor_start) = (Instant::now(), processor_time());
-        let answer = (engine.validate)(table, recording, u32::MAX, scratch, room);
+        let answer = (engine.validate)(Edition::One, table, recording, u32::MAX, scratch, room);
         timed.wall.push(start.elapsed());
         timed.processor.push(processor_time().saturating_sub(processor_start));
         timed.answer = Some(answer);

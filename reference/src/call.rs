@@ -2,21 +2,22 @@
 
 use crate::answer::Answer;
 use crate::check::check_witness;
+use crate::edition::Edition;
 use crate::lent::Lent;
 use crate::rewrite::{rewrite_recording, rewrite_table, rewrite_witness};
 use crate::validate::validate;
 
-/// Table, recording, budget, scratch and room.
-pub type Validate = fn(&[u8], &[u8], u32, &mut [u8], &mut [u8]) -> Answer;
+/// Edition of the witness, table, recording, budget, scratch and room.
+pub type Validate = fn(Edition, &[u8], &[u8], u32, &mut [u8], &mut [u8]) -> Answer;
 
 /// The five functions of a program: this one's, or those of the library behind C.
 #[derive(Clone, Copy)]
 pub struct Engine {
     pub validate: Validate,
-    pub check: fn(&[u8], &[u8], &[u8]) -> Answer,
+    pub check: fn(Edition, &[u8], &[u8], &[u8]) -> Answer,
     pub rewrite_table: fn(&[u8], &mut [u8]) -> Answer,
     pub rewrite_recording: fn(&[u8], &[u8], &mut [u8]) -> Answer,
-    pub rewrite_witness: fn(&[u8], &mut [u8]) -> Answer,
+    pub rewrite_witness: fn(Edition, &[u8], &mut [u8]) -> Answer,
 }
 
 /// This program.
@@ -25,11 +26,34 @@ pub const ORDINARY: Engine =
 
 #[derive(Clone, Debug, PartialEq, Eq)]
 pub enum Call {
-    Validate { table: Vec<u8>, recording: Vec<u8>, budget: u32, scratch: Vec<u8>, room: Vec<u8> },
-    Check { table: Vec<u8>, recording: Vec<u8>, witness: Vec<u8> },
-    RewriteTable { bytes: Vec<u8>, room: Vec<u8> },
-    RewriteRecording { table: Vec<u8>, bytes: Vec<u8>, room: Vec<u8> },
-    RewriteWitness { bytes: Vec<u8>, room: Vec<u8> },
+    Validate {
+        edition: Edition,
+        table: Vec<u8>,
+        recording: Vec<u8>,
+        budget: u32,
+        scratch: Vec<u8>,
+        room: Vec<u8>,
+    },
+    Check {
+        edition: Edition,
+        table: Vec<u8>,
+        recording: Vec<u8>,
+        witness: Vec<u8>,
+    },
+    RewriteTable {
+        bytes: Vec<u8>,
+        room: Vec<u8>,
+    },
+    RewriteRecording {
+        table: Vec<u8>,
+        bytes: Vec<u8>,
+        room: Vec<u8>,
+    },
+    RewriteWitness {
+        edition: Edition,
+        bytes: Vec<u8>,
+        room: Vec<u8>,
+    },
 }
 
 /// The answer, and every lent byte as the call left it.
@@ -55,15 +79,19 @@ impl Call {
 
     fn call(&self, engine: &Engine, scratch: &mut [u8], room: &mut [u8]) -> Answer {
         match self {
-            Call::Validate { table, recording, budget, .. } => {
-                (engine.validate)(table, recording, *budget, scratch, room)
+            Call::Validate { edition, table, recording, budget, .. } => {
+                (engine.validate)(*edition, table, recording, *budget, scratch, room)
             }
-            Call::Check { table, recording, witness } => (engine.check)(table, recording, witness),
+            Call::Check { edition, table, recording, witness } => {
+                (engine.check)(*edition, table, recording, witness)
+            }
             Call::RewriteTable { bytes, .. } => (engine.rewrite_table)(bytes, room),
             Call::RewriteRecording { table, bytes, .. } => {
                 (engine.rewrite_recording)(table, bytes, room)
             }
-            Call::RewriteWitness { bytes, .. } => (engine.rewrite_witness)(bytes, room),
+            Call::RewriteWitness { edition, bytes, .. } => {
+                (engine.rewrite_witness)(*edition, bytes, room)
+            }
         }
     }
 
@@ -80,11 +108,14 @@ impl Call {
 
     pub fn name(&self) -> &'static str {
         match self {
-            Call::Validate { .. } => "validate",
-            Call::Check { .. } => "check",
+            Call::Validate { edition: Edition::One, .. } => "validate",
+            Call::Validate { edition: Edition::Two, .. } => "validate, edition 2",
+            Call::Check { edition: Edition::One, .. } => "check",
+            Call::Check { edition: Edition::Two, .. } => "check, edition 2",
             Call::RewriteTable { .. } => "rewrite table",
             Call::RewriteRecording { .. } => "rewrite recording",
-            Call::RewriteWitness { .. } => "rewrite witness",
+            Call::RewriteWitness { edition: Edition::One, .. } => "rewrite witness",
+            Call::RewriteWitness { edition: Edition::Two, .. } => "rewrite witness, edition 2",
         }
     }
 
@@ -97,14 +128,14 @@ impl Call {
                 ("scratch", scratch),
                 ("room", room),
             ],
-            Call::Check { table, recording, witness } => {
+            Call::Check { table, recording, witness, .. } => {
                 vec![("table", table), ("recording", recording), ("witness", witness)]
             }
             Call::RewriteTable { bytes, room } => vec![("table", bytes), ("room", room)],
             Call::RewriteRecording { table, bytes, room } => {
                 vec![("table", table), ("recording", bytes), ("room", room)]
             }
-            Call::RewriteWitness { bytes, room } => vec![("witness", bytes), ("room", room)],
+            Call::RewriteWitness { bytes, room, .. } => vec![("witness", bytes), ("room", room)],
         }
     }
 }

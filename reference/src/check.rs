@@ -1,24 +1,30 @@
 //! The checker of a witness: it follows the rows with real clocks and needs no room.
 
 use crate::answer::{settle, Answer, Refusal};
+use crate::edition::Edition;
 use crate::guard::Clocks;
 use crate::recording::{self, Heard, Recording};
 use crate::table::Table;
 use crate::witness::{self, in_form, Row, ADDED, KEPT, REMOVED};
 
 /// Accepted is 0 with the removed and added rows together, and all rows.
-pub fn check_witness(table: &[u8], recording: &[u8], witness: &[u8]) -> Answer {
+pub fn check_witness(edition: Edition, table: &[u8], recording: &[u8], witness: &[u8]) -> Answer {
     let read = recording::read(table, recording);
-    settle(read.and_then(|(table, heard)| check_read(&table, &heard, witness)))
+    settle(read.and_then(|(table, heard)| check_read(edition, &table, &heard, witness)))
 }
 
 /// The same, of a table and a recording that were read.
-pub fn check_read(table: &Table, recording: &Recording, bytes: &[u8]) -> Result<Answer, Refusal> {
-    let witness = witness::read_rows(bytes)?;
+pub fn check_read(
+    edition: Edition,
+    table: &Table,
+    recording: &Recording,
+    bytes: &[u8],
+) -> Result<Answer, Refusal> {
+    let witness = witness::read_rows(edition, bytes)?;
     let mut follower = Follower::new(table, recording);
     let mut before = None;
     for (number, row) in witness.rows.iter().enumerate() {
-        if !in_form(before, row) || !follower.follow(row) {
+        if !in_form(edition, before, row) || !follower.follow(row) {
             return Err(Refusal::new(43, number));
         }
         before = Some(row);

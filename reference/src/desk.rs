@@ -3,6 +3,7 @@
 use std::io::{self, Read, Write};
 
 use crate::answer::Answer;
+use crate::edition::Edition;
 use crate::frame::big_endian;
 use crate::validate::validate;
 use crate::witness::{self, Row, ADDED, KEPT, REMOVED};
@@ -10,6 +11,8 @@ use crate::witness::{self, Row, ADDED, KEPT, REMOVED};
 const MOST_INPUT: usize = 8_192;
 const SCRATCH: usize = 65_536;
 const ROOM: usize = 23_045;
+/// Of the witness that is found and printed.
+const EDITION: Edition = Edition::One;
 
 /// Reads one byte past the limit, which is enough to know that there are too many.
 pub fn run(input: impl Read, mut output: impl Write) -> io::Result<()> {
@@ -30,7 +33,7 @@ pub fn report(input: &[u8]) -> String {
     let mut scratch = vec![0; SCRATCH];
     let mut room = vec![0; ROOM];
     let budget = u32::from_be_bytes(*budget);
-    let answer = validate(table, recording, budget, &mut scratch, &mut room);
+    let answer = validate(EDITION, table, recording, budget, &mut scratch, &mut room);
     lines(answer, &room)
 }
 
@@ -55,8 +58,8 @@ fn lines(answer: Answer, room: &[u8]) -> String {
 
 fn accepted(cost: u64, rows: u64, room: &[u8]) -> String {
     let mut text = format!("accepted {cost} {rows}\n");
-    let found = &room[..witness::FILE.size(rows as usize)];
-    let found = witness::read(found).expect("validation writes witnesses in form");
+    let found = &room[..EDITION.file().size(rows as usize)];
+    let found = witness::read(EDITION, found).expect("validation writes witnesses in form");
     for Row { mark, time, kind, transition } in found.rows {
         let word = match mark {
             KEPT => "kept",

@@ -15,6 +15,7 @@ pub mod check;
 pub mod compare;
 pub mod desk;
 pub mod devices;
+pub mod edition;
 pub mod frame;
 pub mod generate;
 pub mod guard;
@@ -22,6 +23,7 @@ pub mod lent;
 pub mod limits;
 #[cfg(feature = "linked")]
 pub mod linked;
+pub mod longer;
 pub mod moves;
 pub mod narrowed;
 pub mod papers;

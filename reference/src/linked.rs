@@ -4,27 +4,49 @@
 
 use crate::answer::Answer;
 use crate::call::Engine;
+use crate::edition::Edition;
+
+/// The functions that read or write a witness are there once for each edition.
+macro_rules! of_each_edition {
+    ($validate:ident, $check:ident, $rewrite_witness:ident) => {
+        extern "C" {
+            fn $validate(
+                table: *const u8,
+                table_length: usize,
+                recording: *const u8,
+                recording_length: usize,
+                budget: u32,
+                scratch: *mut u8,
+                scratch_length: usize,
+                room: *mut u8,
+                room_length: usize,
+            ) -> Answer;
+            fn $check(
+                table: *const u8,
+                table_length: usize,
+                recording: *const u8,
+                recording_length: usize,
+                witness: *const u8,
+                witness_length: usize,
+            ) -> Answer;
+            fn $rewrite_witness(
+                bytes: *const u8,
+                length: usize,
+                room: *mut u8,
+                room_length: usize,
+            ) -> Answer;
+        }
+    };
+}
+
+of_each_edition!(lutarosa_validate, lutarosa_check, lutarosa_rewrite_witness);
+of_each_edition!(
+    lutarosa_validate_edition2,
+    lutarosa_check_edition2,
+    lutarosa_rewrite_witness_edition2
+);
 
 extern "C" {
-    fn lutarosa_validate(
-        table: *const u8,
-        table_length: usize,
-        recording: *const u8,
-        recording_length: usize,
-        budget: u32,
-        scratch: *mut u8,
-        scratch_length: usize,
-        room: *mut u8,
-        room_length: usize,
-    ) -> Answer;
-    fn lutarosa_check(
-        table: *const u8,
-        table_length: usize,
-        recording: *const u8,
-        recording_length: usize,
-        witness: *const u8,
-        witness_length: usize,
-    ) -> Answer;
     fn lutarosa_rewrite_table(
         bytes: *const u8,
         length: usize,
@@ -34,12 +56,6 @@ extern "C" {
     fn lutarosa_rewrite_recording(
         table: *const u8,
         table_length: usize,
-        bytes: *const u8,
-        length: usize,
-        room: *mut u8,
-        room_length: usize,
-    ) -> Answer;
-    fn lutarosa_rewrite_witness(
         bytes: *const u8,
         length: usize,
         room: *mut u8,
@@ -56,14 +72,19 @@ pub const VERIFIED: Engine =
 // Each call lends whole slices that do not overlap and outlive it; the library keeps none.
 
 fn validate(
+    edition: Edition,
     table: &[u8],
     recording: &[u8],
     budget: u32,
     scratch: &mut [u8],
     room: &mut [u8],
 ) -> Answer {
+    let function = match edition {
+        Edition::One => lutarosa_validate,
+        Edition::Two => lutarosa_validate_edition2,
+    };
     unsafe {
-        lutarosa_validate(
+        function(
             table.as_ptr(),
             table.len(),
             recording.as_ptr(),
@@ -77,9 +98,13 @@ fn validate(
     }
 }
 
-fn check(table: &[u8], recording: &[u8], witness: &[u8]) -> Answer {
+fn check(edition: Edition, table: &[u8], recording: &[u8], witness: &[u8]) -> Answer {
+    let function = match edition {
+        Edition::One => lutarosa_check,
+        Edition::Two => lutarosa_check_edition2,
+    };
     unsafe {
-        lutarosa_check(
+        function(
             table.as_ptr(),
             table.len(),
             recording.as_ptr(),
@@ -107,6 +132,10 @@ fn rewrite_recording(table: &[u8], bytes: &[u8], room: &mut [u8]) -> Answer {
     }
 }
 
-fn rewrite_witness(bytes: &[u8], room: &mut [u8]) -> Answer {
-    unsafe { lutarosa_rewrite_witness(bytes.as_ptr(), bytes.len(), room.as_mut_ptr(), room.len()) }
+fn rewrite_witness(edition: Edition, bytes: &[u8], room: &mut [u8]) -> Answer {
+    let function = match edition {
+        Edition::One => lutarosa_rewrite_witness,
+        Edition::Two => lutarosa_rewrite_witness_edition2,
+    };
+    unsafe { function(bytes.as_ptr(), bytes.len(), room.as_mut_ptr(), room.len()) }
 }

@@ -1,6 +1,7 @@
 //! The desk's small monitor and its twelve recordings, with the values the paper gives.
 
 use crate::answer::Answer;
+use crate::edition::Edition;
 use crate::recording::FILE;
 
 /// DATA and RETRY from the unit with airtime 1, ACK to it with airtime 0; bounds 3 and 6.
@@ -41,7 +42,7 @@ pub struct Paper {
     pub rows: &'static [(u16, u8)],
     pub budget: u32,
     pub answer: Answer,
-    /// After acceptance, the witness as a whole.
+    /// After acceptance, the witness as a whole, in edition 1.
     pub witness: &'static [u8],
 }
 
@@ -49,11 +50,22 @@ impl Paper {
     pub fn recording(&self) -> Vec<u8> {
         recording(self.rows)
     }
+
+    /// After acceptance, the witness as a whole. Edition 2 has the same rows behind another head;
+    /// none has so many that an upper half is not 0.
+    pub fn witness(&self, edition: Edition) -> Vec<u8> {
+        match (edition, self.witness) {
+            (Edition::Two, [0, length, 1, 0, count, rows @ ..]) => {
+                [&[0, 0, 0, length + 2, 2, 0, 0, 0, *count], rows].concat()
+            }
+            _ => self.witness.to_vec(),
+        }
+    }
 }
 
 /// A recording file of these rows, sound or not.
 pub fn recording(rows: &[(u16, u8)]) -> Vec<u8> {
-    let mut bytes = FILE.head(rows.len()).to_vec();
+    let mut bytes = FILE.head(rows.len());
     for (time, kind) in rows {
         bytes.extend(time.to_be_bytes());
         bytes.push(*kind);

@@ -1,13 +1,16 @@
 //! Parts as they are lent: a fixed number of places, of which the counts and the guard lengths
 //! cover some. What the others hold is 0 after reading and ignored in writing.
 
+use crate::edition::Edition;
 use crate::recording::{self, Heard, Recording};
 use crate::table::{Kind, Table, Transition, COUNT_LIMITS};
-use crate::witness::{self, Row, Witness};
+use crate::witness::{Row, Witness};
 
 pub const GUARD_PLACES: usize = 32;
 const KIND_PLACES: usize = COUNT_LIMITS[3].1;
 const TRANSITION_PLACES: usize = COUNT_LIMITS[4].1;
+/// For either edition.
+const WITNESS_PLACES: usize = Edition::Two.file().most_rows;
 
 /// A transition's fields up to its guard length, in the order of the file, and its guard's places.
 #[derive(Clone, Copy, Debug, PartialEq, Eq)]
@@ -102,51 +105,62 @@ impl TableParts {
 
 /// The places of rows, filled as those of a table are.
 #[derive(Clone, Debug, PartialEq, Eq, Default)]
-pub struct RowParts<R> {
-    pub count: u16,
+pub struct RowParts<R, Count> {
+    pub count: Count,
     pub filler: u8,
     pub rows: Vec<R>,
 }
 
-pub type RecordingParts = RowParts<Heard>;
-pub type WitnessParts = RowParts<Row>;
+pub type RecordingParts = RowParts<Heard, u16>;
+pub type WitnessParts = RowParts<Row, u32>;
 
-/// A row whose every byte is the filler.
+/// A row that parts have so many places for.
 pub trait Filled: Copy {
+    const PLACES: usize;
+
+    /// Its every byte is the filler.
     fn filled(filler: u8) -> Self;
 }
 
 impl Filled for Heard {
+    const PLACES: usize = recording::FILE.most_rows;
+
     fn filled(filler: u8) -> Heard {
         Heard { time: u16::from_be_bytes([filler; 2]), kind: filler }
     }
 }
 
 impl Filled for Row {
+    const PLACES: usize = WITNESS_PLACES;
+
     fn filled(filler: u8) -> Row {
         let time = u16::from_be_bytes([filler; 2]);
         Row { mark: filler, time, kind: filler, transition: filler }
     }
 }
 
-impl<R: Filled> RowParts<R> {
-    fn of_rows(rows: &[R]) -> RowParts<R> {
-        RowParts { count: rows.len() as u16, filler: 0, rows: rows.to_vec() }
-    }
-
+impl<R: Filled, Count: Copy + Into<u32>> RowParts<R, Count> {
     fn first(&self, count: usize) -> impl Iterator<Item = R> + '_ {
         let place = |place| self.rows.get(place).copied().unwrap_or(R::filled(self.filler));
         (0..count).map(place)
     }
 
+    fn places(&self) -> impl Iterator<Item = R> + '_ {
+        self.first(R::PLACES)
+    }
+
+    /// A count beyond the places is refused as a count, be it one more or many.
     fn covered_rows(&self) -> Vec<R> {
-        self.first(self.count.into()).collect()
+        let count: u32 = self.count.into();
+        self.first((count as usize).min(R::PLACES + 1)).collect()
     }
 }
 
 impl RecordingParts {
+    /// Of no more rows than there are places.
     pub fn of(recording: &Recording) -> RecordingParts {
-        RowParts::of_rows(&recording.rows)
+        let rows = recording.rows.clone();
+        RowParts { count: rows.len() as u16, filler: 0, rows }
     }
 
     pub fn covered(&self) -> Recording {
@@ -154,17 +168,18 @@ impl RecordingParts {
     }
 
     pub fn numbers(&self) -> Vec<u8> {
-        let places = || self.first(recording::FILE.most_rows);
         let mut numbers = self.count.to_be_bytes().to_vec();
-        numbers.extend(places().flat_map(|row| row.time.to_be_bytes()));
-        numbers.extend(places().map(|row| row.kind));
+        numbers.extend(self.places().flat_map(|row| row.time.to_be_bytes()));
+        numbers.extend(self.places().map(|row| row.kind));
         numbers
     }
 }
 
 impl WitnessParts {
+    /// Of no more rows than there are places.
     pub fn of(witness: &Witness) -> WitnessParts {
-        RowParts::of_rows(&witness.rows)
+        let rows = witness.rows.clone();
+        RowParts { count: rows.len() as u32, filler: 0, rows }
     }
 
     pub fn covered(&self) -> Witness {
@@ -172,12 +187,11 @@ impl WitnessParts {
     }
 
     pub fn numbers(&self) -> Vec<u8> {
-        let places = || self.first(witness::FILE.most_rows);
         let mut numbers = self.count.to_be_bytes().to_vec();
-        numbers.extend(places().map(|row| row.mark));
-        numbers.extend(places().flat_map(|row| row.time.to_be_bytes()));
-        numbers.extend(places().map(|row| row.kind));
-        numbers.extend(places().map(|row| row.transition));
+        numbers.extend(self.places().map(|row| row.mark));
+        numbers.extend(self.places().flat_map(|row| row.time.to_be_bytes()));
+        numbers.extend(self.places().map(|row| row.kind));
+        numbers.extend(self.places().map(|row| row.transition));
         numbers
     }
 }

@@ -4,8 +4,10 @@ use crate::answer::{settle, Answer, Refusal};
 use crate::frame::{big_endian, put, RowFile};
 use crate::table::{self, Table};
 
-pub const FILE: RowFile = RowFile { number: 20, most_rows: 512, row_bytes: 3 };
-pub const LAST_TIME: u16 = 4_096;
+pub const FILE: RowFile =
+    RowFile { number: 20, number_bytes: 2, version: 1, most_rows: 512, row_bytes: 3 };
+/// The last that two bytes can say, so only 0 is out of range.
+pub const LAST_TIME: u16 = 65_535;
 
 #[derive(Clone, Copy, Debug, PartialEq, Eq, Default)]
 pub struct Heard {
@@ -70,7 +72,7 @@ fn write_against(table: &[u8], it: &Recording, room: &mut [u8]) -> Result<Answer
 }
 
 fn bytes_of(recording: &Recording) -> Vec<u8> {
-    let mut bytes = FILE.head(recording.rows.len()).to_vec();
+    let mut bytes = FILE.head(recording.rows.len());
     for row in &recording.rows {
         bytes.extend(row.time.to_be_bytes());
         bytes.push(row.kind);

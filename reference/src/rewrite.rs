@@ -1,6 +1,7 @@
 //! Reading and then writing the parts: sound bytes come back as they were.
 
 use crate::answer::Answer;
+use crate::edition::Edition;
 use crate::{recording, table, witness};
 
 pub fn rewrite_table(bytes: &[u8], room: &mut [u8]) -> Answer {
@@ -17,9 +18,9 @@ pub fn rewrite_recording(table: &[u8], bytes: &[u8], room: &mut [u8]) -> Answer 
     }
 }
 
-pub fn rewrite_witness(bytes: &[u8], room: &mut [u8]) -> Answer {
-    match witness::read(bytes) {
-        Ok(parts) => witness::write(&parts, room),
+pub fn rewrite_witness(edition: Edition, bytes: &[u8], room: &mut [u8]) -> Answer {
+    match witness::read(edition, bytes) {
+        Ok(parts) => witness::write(edition, &parts, room),
         Err(refusal) => refusal.into(),
     }
 }

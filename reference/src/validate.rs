@@ -1,6 +1,7 @@
 //! The validation of a recording: verdict, cost and preferred witness.
 
 use crate::answer::{settle, Answer, Refusal};
+use crate::edition::Edition;
 use crate::frame::put;
 use crate::moves::Moves;
 use crate::recording::{self, Recording};
@@ -12,6 +13,7 @@ use crate::witness;
 
 /// Lends `scratch` to the search and leaves the witness at the start of `room`.
 pub fn validate(
+    edition: Edition,
     table: &[u8],
     recording: &[u8],
     budget: u32,
@@ -19,11 +21,16 @@ pub fn validate(
     room: &mut [u8],
 ) -> Answer {
     let read = recording::read(table, recording);
-    settle(read.and_then(|(table, heard)| validate_read(&table, &heard, budget, scratch, room)))
+    settle(
+        read.and_then(|(table, heard)| {
+            validate_read(edition, &table, &heard, budget, scratch, room)
+        }),
+    )
 }
 
 /// The same, of parts that were read.
 pub fn validate_read(
+    edition: Edition,
     table: &Table,
     recording: &Recording,
     budget: u32,
@@ -36,7 +43,7 @@ pub fn validate_read(
 
     let scratch_wanted = (last_time + 1) * set_size;
     let layers = scratch.get_mut(..scratch_wanted).ok_or(Refusal::new(30, scratch_wanted))?;
-    let room_wanted = witness::FILE.size(last_time + recording.rows.len());
+    let room_wanted = edition.room(last_time, recording.rows.len()).ok_or(Refusal::new(31, 0))?;
     if room.len() < room_wanted {
         return Err(Refusal::new(31, room_wanted));
     }
@@ -48,7 +55,7 @@ pub fn validate_read(
     {
         Err(verdict) => verdict,
         Ok((cost, found)) => {
-            put(&witness::bytes_of(&found), room)?;
+            put(&witness::bytes_of(edition, &found), room)?;
             Answer::new(0, cost, found.rows.len() as u64)
         }
     };

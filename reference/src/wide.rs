@@ -5,9 +5,11 @@
 //! because most guards leave some way open and each packet may be missed.
 
 use crate::generate::{encode_recording, encode_table};
-use crate::recording::{Heard, Recording, LAST_TIME};
+use crate::recording::{Heard, Recording};
 use crate::table::{Kind, Table, Transition};
 
+/// The one that R-12 asks for.
+pub const LAST_TIME: u16 = 4_096;
 const STATES: u8 = 16;
 /// From the unit with airtime 1 and 0, to it with airtime 1 and 0.
 const KINDS: [Kind; 4] = [
@@ -66,7 +68,7 @@ fn from_state(state: u8) -> [Transition; 4] {
     ]
 }
 
-/// The kinds in turn, the last row at the last time there is.
+/// The kinds in turn, the last row at the last time.
 pub fn wide_recording() -> Vec<u8> {
     let rows = (1..=LAST_TIME / PACE)
         .map(|number| Heard { time: number * PACE, kind: (number % 4) as u8 })

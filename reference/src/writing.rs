@@ -2,6 +2,7 @@
 
 use crate::answer::Answer;
 use crate::back::{recording_back, table_back, witness_back};
+use crate::edition::Edition;
 use crate::parts::{RecordingParts, TableParts, WitnessParts};
 use crate::{recording, table, witness};
 
@@ -10,7 +11,7 @@ pub enum Parts {
     Table(TableParts),
     /// Written against the bytes of a table.
     Recording(Vec<u8>, RecordingParts),
-    Witness(WitnessParts),
+    Witness(Edition, WitnessParts),
 }
 
 #[derive(Clone, Debug)]
@@ -26,7 +27,7 @@ impl Parts {
         match self {
             Parts::Table(parts) => table::write(&parts.covered(), room),
             Parts::Recording(table, parts) => recording::write(table, &parts.covered(), room),
-            Parts::Witness(parts) => witness::write(&parts.covered(), room),
+            Parts::Witness(edition, parts) => witness::write(*edition, &parts.covered(), room),
         }
     }
 
@@ -41,8 +42,8 @@ impl Parts {
                 let (answer, parts) = recording_back(table, parts, room);
                 (answer, parts.numbers())
             }
-            Parts::Witness(parts) => {
-                let (answer, parts) = witness_back(parts, room);
+            Parts::Witness(edition, parts) => {
+                let (answer, parts) = witness_back(*edition, parts, room);
                 (answer, parts.numbers())
             }
         }

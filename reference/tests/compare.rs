@@ -4,11 +4,13 @@ mod before;
 
 use before::air::{BEFORE, NEEDS_NO_AIR, TAKES_NO_AIR};
 use before::devices;
+use before::editions;
 use before::states::{Rule, OTHERS};
 use lutarosa_reference::answer::Answer;
 use lutarosa_reference::call::{Engine, Validate, ORDINARY};
 use lutarosa_reference::check::check_witness;
 use lutarosa_reference::compare::compare;
+use lutarosa_reference::edition::Edition;
 use lutarosa_reference::frame::big_endian;
 use lutarosa_reference::rewrite::{rewrite_recording, rewrite_table, rewrite_witness};
 use lutarosa_reference::validate::validate;
@@ -35,62 +37,65 @@ fn finds_validate(name: &str, validate: Validate) {
 
 #[test]
 fn wrong_answers_of_validation() {
-    finds_validate("one less is exhausted", |table, heard, budget, scratch, room| {
-        let it = validate(table, heard, budget, scratch, room);
+    finds_validate("one less is exhausted", |edition, table, heard, budget, scratch, room| {
+        let it = validate(edition, table, heard, budget, scratch, room);
         match it.number {
             0 if it.second == u64::from(budget) => Answer::new(2, it.second, 1),
             _ => it,
         }
     });
-    finds_validate("budget above, cost unsaid", |table, heard, budget, scratch, room| {
-        let it = validate(table, heard, budget, scratch, room);
+    finds_validate("budget above, cost unsaid", |edition, table, heard, budget, scratch, room| {
+        let it = validate(edition, table, heard, budget, scratch, room);
         match it.number {
             1 if it.second > 100 => Answer::new(1, 100, it.third),
             _ => it,
         }
     });
-    finds_validate("30 and 31 changed over", |table, heard, budget, scratch, room| match validate(
-        table, heard, budget, scratch, room,
-    ) {
-        Answer { number: 31, second, .. } if scratch.is_empty() => Answer::new(30, second, 0),
-        Answer { number: 30, second, .. } if room.len() < 6 => Answer::new(31, second, 0),
-        it => it,
+    finds_validate("30 and 31 changed over", |edition, table, heard, budget, scratch, room| {
+        match validate(edition, table, heard, budget, scratch, room) {
+            Answer { number: 31, second, .. } if scratch.is_empty() => Answer::new(30, second, 0),
+            Answer { number: 30, second, .. } if room.len() < 6 => Answer::new(31, second, 0),
+            it => it,
+        }
     });
 }
 
 #[test]
 fn lent_bytes_of_validation() {
-    finds_validate("last scratch byte dirty", |table, heard, budget, scratch, room| {
+    finds_validate("last scratch byte dirty", |edition, table, heard, budget, scratch, room| {
         let last = scratch.last().copied();
-        let it = validate(table, heard, budget, scratch, room);
+        let it = validate(edition, table, heard, budget, scratch, room);
         if let (true, Some(last), Some(byte)) = (it.number < 3, last, scratch.last_mut()) {
             *byte = last;
         }
         it
     });
-    finds_validate("all scratch cleared", |table, heard, budget, scratch, room| {
-        let it = validate(table, heard, budget, scratch, room);
+    finds_validate("all scratch cleared", |edition, table, heard, budget, scratch, room| {
+        let it = validate(edition, table, heard, budget, scratch, room);
         if it.number < 3 {
             scratch.fill(0);
         }
         it
     });
-    finds_validate("room cleared after rejection", |table, heard, budget, scratch, room| {
-        let it = validate(table, heard, budget, scratch, room);
-        if it.number == 1 {
-            room.fill(0);
-        }
-        it
-    });
-    finds_validate("rest of the room cleared", |table, heard, budget, scratch, room| {
-        let it = validate(table, heard, budget, scratch, room);
+    finds_validate(
+        "room cleared after rejection",
+        |edition, table, heard, budget, scratch, room| {
+            let it = validate(edition, table, heard, budget, scratch, room);
+            if it.number == 1 {
+                room.fill(0);
+            }
+            it
+        },
+    );
+    finds_validate("rest of the room cleared", |edition, table, heard, budget, scratch, room| {
+        let it = validate(edition, table, heard, budget, scratch, room);
         if it.number == 0 {
-            room[5 + 5 * it.third as usize..].fill(0);
+            room[edition.file().size(it.third as usize)..].fill(0);
         }
         it
     });
-    finds_validate("scratch cleared after 31", |table, heard, budget, scratch, room| {
-        let it = validate(table, heard, budget, scratch, room);
+    finds_validate("scratch cleared after 31", |edition, table, heard, budget, scratch, room| {
+        let it = validate(edition, table, heard, budget, scratch, room);
         if it.number == 31 {
             scratch.fill(0);
         }
@@ -98,13 +103,21 @@ fn lent_bytes_of_validation() {
     });
 }
 
+/// 23 where this is the last time.
+fn without(last: usize, table: &[u8], heard: &[u8], otherwise: impl FnOnce() -> Answer) -> Answer {
+    match recording::read(table, heard) {
+        Ok((_, it)) if it.last_time() == last => Answer::new(23, 0, 0),
+        _ => otherwise(),
+    }
+}
+
 #[test]
 fn limits_of_tables_and_times() {
-    finds_validate("last time 4,095", |table, heard, budget, scratch, room| match recording::read(
-        table, heard,
-    ) {
-        Ok((_, it)) if it.last_time() == 4_096 => Answer::new(23, 0, 0),
-        _ => validate(table, heard, budget, scratch, room),
+    finds_validate("no 4,096", |edition, table, heard, budget, scratch, room| {
+        without(4_096, table, heard, || validate(edition, table, heard, budget, scratch, room))
+    });
+    finds_validate("no 65,535", |edition, table, heard, budget, scratch, room| {
+        without(65_535, table, heard, || validate(edition, table, heard, budget, scratch, room))
     });
     finds("N below 65,536", {
         let rewrite_table = |bytes: &[u8], room: &mut [u8]| match table::read(bytes) {
@@ -127,23 +140,27 @@ fn limits_of_tables_and_times() {
 #[test]
 fn limits_of_lengths_and_counts() {
     finds("length taken without its upper part", {
-        let rewrite_witness = |bytes: &[u8], room: &mut [u8]| match bytes {
+        let rewrite_witness = |edition: Edition, bytes: &[u8], room: &mut [u8]| match bytes {
             [high, low, version, ..]
-                if bytes.len() > 65_537
+                if edition == Edition::One
+                    && bytes.len() > 65_537
                     && usize::from(big_endian(*high, *low)) == (bytes.len() - 2) % 65_536
                     && *version != 1 =>
             {
                 Answer::new(41, 2, 0)
             }
-            _ => rewrite_witness(bytes, room),
+            _ => rewrite_witness(edition, bytes, room),
         };
         Engine { rewrite_witness, ..ORDINARY }
     });
     finds("most rows of a witness", {
-        let rewrite_witness = |bytes: &[u8], room: &mut [u8]| match rewrite_witness(bytes, room) {
-            Answer { number: 42, .. } if bytes.len() == 5 + 5 * 4_609 => Answer::new(43, 1, 0),
-            it => it,
-        };
+        let rewrite_witness =
+            |edition: Edition, bytes: &[u8], room: &mut [u8]| match rewrite_witness(
+                edition, bytes, room,
+            ) {
+                Answer { number: 42, .. } if bytes.len() == 5 + 5 * 4_609 => Answer::new(43, 1, 0),
+                it => it,
+            };
         Engine { rewrite_witness, ..ORDINARY }
     });
     finds("512 rows of a recording refused", {
@@ -163,22 +180,24 @@ fn limits_of_lengths_and_counts() {
 fn checker() {
     finds("all accepted", {
         let check =
-            |table: &[u8], heard: &[u8], witness: &[u8]| match check_witness(table, heard, witness)
-            {
+            |edition: Edition, table: &[u8], heard: &[u8], witness: &[u8]| match check_witness(
+                edition, table, heard, witness,
+            ) {
                 Answer { number: 43, second, .. } => Answer::new(0, 0, second),
                 it => it,
             };
         Engine { check, ..ORDINARY }
     });
     finds("unaccounted rows get the last row", {
-        let check =
-            |table: &[u8], heard: &[u8], witness: &[u8]| match check_witness(table, heard, witness)
-            {
-                Answer { number: 43, second, .. } if witness.len() == 5 + 5 * second as usize => {
+        let check = |edition: Edition, table: &[u8], heard: &[u8], witness: &[u8]| {
+            let of_size = |rows: u64| edition.file().size(rows as usize);
+            match check_witness(edition, table, heard, witness) {
+                Answer { number: 43, second, .. } if witness.len() == of_size(second) => {
                     Answer::new(43, second.saturating_sub(1), 0)
                 }
                 it => it,
-            };
+            }
+        };
         Engine { check, ..ORDINARY }
     });
 }
@@ -223,6 +242,18 @@ fn versions_and_devices() {
 }
 
 #[test]
+fn editions_and_late_times() {
+    for other in editions::OTHERS.iter().filter(|other| other.told[0] >= 20) {
+        finds(other.name, other.engine);
+    }
+    let editions::Other { name, engine, .. } = &editions::OTHERS[0];
+    finds_validate(name, engine.validate);
+    finds(name, Engine { check: engine.check, ..ORDINARY });
+    finds(name, Engine { rewrite_recording: engine.rewrite_recording, ..ORDINARY });
+    finds(name, Engine { rewrite_witness: engine.rewrite_witness, ..ORDINARY });
+}
+
+#[test]
 fn rewriting() {
     finds("33 after a few bytes were written", {
         let rewrite_table = |bytes: &[u8], room: &mut [u8]| {
@@ -245,9 +276,9 @@ fn rewriting() {
         Engine { rewrite_recording, ..ORDINARY }
     });
     finds("nothing written", {
-        let rewrite_witness = |bytes: &[u8], room: &mut [u8]| {
+        let rewrite_witness = |edition: Edition, bytes: &[u8], room: &mut [u8]| {
             let before = room.to_vec();
-            let it = rewrite_witness(bytes, room);
+            let it = rewrite_witness(edition, bytes, room);
             room.copy_from_slice(&before);
             it
         };

@@ -2,7 +2,7 @@
 
 mod common;
 
-use common::{chain, monitor_with};
+use common::{chain, file, monitor_with};
 use lutarosa_reference::desk::{report, run};
 use lutarosa_reference::papers::{recording, ACK, DATA, RETRY, SMALL_MONITOR};
 
@@ -70,4 +70,22 @@ fn scratch_of_65_536() {
     let heard = |time| input(&table, &recording(&[(time, 0)]), 100_000);
     assert_eq!(report(&heard(8)), "refused 30 73728\n");
     assert!(report(&heard(7)).starts_with("accepted "));
+}
+
+/// The desk keeps edition 1, which is not written past 4,096, and its scratch, which is looked at
+/// first. One state and one kind to the unit: N is 1 and S is 1. The small monitor's S is 6.
+#[test]
+fn last_times_past_4_096() {
+    let table = file(&[1, 1, 0, 0, 1, 0, 1, 0]);
+    let heard = |time, budget| report(&input(&table, &recording(&[(time, 0)]), budget));
+    assert_eq!(heard(4_096, 4_096), "accepted 4096 1\nremoved 4096 0 255\n");
+    assert_eq!(heard(4_096, 4_095), "exhausted 4095 4096\n");
+    for time in [4_097, 4_608, 65_534, 65_535] {
+        assert_eq!(heard(time, u32::MAX), "refused 31 0\n");
+        assert_eq!(heard(time, 0), "refused 31 0\n");
+    }
+    assert_eq!(lines(&[(10_921, ACK)], 0), "refused 31 0\n");
+    assert_eq!(lines(&[(10_922, ACK)], 0), "refused 30 65538\n");
+    assert_eq!(lines(&[(65_535, ACK)], u32::MAX), "refused 30 393216\n");
+    assert_eq!(lines(&[(65_535, DATA), (65_535, ACK)], u32::MAX), "refused 24 1\n");
 }

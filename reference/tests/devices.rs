@@ -10,6 +10,7 @@ use lutarosa_reference::back::table_back;
 use lutarosa_reference::brute::{kinds_refused, kinds_told, with_devices, without_devices};
 use lutarosa_reference::call::{Call, Outcome, ORDINARY};
 use lutarosa_reference::devices::{each_device, parts, tables};
+use lutarosa_reference::edition::Edition;
 use lutarosa_reference::papers::{ACK_DEVICE_2, PAPERS, SMALL_MONITOR, SMALL_MONITOR_2};
 use lutarosa_reference::parts::TableParts;
 use lutarosa_reference::rewrite::rewrite_table;
@@ -21,7 +22,7 @@ const LEAST: usize = 20;
 /// In how many calls on files, and in how many writings of tables, another rule answers or writes
 /// otherwise.
 fn told(other: &Other) -> [usize; 2] {
-    let calls = RECORDED.calls.iter().filter(|it| it.run(&other.engine) != it.run(&ORDINARY));
+    let calls = RECORDED.usual().filter(|(call, outcome)| call.run(&other.engine) != **outcome);
     let writings = RECORDED.writings.iter().filter(|it| {
         let [mut ours, mut theirs] = [vec![0x5A; it.room], vec![0x5A; it.room]];
         it.run(&mut ours) != other.write(it, &mut theirs) || ours != theirs
@@ -103,6 +104,7 @@ fn the_small_monitor_in_both_versions() {
         table[ACK_DEVICE_2] = device;
         for paper in PAPERS {
             let validation = |table: &[u8]| Call::Validate {
+                edition: Edition::One,
                 table: table.to_vec(),
                 recording: paper.recording(),
                 budget: paper.budget,
@@ -121,7 +123,7 @@ fn the_small_monitor_in_both_versions() {
 #[test]
 fn recorded_calls_in_the_other_version() {
     let mut same = [0, 0];
-    for call in &RECORDED.calls {
+    for (call, outcome) in RECORDED.usual() {
         let mut other = call.clone();
         let table = match &mut other {
             Call::Validate { table, .. }
@@ -137,7 +139,7 @@ fn recorded_calls_in_the_other_version() {
         let changed =
             if version == 1 { with_devices(table, || device) } else { without_devices(table) };
         *table = changed.expect("sound");
-        assert_eq!(call.run(&ORDINARY), other.run(&ORDINARY));
+        assert_eq!(*outcome, other.run(&ORDINARY));
         same[usize::from(version) - 1] += 1;
     }
     println!("the same in the other version: {} of version 1, {} of version 2", same[0], same[1]);

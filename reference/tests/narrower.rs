@@ -10,6 +10,7 @@ use before::air::{BEFORE, NEEDS_NO_AIR, NOW, TAKES_NO_AIR};
 use lutarosa_reference::answer::Answer;
 use lutarosa_reference::brute::{first_dead_instant, works};
 use lutarosa_reference::call::{Call, Engine, Outcome, ORDINARY};
+use lutarosa_reference::edition::Edition;
 use lutarosa_reference::narrowed::{CHECKED, NARROWED};
 use lutarosa_reference::recording::read;
 use lutarosa_reference::witness::{read_rows, REMOVED};
@@ -30,12 +31,12 @@ type Tally = BTreeMap<&'static str, usize>;
 /// How the recorded cases differ under other rules.
 fn tally(other: &Engine) -> Tally {
     let mut tally = Tally::new();
-    for call in RECORDED.calls.iter() {
-        let (before, now) = (call.run(other), call.run(&ORDINARY));
-        if before != now {
+    for (call, now) in RECORDED.usual() {
+        let before = call.run(other);
+        if before != *now {
             *tally.entry(call.name()).or_default() += 1;
         }
-        for name in differences(call, &before, &now) {
+        for name in differences(call, &before, now) {
             *tally.entry(name).or_default() += 1;
         }
     }
@@ -56,8 +57,8 @@ fn differences(call: &Call, before: &Outcome, now: &Outcome) -> Vec<&'static str
                 .then_some(OTHER_WITNESS);
             [verdict, cost, witness].into_iter().flatten().collect()
         }
-        Call::Check { witness, .. } if (old.number, new.number) == (0, 43) => {
-            vec![reason(witness, new.second as usize)]
+        Call::Check { edition, witness, .. } if (old.number, new.number) == (0, 43) => {
+            vec![reason(*edition, witness, new.second as usize)]
         }
         _ => Vec::new(),
     }
@@ -65,8 +66,8 @@ fn differences(call: &Call, before: &Outcome, now: &Outcome) -> Vec<&'static str
 
 /// Why a witness is refused at this row that was permitted before. All rows before it are a packet
 /// trace, so it meets the one just before it.
-fn reason(witness: &[u8], place: usize) -> &'static str {
-    let rows = read_rows(witness).expect("43 comes after it").rows;
+fn reason(edition: Edition, witness: &[u8], place: usize) -> &'static str {
+    let rows = read_rows(edition, witness).expect("43 comes after it").rows;
     match (rows[place - 1], rows[place]) {
         (before, row) if before.time == row.time => SAME_TIME,
         (_, row) if row.mark == REMOVED => REMOVED_IN,
@@ -106,9 +107,9 @@ fn the_rules_written_again_are_the_same() {
 /// Two rows never share an instant, so there are at most T of them.
 #[test]
 fn preferred_witnesses_have_at_most_a_row_an_instant() {
-    for call in RECORDED.calls.iter() {
+    for (call, outcome) in RECORDED.outcomes() {
         let Call::Validate { table, recording, .. } = call else { continue };
-        let Answer { number: 0, third: rows, .. } = call.run(&ORDINARY).answer else { continue };
+        let Answer { number: 0, third: rows, .. } = outcome.answer else { continue };
         let (_, heard) = read(table, recording).expect("accepted");
         assert!(rows <= heard.last_time() as u64);
     }
@@ -118,7 +119,9 @@ fn preferred_witnesses_have_at_most_a_row_an_instant() {
 fn recordings_accepted_before_and_rejected_now() {
     for it in NARROWED {
         let (table, recording) = (it.table(), it.recording());
+        let edition = Edition::One;
         let validation = Call::Validate {
+            edition,
             table: table.clone(),
             recording: recording.clone(),
             budget: 10_000,
@@ -128,7 +131,7 @@ fn recordings_accepted_before_and_rejected_now() {
         let (parts, heard) = read(&table, &recording).expect("sound");
         assert_eq!(first_dead_instant(&parts, &heard), Some(it.now.third));
         assert_eq!(works(&parts, &heard).iter().sum::<u64>(), it.now.second);
-        let check = Call::Check { table, recording, witness: it.witness.to_vec() };
+        let check = Call::Check { edition, table, recording, witness: it.witness.to_vec() };
         let now = validation.run(&ORDINARY);
         assert_eq!((now.answer, now.room), (it.now, vec![0; 45]));
         assert_eq!(check.run(&ORDINARY).answer, CHECKED);

@@ -3,8 +3,10 @@
 mod common;
 
 use common::answer;
+use lutarosa_reference::answer::Answer;
 use lutarosa_reference::check::check_witness;
 use lutarosa_reference::desk::report;
+use lutarosa_reference::edition::Edition;
 use lutarosa_reference::papers::{
     recording, ACK, DATA, PAPERS, RETRY, SMALL_MONITOR, SMALL_MONITOR_2,
 };
@@ -12,29 +14,48 @@ use lutarosa_reference::validate::validate;
 
 const DIRT: u8 = 0xC3;
 
-/// N is 48, so S is 6; (T+1) x 6 of scratch and 5 + 5(T+n) of room.
-fn run(rows: &[(u16, u8)], budget: u32) -> (lutarosa_reference::answer::Answer, Vec<u8>, Vec<u8>) {
+/// Answer, scratch and room.
+type Outcome = (Answer, Vec<u8>, Vec<u8>);
+
+/// N is 48, so S is 6; (T+1) x 6 of scratch, and 5 + 5(T+n) or 9 + 5(T+n) of room.
+fn run_in(edition: Edition, rows: &[(u16, u8)], budget: u32) -> Outcome {
     let last = rows.last().map_or(0, |row| usize::from(row.0));
+    let head = if edition == Edition::One { 5 } else { 9 };
     let mut scratch = vec![DIRT; 6 * (last + 1) + 3];
-    let mut room = vec![DIRT; 5 + 5 * (last + rows.len()) + 3];
-    let it = validate(&SMALL_MONITOR, &recording(rows), budget, &mut scratch, &mut room);
+    let mut room = vec![DIRT; head + 5 * (last + rows.len()) + 3];
+    let it = validate(edition, &SMALL_MONITOR, &recording(rows), budget, &mut scratch, &mut room);
     (it, scratch, room)
+}
+
+fn run(rows: &[(u16, u8)], budget: u32) -> Outcome {
+    run_in(Edition::One, rows, budget)
 }
 
 #[test]
 fn twelve_recordings_get_the_stated_answers() {
     assert_eq!(PAPERS.len(), 14, "P6 and P12 are two each");
-    for paper in PAPERS {
-        let (it, scratch, room) = run(paper.rows, paper.budget);
+    for (paper, edition) in PAPERS.iter().flat_map(|it| Edition::BOTH.map(|by| (it, by))) {
+        let (it, scratch, room) = run_in(edition, paper.rows, paper.budget);
         assert_eq!(it, paper.answer, "{}", paper.name);
-        let witness = paper.witness;
-        assert_eq!(&room[..witness.len()], witness, "{}", paper.name);
+        let witness = paper.witness(edition);
+        assert_eq!(room[..witness.len()], witness, "{}", paper.name);
         assert!(room[witness.len()..].iter().all(|byte| *byte == DIRT), "{}", paper.name);
         let wanted = scratch.len() - 3;
         let kept = if it.number > 2 { 0 } else { wanted };
         assert!(scratch[..kept].iter().all(|byte| *byte == 0), "{}", paper.name);
         assert!(scratch[kept..].iter().all(|byte| *byte == DIRT), "{}", paper.name);
     }
+}
+
+/// P1 and P2 in edition 2, with the bytes written out.
+#[test]
+fn two_witnesses_of_edition_2() {
+    let one = [0, 0, 0, 5, 2, 0, 0, 0, 0];
+    assert_eq!(run_in(Edition::Two, &[], 0).2[..9], one);
+    assert_eq!(PAPERS[0].witness(Edition::Two), one);
+    let two = [0, 0, 0, 10, 2, 0, 0, 0, 1, 0, 0, 1, 0, 0];
+    assert_eq!(run_in(Edition::Two, &[(1, DATA)], 1).2[..14], two);
+    assert_eq!(PAPERS[1].witness(Edition::Two), two);
 }
 
 /// The budget shows each running total: it is exhausted one below and passed at it.
@@ -67,7 +88,7 @@ fn nothing_recorded_costs_nothing_and_wants_one_set() {
     let mut scratch = [DIRT; 6];
     let mut room = [DIRT; 5];
     let empty = recording(&[]);
-    let it = validate(&SMALL_MONITOR, &empty, 0, &mut scratch, &mut room);
+    let it = validate(Edition::One, &SMALL_MONITOR, &empty, 0, &mut scratch, &mut room);
     assert_eq!((it, scratch, room), (answer(0, 0, 0), [0; 6], [0, 3, 1, 0, 0]));
 }
 
@@ -75,11 +96,17 @@ fn nothing_recorded_costs_nothing_and_wants_one_set() {
 fn own_witnesses_are_accepted_and_the_empty_one_is_not() {
     for paper in PAPERS.iter().filter(|paper| paper.answer.number == 0) {
         let rows = paper.answer.third;
-        let it = check_witness(&SMALL_MONITOR, &paper.recording(), paper.witness);
-        assert_eq!((it.number, it.third), (0, rows), "{}", paper.name);
+        for edition in Edition::BOTH {
+            let witness = paper.witness(edition);
+            let it = check_witness(edition, &SMALL_MONITOR, &paper.recording(), &witness);
+            assert_eq!((it.number, it.third), (0, rows), "{}", paper.name);
+        }
     }
     let heard = recording(&[(1, DATA)]);
-    assert_eq!(check_witness(&SMALL_MONITOR, &heard, &[0, 3, 1, 0, 0]), answer(43, 0, 0));
+    for edition in Edition::BOTH {
+        let empty = PAPERS[0].witness(edition);
+        assert_eq!(check_witness(edition, &SMALL_MONITOR, &heard, &empty), answer(43, 0, 0));
+    }
 }
 
 #[test]

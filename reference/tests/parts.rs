@@ -5,6 +5,7 @@ mod common;
 
 use common::{answer, monitor_with};
 use lutarosa_reference::back::{recording_back, table_back, witness_back};
+use lutarosa_reference::edition::Edition;
 use lutarosa_reference::papers::{ACK, DATA, SMALL_MONITOR};
 use lutarosa_reference::parts::{Placed, RecordingParts, RowParts, TableParts, WitnessParts};
 use lutarosa_reference::recording::Heard;
@@ -271,10 +272,10 @@ fn recording(count: u16, filler: u8, rows: &[(u16, u8)]) -> Parts {
 
 #[test]
 fn a_recording_comes_back_without_what_lies_beyond() {
-    let parts = recording(2, 0xEE, &[(1, DATA), (4_096, ACK), (0, 99)]);
-    let bytes = [0, 9, 1, 0, 2, 0, 1, DATA, 16, 0, ACK];
+    let parts = recording(2, 0xEE, &[(1, DATA), (65_535, ACK), (0, 99)]);
+    let bytes = [0, 9, 1, 0, 2, 0, 1, DATA, 255, 255, ACK];
     // The count, 512 times of two bytes and 512 kinds.
-    written(&parts, &bytes, 1_538, &[(1, 2), (3, 1), (4, 16), (1_027, ACK)]);
+    written(&parts, &bytes, 1_538, &[(1, 2), (3, 1), (4, 255), (5, 255), (1_027, ACK)]);
     written(&recording(0, 1, &[(0, 99)]), &[0, 3, 1, 0, 0], 1_538, &[]);
     // Filler 1 is the row (257, RETRY).
     let bytes = [0, 9, 1, 0, 2, 0, 1, DATA, 1, 1, 1];
@@ -287,7 +288,7 @@ fn numbers_22_to_24() {
     for count in [513, 65_535] {
         refused(&recording(count, 0, &[(0, 9)]), 22, 3);
     }
-    for (time, kind) in [(0, DATA), (4_097, DATA), (65_535, DATA), (9, 3), (9, 255)] {
+    for (time, kind) in [(0, DATA), (9, 3), (9, 255), (4_097, 3), (65_535, 255)] {
         refused(&recording(2, 0, &[(1, DATA), (time, kind)]), 23, 1);
     }
     refused(&recording(512, 0, &[(1, DATA)]), 23, 1);
@@ -306,48 +307,67 @@ fn the_table_comes_before_the_count() {
     refused(&Parts::Recording(monitor_with(&[(3, 4)]), parts), 17, 3);
 }
 
-fn witness(count: u16, filler: u8, rows: &[(u8, u16, u8, u8)]) -> Parts {
+fn witness(edition: Edition, count: u32, filler: u8, rows: &[(u8, u16, u8, u8)]) -> Parts {
     let row = |it: &(u8, u16, u8, u8)| Row { mark: it.0, time: it.1, kind: it.2, transition: it.3 };
-    Parts::Witness(RowParts { count, filler, rows: rows.iter().map(row).collect() })
+    Parts::Witness(edition, RowParts { count, filler, rows: rows.iter().map(row).collect() })
 }
 
 #[test]
 fn a_witness_comes_back_without_what_lies_beyond() {
-    let parts = witness(2, 0xEE, &[(REMOVED, 258, 9, 255), (ADDED, 259, 8, 7), (3, 0, 0, 0)]);
-    let bytes = [0, 13, 1, 0, 2, 1, 1, 2, 9, 255, 2, 1, 3, 8, 7];
-    // The count, 4,608 marks, times of two bytes, kinds and transitions.
+    let rows = [(REMOVED, 258, 9, 255), (ADDED, 259, 8, 7), (3, 0, 0, 0)];
+    let row_bytes = [1, 1, 2, 9, 255, 2, 1, 3, 8, 7];
+    // The count of four bytes, 65,535 marks, times of two bytes, kinds and transitions.
+    let all = 4 + 5 * 65_535;
     let numbers = [
-        (1, 2),
-        (2, 1),
         (3, 2),
-        (4_610, 1),
-        (4_611, 2),
-        (4_612, 1),
-        (4_613, 3),
-        (13_826, 9),
-        (13_827, 8),
-        (18_434, 255),
-        (18_435, 7),
+        (4, 1),
+        (5, 2),
+        (65_539, 1),
+        (65_540, 2),
+        (65_541, 1),
+        (65_542, 3),
+        (196_609, 9),
+        (196_610, 8),
+        (262_144, 255),
+        (262_145, 7),
     ];
-    written(&parts, &bytes, 23_042, &numbers);
-    written(&witness(0, 255, &[]), &[0, 3, 1, 0, 0], 23_042, &[]);
+    let heads = [&[0, 13, 1, 0, 2][..], &[0, 0, 0, 15, 2, 0, 0, 0, 2]];
+    let empty = [&[0, 3, 1, 0, 0][..], &[0, 0, 0, 5, 2, 0, 0, 0, 0]];
+    for (edition, (head, empty)) in Edition::BOTH.into_iter().zip(heads.into_iter().zip(empty)) {
+        let bytes = [head, &row_bytes].concat();
+        written(&witness(edition, 2, 0xEE, &rows), &bytes, all, &numbers);
+        written(&witness(edition, 0, 255, &[]), empty, all, &[]);
+    }
 }
 
 #[test]
 fn numbers_42_and_43() {
+    for (edition, most, offset) in [(Edition::One, 4_608, 3), (Edition::Two, 65_535, 5)] {
+        for count in [most + 1, 65_536, 65_537, 70_000, 131_072, u32::MAX] {
+            refused(&witness(edition, count, 0, &[(9, 0, 0, 0)]), 42, offset);
+            refused(&witness(edition, count, 0, &[(KEPT, 1, 0, 0)]), 42, offset);
+        }
+        refused(&witness(edition, most, 0, &[(KEPT, 1, 0, 0)]), 43, 1);
+        // Filler 1 is a removed row with transition 1.
+        refused(&witness(edition, 1, 1, &[]), 43, 0);
+        for row in [(3, 4, 0, 0), (255, 4, 0, 0), (KEPT, 0, 0, 0), (REMOVED, 4, 0, 254)] {
+            refused(&witness(edition, 2, 0, &[(KEPT, 3, 0, 0), row]), 43, 1);
+        }
+        // At one time, and before it.
+        for row in [(KEPT, 3, 1, 0), (ADDED, 3, 1, 0), (REMOVED, 3, 1, 255), (ADDED, 2, 1, 0)] {
+            refused(&witness(edition, 2, 0, &[(REMOVED, 3, 0, 255), row]), 43, 1);
+        }
+    }
+    for time in [4_097, 65_535] {
+        let rows = [(KEPT, 3, 0, 0), (ADDED, time, 0, 0)];
+        refused(&witness(Edition::One, 2, 0, &rows), 43, 1);
+        assert_eq!(witness(Edition::Two, 2, 0, &rows).wanted(), Some(19));
+    }
+    // Edition 1's limits are not edition 2's: the fourth row is the filler, at 0.
     for count in [4_609, 65_535] {
-        refused(&witness(count, 0, &[(9, 0, 0, 0)]), 42, 3);
-    }
-    refused(&witness(4_608, 0, &[(KEPT, 1, 0, 0)]), 43, 1);
-    // Filler 1 is a removed row with transition 1.
-    refused(&witness(1, 1, &[]), 43, 0);
-    let bad = [(3, 4, 0, 0), (255, 4, 0, 0), (KEPT, 0, 0, 0), (ADDED, 4_097, 0, 0)];
-    for row in bad.into_iter().chain([(KEPT, 65_535, 0, 0), (REMOVED, 4, 0, 254)]) {
-        refused(&witness(2, 0, &[(KEPT, 3, 0, 0), row]), 43, 1);
-    }
-    // At one time, and before it.
-    for row in [(KEPT, 3, 1, 0), (ADDED, 3, 1, 0), (REMOVED, 3, 1, 255), (ADDED, 2, 1, 0)] {
-        refused(&witness(2, 0, &[(REMOVED, 3, 0, 255), row]), 43, 1);
+        let rows = [(KEPT, 1, 0, 0), (KEPT, 2, 0, 0), (KEPT, 4_097, 0, 0)];
+        refused(&witness(Edition::Two, count, 0, &rows), 43, 3);
+        refused(&witness(Edition::One, count, 0, &rows), 42, 3);
     }
 }
 
@@ -358,12 +378,17 @@ fn as_many_as_there_are_places() {
     assert_eq!((it, back), (answer(0, 0, 0), heard(512, 0, &rows)));
     // A row at every time; the count may be higher, but then some row has no time left.
     let at = |time| if time <= 512 { (REMOVED, time, 0, 255) } else { (ADDED, time, 1, 0) };
-    let rows: Vec<_> = (1..=4_096).map(at).collect();
-    let Parts::Witness(parts) = witness(4_096, 0, &rows) else { unreachable!() };
-    let back: (_, WitnessParts) = witness_back(&parts, &mut [0; 20_485]);
-    assert_eq!(back, (answer(0, 0, 0), parts));
-    let more = [&rows[..], &[(ADDED, 4_096, 1, 0); 512]].concat();
-    refused(&witness(4_608, 0, &more), 43, 4_096);
+    for (edition, last, room) in [(Edition::One, 4_096, 20_485), (Edition::Two, 65_535, 327_684)] {
+        let rows: Vec<_> = (1..=last).map(at).collect();
+        let Parts::Witness(_, parts) = witness(edition, last.into(), 0, &rows) else {
+            unreachable!()
+        };
+        let back: (_, WitnessParts) = witness_back(edition, &parts, &mut vec![0; room]);
+        assert!(back == (answer(0, 0, 0), parts));
+    }
+    let rows: Vec<_> = (1..=4_608).map(|time: u16| at(time.min(4_096))).collect();
+    refused(&witness(Edition::One, 4_608, 0, &rows), 43, 4_096);
+    refused(&witness(Edition::Two, 4_608, 0, &rows), 43, 4_096);
     let small_monitor = TableParts::of(&read(&SMALL_MONITOR).unwrap());
     assert_eq!(table_back(&small_monitor, &mut [0; 68]), (answer(0, 0, 0), small_monitor));
 }

@@ -4,6 +4,7 @@ mod common;
 
 use common::{answer, chain, file, monitor_with, resized};
 use lutarosa_reference::answer::Refusal;
+use lutarosa_reference::edition::Edition;
 use lutarosa_reference::papers::{recording, ACK, DATA, RETRY, SMALL_MONITOR};
 use lutarosa_reference::recording::{read, write, Heard, Recording};
 use lutarosa_reference::rewrite::rewrite_recording;
@@ -15,7 +16,7 @@ fn refused_with(table: &[u8], bytes: &[u8], number: u64, value: usize) {
     let mut room = [0x5A; 40];
     let expected = answer(number, value as u64, 0);
     assert_eq!(rewrite_recording(table, bytes, &mut room), expected);
-    assert_eq!(validate(table, bytes, 9, &mut [], &mut room), expected);
+    assert_eq!(validate(Edition::One, table, bytes, 9, &mut [], &mut room), expected);
     assert_eq!(room, [0x5A; 40]);
 }
 
@@ -29,7 +30,7 @@ fn heard(rows: &[(u16, u8)]) -> Recording {
 
 #[test]
 fn sound_bytes_come_back() {
-    let rows = [(1, DATA), (3, ACK), (4, ACK), (4_096, RETRY)];
+    let rows = [(1, DATA), (3, ACK), (4_097, ACK), (65_535, RETRY)];
     let bytes = recording(&rows);
     assert_eq!(read(&SMALL_MONITOR, &bytes).unwrap().1, heard(&rows));
     let mut room = [0x5A; 18];
@@ -66,7 +67,8 @@ fn number_22_count() {
 #[test]
 fn number_23_row_out_of_range() {
     refused(&recording(&[(0, DATA)]), 23, 0);
-    refused(&recording(&[(1, DATA), (4_097, DATA)]), 23, 1);
+    refused(&recording(&[(1, DATA), (0, DATA)]), 23, 1);
+    refused(&recording(&[(4_097, DATA), (65_535, 3)]), 23, 1);
     refused(&recording(&[(1, 3)]), 23, 0);
     refused(&recording(&[(1, DATA), (9, 255)]), 23, 1);
     // In one row 23 comes before 24; a 24 in an earlier row comes first.
@@ -80,6 +82,11 @@ fn number_24_overlap() {
     refused(&recording(&[(1, ACK), (1, ACK)]), 24, 1);
     refused(&recording(&[(1, ACK), (2, DATA), (3, ACK)]), 24, 2);
     refused(&recording(&[(7, ACK), (6, ACK)]), 24, 1);
+    // DATA at 65,535 takes the air past the last time there is.
+    refused(&recording(&[(65_535, DATA), (65_535, ACK)]), 24, 1);
+    refused(&recording(&[(65_535, DATA), (1, ACK)]), 24, 1);
+    refused(&recording(&[(65_534, DATA), (65_535, ACK)]), 24, 1);
+    assert!(read(&SMALL_MONITOR, &recording(&[(65_533, DATA), (65_535, ACK)])).is_ok());
     assert!(read(&SMALL_MONITOR, &recording(&[(1, ACK), (2, DATA), (4, ACK)])).is_ok());
 }
 
@@ -114,7 +121,7 @@ fn numbers_30_and_31() {
     let bytes = recording(&[(1, DATA), (3, ACK), (6, RETRY)]);
     let run = |scratch: usize, room: usize| {
         let (mut scratch, mut room) = (vec![0x5A; scratch], vec![0x5A; room]);
-        let it = validate(&SMALL_MONITOR, &bytes, 13, &mut scratch, &mut room);
+        let it = validate(Edition::One, &SMALL_MONITOR, &bytes, 13, &mut scratch, &mut room);
         let clean = scratch.iter().chain(&room).all(|byte| *byte == 0x5A);
         (it, clean)
     };
@@ -123,7 +130,7 @@ fn numbers_30_and_31() {
     assert_eq!(run(42, 49), (answer(31, 50, 0), true));
     assert_eq!(run(42, 50), (answer(0, 13, 3), false));
     // The budget is looked at only after them.
-    let it = validate(&SMALL_MONITOR, &bytes, 0, &mut [0; 42], &mut [0; 49]);
+    let it = validate(Edition::One, &SMALL_MONITOR, &bytes, 0, &mut [0; 42], &mut [0; 49]);
     assert_eq!(it, answer(31, 50, 0));
 }
 
@@ -132,8 +139,41 @@ fn numbers_30_and_31() {
 fn a_set_is_rounded_up() {
     let table = chain(5, 0, &[0]);
     let empty = recording(&[]);
-    let it = validate(&table, &empty, 0, &mut [0; 1], &mut [0; 5]);
+    let it = validate(Edition::One, &table, &empty, 0, &mut [0; 1], &mut [0; 5]);
     assert_eq!(it, answer(30, 2, 0));
-    let it = validate(&table, &empty, 0, &mut [0; 2], &mut [0; 5]);
+    let it = validate(Edition::One, &table, &empty, 0, &mut [0; 2], &mut [0; 5]);
     assert_eq!(it, answer(0, 0, 0));
+}
+
+/// T is 4,096 or 4,097 and n is 1: T + 1 sets of 6 bytes. Past 4,096 no room is enough for edition 1,
+/// and the scratch is looked at before it.
+#[test]
+fn numbers_30_and_31_around_edition_1s_last_time() {
+    let run = |edition: Edition, last: u16, scratch: usize, room: usize| {
+        let (mut scratch, mut room) = (vec![0x5A; scratch], vec![0x5A; room]);
+        let bytes = recording(&[(last, ACK)]);
+        let it = validate(edition, &SMALL_MONITOR, &bytes, 0, &mut scratch, &mut room);
+        let clean = scratch.iter().chain(&room).all(|byte| *byte == 0x5A);
+        (it, clean)
+    };
+    let exhausted = (answer(2, 0, 1), false);
+    assert_eq!(run(Edition::One, 4_096, 24_582, 20_490), exhausted);
+    assert_eq!(run(Edition::One, 4_096, 24_582, 20_489), (answer(31, 20_490, 0), true));
+    assert_eq!(run(Edition::One, 4_096, 24_581, 20_490), (answer(30, 24_582, 0), true));
+    for room in [0, 5, 20_494, 20_495, 331_000] {
+        assert_eq!(run(Edition::One, 4_097, 24_588, room), (answer(31, 0, 0), true));
+        assert_eq!(run(Edition::One, 4_097, 24_587, room), (answer(30, 24_588, 0), true));
+        assert_eq!(run(Edition::One, 65_535, 393_216, room), (answer(31, 0, 0), true));
+        assert_eq!(run(Edition::One, 65_535, 393_215, room), (answer(30, 393_216, 0), true));
+    }
+    for (last, scratch, room) in
+        [(4_096, 24_582, 20_494), (4_097, 24_588, 20_499), (65_535, 393_216, 327_689)]
+    {
+        let [wanted_scratch, wanted_room] = [scratch as u64, room as u64];
+        assert_eq!(run(Edition::Two, last, scratch, room), exhausted);
+        let short = (answer(31, wanted_room, 0), true);
+        assert_eq!(run(Edition::Two, last, scratch, room - 1), short);
+        let short = (answer(30, wanted_scratch, 0), true);
+        assert_eq!(run(Edition::Two, last, scratch - 1, room - 1), short);
+    }
 }

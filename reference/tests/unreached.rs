@@ -7,7 +7,6 @@ mod recorded;
 use before::states::{Rule, NOW, OTHERS};
 use lutarosa_reference::answer::Answer;
 use lutarosa_reference::brute::lowest_unreached;
-use lutarosa_reference::call::ORDINARY;
 use lutarosa_reference::generate::encode_table;
 use lutarosa_reference::reaching::tables;
 use lutarosa_reference::table::{read, read_records, write};
@@ -22,7 +21,7 @@ fn told(rule: &Rule) -> (usize, usize) {
         Ok(table) => (rule.judge)(&table) != (NOW.judge)(&table),
         Err(_) => false,
     };
-    let calls = RECORDED.calls.iter().filter(|it| it.run(&rule.engine) != it.run(&ORDINARY));
+    let calls = RECORDED.usual().filter(|(call, outcome)| call.run(&rule.engine) != **outcome);
     let written = RECORDED.tables().map(|it| encode_table(&it.covered()));
     (calls.count(), written.filter(differs).count())
 }

@@ -5,6 +5,7 @@ mod common;
 use common::{answer, file, monitor_with};
 use lutarosa_reference::answer::{Answer, Refusal};
 use lutarosa_reference::check::check_witness;
+use lutarosa_reference::edition::Edition;
 use lutarosa_reference::papers::{recording, ACK, DATA, RETRY, SMALL_MONITOR};
 use lutarosa_reference::rewrite::rewrite_witness;
 use lutarosa_reference::witness::{bytes_of, read, write, Row, Witness, ADDED, KEPT, REMOVED};
@@ -16,16 +17,33 @@ fn witness(rows: &[Parts]) -> Witness {
     Witness { rows: rows.iter().map(row).collect() }
 }
 
-fn refused(bytes: &[u8], number: u64, value: usize) {
-    assert_eq!(read(bytes), Err(Refusal::new(number, value)), "{bytes:02x?}");
+fn refused_in(edition: Edition, bytes: &[u8], number: u64, value: usize) {
+    assert_eq!(read(edition, bytes), Err(Refusal::new(number, value)), "{edition:?}");
     let mut room = [0x5A; 40];
-    assert_eq!(rewrite_witness(bytes, &mut room), answer(number, value as u64, 0));
+    assert_eq!(rewrite_witness(edition, bytes, &mut room), answer(number, value as u64, 0));
     assert_eq!(room, [0x5A; 40]);
 }
 
+fn refused(bytes: &[u8], number: u64, value: usize) {
+    refused_in(Edition::One, bytes, number, value);
+}
+
+fn bad_form_in(edition: Edition, rows: &[Parts], row: u64) {
+    refused_in(edition, &bytes_of(edition, &witness(rows)), 43, row as usize);
+    assert_eq!(write(edition, &witness(rows), &mut []), answer(43, row, 0));
+}
+
 fn bad_form(rows: &[Parts], row: u64) {
-    refused(&bytes_of(&witness(rows)), 43, row as usize);
-    assert_eq!(write(&witness(rows), &mut []), answer(43, row, 0));
+    Edition::BOTH.into_iter().for_each(|edition| bad_form_in(edition, rows, row));
+}
+
+fn in_form_in(edition: Edition, rows: &[Parts]) {
+    let it = witness(rows);
+    assert_eq!(read(edition, &bytes_of(edition, &it)), Ok(it));
+}
+
+fn in_form(rows: &[Parts]) {
+    Edition::BOTH.into_iter().for_each(|edition| in_form_in(edition, rows));
 }
 
 #[test]
@@ -38,9 +56,52 @@ fn numbers_40_to_42() {
     refused(&[0, 3, 1, 0, 1], 42, 3);
     refused(&file(&[1, 0, 1, 0, 0, 1, 0]), 42, 3);
     refused(&file(&[1, 0, 0, 0]), 42, 3);
-    let many = |count| bytes_of(&witness(&vec![(ADDED, 1, 0, 0); count]));
+    let many = |count| bytes_of(Edition::One, &witness(&vec![(ADDED, 1, 0, 0); count]));
     refused(&many(4_609), 42, 3);
     refused(&many(4_608), 43, 1);
+}
+
+/// Four bytes of length, version 2, four bytes of count.
+#[test]
+fn numbers_40_to_42_of_edition_2() {
+    let refused = |bytes: &[u8], number, value| refused_in(Edition::Two, bytes, number, value);
+    refused(&[], 40, 0);
+    refused(&[0, 0, 0, 0], 40, 0);
+    refused(&[0, 0, 0, 4, 2, 0, 0, 0], 40, 0);
+    refused(&[0, 0, 0, 6, 2, 0, 0, 0, 0], 40, 0);
+    refused(&[0, 0, 0, 4, 2, 0, 0, 0, 0], 40, 0);
+    // The lower or the upper half of the length is right.
+    refused(&[0, 1, 0, 5, 2, 0, 0, 0, 0], 40, 0);
+    refused(&[255, 255, 0, 5, 2, 0, 0, 0, 0], 40, 0);
+    refused(&vec![0; 70_000], 40, 0);
+    // Its own bytes, as the other edition counts them.
+    refused(&[0, 7, 2, 0, 0, 0, 0, 0, 0], 40, 0);
+    refused(&[0, 3, 1, 0, 0], 40, 0);
+    for version in [0, 1, 3, 255] {
+        refused(&[0, 0, 0, 5, version, 9, 9, 9, 9], 41, 4);
+    }
+    refused(&[0, 0, 0, 5, 2, 0, 0, 0, 1], 42, 5);
+    refused(&[0, 0, 0, 5, 2, 0, 1, 0, 0], 42, 5);
+    refused(&[0, 0, 0, 5, 2, 1, 0, 0, 0], 42, 5);
+    refused(&[0, 0, 0, 6, 2, 0, 0, 0, 0, 0], 42, 5);
+    refused(&[0, 0, 0, 10, 2, 0, 1, 0, 1, 0, 0, 1, 0, 0], 42, 5);
+    let many = |count| bytes_of(Edition::Two, &witness(&vec![(ADDED, 1, 0, 0); count]));
+    refused(&many(4_609), 43, 1);
+    refused(&many(65_535), 43, 1);
+    refused(&many(65_536), 42, 5);
+    refused(&many(70_000), 42, 5);
+}
+
+#[test]
+fn times_past_edition_1s_last() {
+    for time in [4_097, 4_098, 32_768, 65_534, 65_535] {
+        bad_form_in(Edition::One, &[(KEPT, time, 0, 0)], 0);
+        bad_form_in(Edition::One, &[(KEPT, 4_096, 0, 0), (ADDED, time, 0, 0)], 1);
+        in_form_in(Edition::Two, &[(KEPT, time, 0, 0)]);
+        in_form_in(Edition::Two, &[(KEPT, 4_096, 0, 0), (ADDED, time, 0, 0)]);
+        bad_form_in(Edition::Two, &[(KEPT, time, 0, 0), (ADDED, 4_096, 0, 0)], 1);
+    }
+    bad_form(&[(KEPT, 4_096, 0, 0), (KEPT, 4_096, 0, 0)], 1);
 }
 
 #[test]
@@ -48,11 +109,9 @@ fn form_of_one_row() {
     bad_form(&[(3, 1, 0, 0)], 0);
     bad_form(&[(255, 1, 0, 0)], 0);
     bad_form(&[(KEPT, 0, 0, 0)], 0);
-    bad_form(&[(KEPT, 4_097, 0, 0)], 0);
     bad_form(&[(REMOVED, 1, 0, 0)], 0);
     // Kind and transition may be any byte in a form.
-    let any = witness(&[(KEPT, 1, 255, 255), (ADDED, 2, 200, 255), (REMOVED, 4_096, 99, 255)]);
-    assert_eq!(read(&bytes_of(&any)), Ok(any));
+    in_form(&[(KEPT, 1, 255, 255), (ADDED, 2, 200, 255), (REMOVED, 4_096, 99, 255)]);
 }
 
 #[test]
@@ -66,8 +125,7 @@ fn form_of_two_rows() {
             bad_form(&[(KEPT, 1, 0, 0), first, second], 2);
         }
         for second in at(3, 0) {
-            let pair = witness(&[first, second]);
-            assert_eq!(read(&bytes_of(&pair)), Ok(pair));
+            in_form(&[first, second]);
         }
     }
 }
@@ -76,18 +134,33 @@ fn form_of_two_rows() {
 fn writing() {
     let two = witness(&[(KEPT, 258, 3, 4), (REMOVED, 300, 5, 255)]);
     let mut room = [0x5A; 16];
-    assert_eq!(write(&two, &mut room), answer(0, 15, 0));
+    assert_eq!(write(Edition::One, &two, &mut room), answer(0, 15, 0));
     assert_eq!(room, [0, 13, 1, 0, 2, 0, 1, 2, 3, 4, 1, 1, 44, 5, 255, 0x5A]);
-    assert_eq!(rewrite_witness(&room[..15], &mut [0; 14]), answer(33, 15, 0));
-    let many = witness(&vec![(KEPT, 0, 0, 0); 4_609]);
-    assert_eq!(write(&many, &mut []), answer(42, 3, 0));
-    let many = witness(&vec![(KEPT, 0, 0, 0); 65_537]);
-    assert_eq!(write(&many, &mut []), answer(42, 3, 0));
+    assert_eq!(rewrite_witness(Edition::One, &room[..15], &mut [0; 14]), answer(33, 15, 0));
+    let mut room = [0x5A; 20];
+    assert_eq!(write(Edition::Two, &two, &mut room), answer(0, 19, 0));
+    let head = [0, 0, 0, 15, 2, 0, 0, 0, 2];
+    assert_eq!(room, [&head[..], &[0, 1, 2, 3, 4, 1, 1, 44, 5, 255, 0x5A]].concat()[..]);
+    assert_eq!(rewrite_witness(Edition::Two, &room[..19], &mut [0; 18]), answer(33, 19, 0));
+    for (count, refused) in [(4_609, [(42, 3), (43, 0)]), (65_537, [(42, 3), (42, 5)])] {
+        let many = witness(&vec![(KEPT, 0, 0, 0); count]);
+        for (edition, (number, value)) in Edition::BOTH.into_iter().zip(refused) {
+            assert_eq!(write(edition, &many, &mut []), answer(number, value, 0));
+        }
+    }
 }
 
 /// The small monitor heard these rows, and is told this.
+fn check_in(edition: Edition, heard: &[(u16, u8)], rows: &[Parts]) -> Answer {
+    let told = bytes_of(edition, &witness(rows));
+    check_witness(edition, &SMALL_MONITOR, &recording(heard), &told)
+}
+
+/// The same in either edition, where no time is past edition 1's last.
 fn check(heard: &[(u16, u8)], rows: &[Parts]) -> Answer {
-    check_witness(&SMALL_MONITOR, &recording(heard), &bytes_of(&witness(rows)))
+    let [one, two] = Edition::BOTH.map(|edition| check_in(edition, heard, rows));
+    assert_eq!(one, two);
+    one
 }
 
 const DATA_KEPT: Parts = (KEPT, 1, DATA, 0);
@@ -108,7 +181,8 @@ fn removed_rows_take_their_airtime() {
     let added = |airtime: u8, time: u16| {
         let rows = witness(&[(REMOVED, 1, ACK, 255), (ADDED, time, DATA, 0)]);
         let table = monitor_with(&[(13, airtime)]);
-        check_witness(&table, &recording(&[(1, ACK)]), &bytes_of(&rows))
+        let told = bytes_of(Edition::One, &rows);
+        check_witness(Edition::One, &table, &recording(&[(1, ACK)]), &told)
     };
     for (airtime, time) in [(2, 1), (2, 2), (2, 3), (0, 1), (15, 16)] {
         assert_eq!(added(airtime, time), answer(43, 1, 0), "{airtime} {time}");
@@ -191,14 +265,56 @@ fn number_43_first_of_all_rules() {
     assert_eq!(check(&[], &[(REMOVED, 1, 200, 255)]), answer(43, 0, 0));
 }
 
+/// A recording past edition 1's last time has no number of its own there.
+#[test]
+fn edition_1_of_a_late_recording() {
+    let late = &[(1, DATA), (4_097, ACK)];
+    let rows = [DATA_KEPT, (REMOVED, 4_097, ACK, 255)];
+    assert_eq!(check_in(Edition::One, late, &rows), answer(43, 1, 0));
+    assert_eq!(check_in(Edition::One, late, &rows[..1]), answer(43, 1, 0));
+    assert_eq!(check_in(Edition::One, late, &[]), answer(43, 0, 0));
+    assert_eq!(check_in(Edition::Two, late, &rows), answer(0, 1, 2));
+    assert_eq!(check_in(Edition::Two, late, &rows[..1]), answer(43, 1, 0));
+    let beyond = [DATA_KEPT, (ADDED, 4, ACK, 1), (ADDED, 65_535, DATA, 0)];
+    assert_eq!(check_in(Edition::One, &late[..1], &beyond), answer(43, 2, 0));
+    assert_eq!(check_in(Edition::Two, &late[..1], &beyond), answer(0, 2, 3));
+}
+
+/// Clocks read all ticks: ACK comes at most 3 after DATA, RETRY 4 to 6.
+#[test]
+fn clocks_and_air_at_late_times() {
+    let told = |time, kind, transition| {
+        check_in(Edition::Two, &[(1, DATA)], &[DATA_KEPT, (ADDED, time, kind, transition)])
+    };
+    for time in [255, 256, 257, 260, 4_096, 4_097, 4_099, 4_101, 8_193, 32_769, 65_535] {
+        assert_eq!(told(time, ACK, 1), answer(43, 1, 0));
+        assert_eq!(told(time, RETRY, 2), answer(43, 1, 0));
+    }
+    // DATA at 65,534 takes 65,535 as well; at 65,533 it is off the air by then.
+    let acked = [DATA_KEPT, (ADDED, 4, ACK, 1)];
+    let late = |data: u16, time: u16, kind, transition| {
+        let rows =
+            [&acked[..], &[(ADDED, data, DATA, 0), (ADDED, time, kind, transition)]].concat();
+        check_in(Edition::Two, &[(1, DATA)], &rows)
+    };
+    assert_eq!(late(65_534, 65_535, ACK, 1), answer(43, 3, 0));
+    assert_eq!(late(65_533, 65_535, ACK, 1), answer(0, 3, 4));
+    assert_eq!(late(65_532, 65_535, ACK, 1), answer(0, 3, 4));
+    assert_eq!(late(65_531, 65_535, ACK, 1), answer(43, 3, 0));
+    assert_eq!(late(65_531, 65_535, RETRY, 2), answer(0, 3, 4));
+    assert_eq!(late(65_529, 65_535, RETRY, 2), answer(0, 3, 4));
+    assert_eq!(late(65_528, 65_535, RETRY, 2), answer(43, 3, 0));
+}
+
 #[test]
 fn table_then_recording_then_witness() {
     let bad_witness = [0, 9];
-    assert_eq!(check_witness(&monitor_with(&[(2, 0)]), &[], &bad_witness), answer(11, 2, 0));
-    assert_eq!(check_witness(&monitor_with(&[(3, 4)]), &[], &bad_witness), answer(17, 3, 0));
-    assert_eq!(check_witness(&SMALL_MONITOR, &[], &bad_witness), answer(20, 0, 0));
-    let heard = recording(&[(0, DATA)]);
-    assert_eq!(check_witness(&SMALL_MONITOR, &heard, &bad_witness), answer(23, 0, 0));
-    let heard = recording(&[(1, DATA)]);
-    assert_eq!(check_witness(&SMALL_MONITOR, &heard, &bad_witness), answer(40, 0, 0));
+    for edition in Edition::BOTH {
+        let check = |table: &[u8], heard: &[u8]| check_witness(edition, table, heard, &bad_witness);
+        assert_eq!(check(&monitor_with(&[(2, 0)]), &[]), answer(11, 2, 0));
+        assert_eq!(check(&monitor_with(&[(3, 4)]), &[]), answer(17, 3, 0));
+        assert_eq!(check(&SMALL_MONITOR, &[]), answer(20, 0, 0));
+        assert_eq!(check(&SMALL_MONITOR, &recording(&[(0, DATA)])), answer(23, 0, 0));
+        assert_eq!(check(&SMALL_MONITOR, &recording(&[(1, DATA)])), answer(40, 0, 0));
+    }
 }

@@ -2,12 +2,8 @@
 use Prim.Native.Nat.{ℕ, _+_, _*_, _%_}
 use mathlib.Core.Path.{_≡_}
 use mathlib.Core.List.{List, [], _∷_}
-use Rattle.model.specs.Bytes.{byteAt, wordAt}
+use Rattle.model.specs.Bytes.{byteAt, longAt}
 use Rattle.batch.specs.declared.Head.{Head}
-
--- the four-byte number at an offset, big-endian
-abbrev pub longAt : List ℕ → ℕ → ℕ
-longAt b i = 65536 * wordAt b i + wordAt b (i + 2)
 
 pub record HeadAt (b : List ℕ) (h : Head) : Type 0 where
   pub call : h .call ≡ byteAt b 0

@@ -1,10 +1,11 @@
--- Parts as a case's files give them. A file of parts has the layout of what is written, but for three things: where the length would stand is how many
--- records are given, where the version would stand the filler, which every place holds that no record gives, and a table's version stands behind its counts.
+-- Parts as a case's files give them. A file of parts has the layout of what is written, but for four things: where the length would stand is how many records are
+-- given, in two bytes, where the version would stand the filler, which every place holds that no record gives, a table's version stands behind its counts, and a
+-- witness's count has four bytes in either edition.
 use Prim.Native.Nat.{ℕ, _+_, _*_}
 use mathlib.Core.List.{List, [], _∷_, _++_}
 use lib.ListN.{replicate}
-use Rattle.model.specs.Limits.{kindLimit, transitionLimit, guardLimit, rowLimit, witnessLimit}
-use Rattle.model.specs.Bytes.{byteAt, wordAt, wordBytes}
+use Rattle.model.specs.Limits.{kindLimit, transitionLimit, guardLimit, rowLimit, witnessPlaces}
+use Rattle.model.specs.Bytes.{byteAt, wordAt, wordBytes, longAt, longBytes}
 use Rattle.model.specs.declared.TableParts.{TableParts}
 use Rattle.model.specs.declared.RecordingParts.{RecordingParts}
 use Rattle.model.specs.declared.WitnessParts.{WitnessParts}
@@ -61,19 +62,19 @@ recordingGiven b = record { count = wordAt b 3; times = recordedTimesGiven b; ki
 
 -- the byte that stands at start in row 0
 abbrev pub rowsGiven : List ℕ → ℕ → List ℕ
-rowsGiven b start = filled (λ i. byteAt b (start + 5 * i)) (wordAt b 0) (replicate witnessLimit (fillerAt b))
+rowsGiven b start = filled (λ i. byteAt b (start + 5 * i)) (wordAt b 0) (replicate witnessPlaces (fillerAt b))
 
 abbrev pub timesGiven : List ℕ → List ℕ
-timesGiven b = filled (λ i. wordAt b (6 + 5 * i)) (wordAt b 0) (replicate witnessLimit (fillerTimeAt b))
+timesGiven b = filled (λ i. wordAt b (8 + 5 * i)) (wordAt b 0) (replicate witnessPlaces (fillerTimeAt b))
 
 unfoldable pub witnessGiven : List ℕ → WitnessParts
 witnessGiven b =
     record {
-      count = wordAt b 3;
-      marks = rowsGiven b 5;
+      count = longAt b 3;
+      marks = rowsGiven b 7;
       times = timesGiven b;
-      kinds = rowsGiven b 8;
-      transitions = rowsGiven b 9;
+      kinds = rowsGiven b 10;
+      transitions = rowsGiven b 11;
     }
 
 -- every number of the parts in the order of their declaration, as bytes
@@ -95,4 +96,4 @@ unfoldable pub recordingNumbers : RecordingParts → List ℕ
 recordingNumbers r = wordBytes (r .count) ++ wordsBytes (r .times) ++ r .kinds
 
 unfoldable pub witnessNumbers : WitnessParts → List ℕ
-witnessNumbers w = wordBytes (w .count) ++ w .marks ++ wordsBytes (w .times) ++ w .kinds ++ w .transitions
+witnessNumbers w = longBytes (w .count) ++ w .marks ++ wordsBytes (w .times) ++ w .kinds ++ w .transitions

@@ -3,12 +3,11 @@ pub mod parts;
 pub mod sums;
 
 use wire::byte;
-use wire::word;
+use wire::long;
 ghost use mathlib.Core.Path.{_≡_};
-ghost use Prim.Native.Nat.{_<_};
 ghost use lib.ListN.{length};
 ghost use Rattle.model.specs.Bytes.{tab};
-ghost use Rattle.batch.specs.Batch.{longAt, HeadAt, patternAt};
+ghost use Rattle.batch.specs.Batch.{HeadAt, patternAt};
 
 pub struct Head {
     pub call: u8,
@@ -18,15 +17,6 @@ pub struct Head {
     pub first: u32,
     pub second: u32,
     pub third: u32,
-}
-
-fn long(bytes: &[u8], at: usize) -> u32
-    requires { ⌜ at < 25 ⌝ }
-    ensures { λ r. ⌜ r ≡ longAt (now (bytes .entry)) at ⌝ }
-{
-    let high = word(bytes, at) as u32;
-    let low = word(bytes, at + 2) as u32;
-    65536 * high + low
 }
 
 pub fn head_of(bytes: &[u8]) -> Head

@@ -7,16 +7,17 @@ use model::ROW_LIMIT;
 use model::RecordingParts;
 use model::TRANSITION_LIMIT;
 use model::TableParts;
-use model::WITNESS_LIMIT;
+use model::WITNESS_PLACES;
 use model::WitnessParts;
 use wire::byte;
+use wire::long;
 use wire::word;
 ghost use mathlib.Core.Path.{_≡_};
 ghost use Prim.Native.Nat.{_≤_};
 ghost use Rattle.batch.specs.Parts.{fillerTimeAt, kindsGiven, transitionsGiven, guardsGiven, tableGiven, recordedTimesGiven, recordedKindsGiven, recordingGiven, rowsGiven, timesGiven, witnessGiven};
 
 // The places of a guard.
-const PLACES: u16 = GUARD_LIMIT as u16;
+const PLACES: u32 = GUARD_LIMIT as u32;
 
 fn kind_column(b: &[u8], field: u8) -> [u8; KIND_LIMIT]
     requires { ⌜ field ≤ 2 ⌝ }
@@ -24,7 +25,7 @@ fn kind_column(b: &[u8], field: u8) -> [u8; KIND_LIMIT]
 {
     let filler = byte(b, 2);
     let mut column = [filler; KIND_LIMIT];
-    bytes_column(b, 9 + field, 3, byte(b, 0) as u16, &mut column);
+    bytes_column(b, 9 + field, 3, byte(b, 0) as u32, &mut column);
     column
 }
 
@@ -33,7 +34,7 @@ fn transition_column<'a>(b: &'a [u8], fields: &'a [u8], field: u8) -> [u8; TRANS
 {
     let filler = byte(b, 2);
     let mut column = [filler; TRANSITION_LIMIT];
-    bytes_column(fields, field, 7, byte(b, 1) as u16, &mut column);
+    bytes_column(fields, field, 7, byte(b, 1) as u32, &mut column);
     column
 }
 
@@ -42,7 +43,7 @@ fn guard_places<'a>(b: &'a [u8], guards: &'a [u8]) -> [u8; GUARD_LIMIT * TRANSIT
 {
     let filler = byte(b, 2);
     let mut places = [filler; GUARD_LIMIT * TRANSITION_LIMIT];
-    bytes_column(guards, 0, 1, PLACES * byte(b, 1) as u16, &mut places);
+    bytes_column(guards, 0, 1, PLACES * byte(b, 1) as u32, &mut places);
     places
 }
 
@@ -92,7 +93,7 @@ fn recorded_times(b: &[u8]) -> [u16; ROW_LIMIT]
 {
     let filler = filler_time(b);
     let mut times = [filler; ROW_LIMIT];
-    words_column(b, 5, 3, word(b, 0), &mut times);
+    words_column(b, 5, 3, word(b, 0) as u32, &mut times);
     times
 }
 
@@ -101,7 +102,7 @@ fn recorded_kinds(b: &[u8]) -> [u8; ROW_LIMIT]
 {
     let filler = byte(b, 2);
     let mut kinds = [filler; ROW_LIMIT];
-    bytes_column(b, 7, 3, word(b, 0), &mut kinds);
+    bytes_column(b, 7, 3, word(b, 0) as u32, &mut kinds);
     kinds
 }
 
@@ -117,33 +118,33 @@ pub fn recording_parts(b: &[u8]) -> RecordingParts
     }
 }
 
-fn row_column(b: &[u8], start: u8) -> [u8; WITNESS_LIMIT]
+fn row_column(b: &[u8], start: u8) -> [u8; WITNESS_PLACES]
     ensures { λ r. ⌜ r ≡ rowsGiven (now (b .entry)) start ⌝ }
 {
     let filler = byte(b, 2);
-    let mut column = [filler; WITNESS_LIMIT];
-    bytes_column(b, start, 5, word(b, 0), &mut column);
+    let mut column = [filler; WITNESS_PLACES];
+    bytes_column(b, start, 5, word(b, 0) as u32, &mut column);
     column
 }
 
-fn time_column(b: &[u8]) -> [u16; WITNESS_LIMIT]
+fn time_column(b: &[u8]) -> [u16; WITNESS_PLACES]
     ensures { λ r. ⌜ r ≡ timesGiven (now (b .entry)) ⌝ }
 {
     let filler = filler_time(b);
-    let mut column = [filler; WITNESS_LIMIT];
-    words_column(b, 6, 5, word(b, 0), &mut column);
+    let mut column = [filler; WITNESS_PLACES];
+    words_column(b, 8, 5, word(b, 0) as u32, &mut column);
     column
 }
 
 pub fn witness_parts(b: &[u8]) -> WitnessParts
     ensures { λ r. ⌜ r ≡ witnessGiven (now (b .entry)) ⌝ }
 {
-    let marks = row_column(b, 5);
+    let marks = row_column(b, 7);
     let times = time_column(b);
-    let kinds = row_column(b, 8);
-    let transitions = row_column(b, 9);
+    let kinds = row_column(b, 10);
+    let transitions = row_column(b, 11);
     WitnessParts {
-        count: word(b, 3),
+        count: long(b, 3),
         marks,
         times,
         kinds,

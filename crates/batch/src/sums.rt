@@ -4,7 +4,7 @@ use model::TableParts;
 use model::WitnessParts;
 ghost use mathlib.Core.Path.{_≡_};
 ghost use Prim.Native.Nat.{_%_, _<_};
-ghost use Rattle.model.specs.Bytes.{wordBytes};
+ghost use Rattle.model.specs.Bytes.{wordBytes, longBytes};
 ghost use Rattle.batch.specs.Batch.{sumFrom};
 ghost use Rattle.batch.specs.Parts.{wordsBytes, kindNumbers, transitionNumbers, tableNumbers, recordingNumbers, witnessNumbers};
 
@@ -33,6 +33,19 @@ fn sum_word(from: u64, word: u16) -> u64
     ensures { λ r. ⌜ (r ≡ sumFrom from (wordBytes word)) × (r < 1000003) ⌝ }
 {
     let bytes = [(word / 256) as u8, (word % 256) as u8];
+    sum_on(from, &bytes)
+}
+
+fn sum_long(from: u64, long: u32) -> u64
+    requires { ⌜ from < 1000003 ⌝ }
+    ensures { λ r. ⌜ (r ≡ sumFrom from (longBytes long)) × (r < 1000003) ⌝ }
+{
+    let bytes = [
+        (long / 16777216 % 256) as u8,
+        (long / 65536 % 256) as u8,
+        (long / 256 % 256) as u8,
+        (long % 256) as u8,
+    ];
     sum_on(from, &bytes)
 }
 
@@ -97,7 +110,7 @@ pub fn sum_recording(r: RecordingParts) -> u64
 pub fn sum_witness(w: WitnessParts) -> u64
     ensures { λ r. ⌜ (r ≡ sumFrom 1 (witnessNumbers w)) × (r < 1000003) ⌝ }
 {
-    let total = sum_word(1, w.count);
+    let total = sum_long(1, w.count);
     let total = sum_on(total, &w.marks);
     let total = sum_words(total, &w.times);
     let total = sum_on(total, &w.kinds);

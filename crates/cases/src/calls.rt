@@ -7,6 +7,7 @@ use batch::sums::sum_table;
 use batch::sums::sum_witness;
 use codec::recording::write_recording;
 use codec::table::write_table;
+use model::Edition;
 use model::RecordingReading;
 use model::TableReading;
 use model::WitnessReading;
@@ -33,6 +34,7 @@ pub(crate) struct Outcome {
 }
 
 fn from_files<'a>(
+    edition: Edition,
     which: u8,
     budget: u32,
     first: &'a [u8],
@@ -42,10 +44,10 @@ fn from_files<'a>(
     room: &mut [u8],
 ) -> Answer {
     if which == 0 {
-        return verdict_numbers(engine::validate(first, second, budget, scratch, room));
+        return verdict_numbers(engine::validate(edition, first, second, budget, scratch, room));
     }
     if which == 1 {
-        return checking_numbers(checker::check_witness(first, second, third));
+        return checking_numbers(checker::check_witness(edition, first, second, third));
     }
     if which == 2 {
         return writing_numbers(rewrite::rewrite_table(first, room));
@@ -53,10 +55,11 @@ fn from_files<'a>(
     if which == 3 {
         return writing_numbers(rewrite::rewrite_recording(first, second, room));
     }
-    writing_numbers(rewrite::rewrite_witness(first, room))
+    writing_numbers(rewrite::rewrite_witness(edition, first, room))
 }
 
 fn write<'a>(
+    edition: Edition,
     which: u8,
     first: &'a [u8],
     second: &'a [u8],
@@ -69,7 +72,7 @@ fn write<'a>(
     if which == 7 {
         return writing_numbers(write_recording(first, recording_parts(second), room));
     }
-    writing_numbers(write_witness(witness_parts(first), room))
+    writing_numbers(write_witness(edition, witness_parts(first), room))
 }
 
 fn table_outcome(reading: TableReading) -> Outcome
@@ -106,6 +109,7 @@ fn witness_outcome(reading: WitnessReading) -> Outcome
 }
 
 fn back<'a>(
+    edition: Edition,
     which: u8,
     first: &'a [u8],
     second: &'a [u8],
@@ -120,7 +124,42 @@ fn back<'a>(
     if which == 10 {
         return recording_outcome(recording_back(first, recording_parts(second), room));
     }
-    witness_outcome(witness_back(witness_parts(first), room))
+    witness_outcome(witness_back(edition, witness_parts(first), room))
+}
+
+fn call_in<'a>(
+    edition: Edition,
+    which: u8,
+    budget: u32,
+    first: &'a [u8],
+    second: &'a [u8],
+    third: &'a [u8],
+    scratch: &mut [u8],
+    room: &mut [u8],
+) -> Outcome
+    ensures { λ r. ⌜ r .sum < 1000003 ⌝ }
+{
+    if which < 5 {
+        let numbers = from_files(edition, which, budget, first, second, third, scratch, room);
+        return Outcome { numbers, sum: 1 };
+    }
+    if which < 9 {
+        let numbers = write(edition, which, first, second, third, room);
+        return Outcome { numbers, sum: 1 };
+    }
+    back(edition, which, first, second, third, room)
+}
+
+// Calls 12 to 16 are the calls of edition 1 that read or write a witness, in edition 2.
+fn in_first(which: u8) -> u8 {
+    match which {
+        12 => 0,
+        13 => 1,
+        14 => 4,
+        15 => 8,
+        16 => 11,
+        other => other,
+    }
 }
 
 pub(crate) fn call<'a>(
@@ -134,13 +173,27 @@ pub(crate) fn call<'a>(
 ) -> Outcome
     ensures { λ r. ⌜ r .sum < 1000003 ⌝ }
 {
-    if which < 5 {
-        let numbers = from_files(which, budget, first, second, third, scratch, room);
-        return Outcome { numbers, sum: 1 };
+    if which < 12 {
+        return call_in(
+            Edition::One,
+            which,
+            budget,
+            first,
+            second,
+            third,
+            scratch,
+            room,
+        );
     }
-    if which < 9 {
-        let numbers = write(which, first, second, third, room);
-        return Outcome { numbers, sum: 1 };
-    }
-    back(which, first, second, third, room)
+    let same = in_first(which);
+    call_in(
+        Edition::Two,
+        same,
+        budget,
+        first,
+        second,
+        third,
+        scratch,
+        room,
+    )
 }

@@ -1,6 +1,7 @@
 // Runs a batch of recorded calls from standard input through the library, and prints each answer on a line of its own.
 // A case is a head of 25 bytes and its files: the call (0 validate, 1 check, 2 to 4 rewrite a table, a recording, a witness, 5 the desk, 6 to 8
-// write the parts of one of the three, 9 to 11 read them back too), then six four-byte numbers: the budget and the lengths of scratch, room and
+// write the parts of one of the three, 9 to 11 read them back too; in edition 2 of the witness 12 validate, 13 check, 14 rewrite it, 15 write its
+// parts, 16 read them back too), then six four-byte numbers: the budget and the lengths of scratch, room and
 // three files. An answer is its three numbers and a sum over every number of the parts that were read back, and every byte of scratch and room,
 // so that none changes unseen. A case of the desk prints the desk's lines.
 mod calls;
@@ -82,7 +83,7 @@ fn run(
     if which == 5 {
         return desk(&files[0..second]);
     }
-    if 11 < which {
+    if 16 < which {
         return stop(b"cases: there is no such call\n");
     }
     answer(
@@ -142,8 +143,8 @@ fn all_cases(files: &mut [u8], scratch: &mut [u8], room: &mut [u8]) {
 }
 
 fn main() {
-    let mut files = [0u8; 210000];
-    let mut scratch = [0u8; 65536];
-    let mut room = [0u8; 24000];
+    let mut files = [0u8; 400000];
+    let mut scratch = [0u8; 400000];
+    let mut room = [0u8; 331000];
     all_cases(&mut files, &mut scratch, &mut room);
 }

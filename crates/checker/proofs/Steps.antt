@@ -9,9 +9,9 @@ use mathlib.Core.Option.{Option, none, some}
 use lib.ListN.{length, getD, drop, length-map}
 use lib.Dec.{leb}
 use borrow.Author.Tests.{le-leb, eq-eqb, ne-eqb}
-use Rattle.model.specs.Limits.{timeLimit}
 use Rattle.model.specs.Trace.{Packet}
 use Rattle.model.specs.Monitor.{Monitor, wait, fires, airtime, toUnit}
+use Rattle.model.specs.declared.Edition.{Edition}
 use Rattle.model.specs.declared.Config.{Config}
 use Rattle.model.specs.Witness.{inPlace}
 use Rattle.model.specs.Rules.{Progress, noneBefore, isNext, noneAt, sends, removes, keeps, adds, account}
@@ -21,8 +21,8 @@ use Rattle.checker.specs.declared.Standing.{Standing}
 use Rattle.checker.specs.declared.Step.{Step}
 use Rattle.checker.proofs.Left.{others-drop}
 use Rattle.checker.proofs.Places.{place-times}
-use Rattle.witness.specs.Rows.{rowOf}
-use Rattle.checker.specs.Standing.{beforeOf, progressOf, Bounded, Ready, Stepped}
+use Rattle.witness.specs.Rows.{rowOf, beforeOf}
+use Rattle.checker.specs.Standing.{progressOf, Bounded, Ready, Stepped}
 
 pub stepped-as : (ps : List Packet) {a b : Option Progress} {r : Step} → Stepped ps a r → a ≡ b → Stepped ps b r
 stepped-as ps s e = record { is = s .is ∙ e; bounded = s .bounded }
@@ -39,11 +39,11 @@ sent-unfired m ps s e left f = rw f
 
 module _ (m : Monitor) (ps : List Packet) (s : Standing) (e : Entry) (next : ℕ) where
   pub sent-fired : (d : Config) (free : ℕ) → Ready s e → fires m (e .transition) (e .kind) (wait (e .time - s .now) (s .config)) ≡ some d →
-      free ≡ e .time + airtime m (e .kind) + 1 → free ≤ timeLimit + 256 →
+      free ≡ e .time + airtime m (e .kind) + 1 →
       Stepped ps (sends m (progressOf ps s) (rowOf e) (drop next ps))
       (record { sound = true; to = record { before = e; next = next; now = e .time; free = free; config = d } })
   unfolding sends
-  sent-fired d free ready f g small =
+  sent-fired d free ready f g =
       let b = ready .bounded in
       let two : length (d .clocks) ≡ 2 = fired-length m (e .transition) (e .kind) (wait (e .time - s .now) (s .config)) d f ∙ length-map (s .config .clocks) (λ x. x + (e .time - s .now)) ∙ b .clocks in
       let below = fired-below m (e .transition) (e .kind) (wait (e .time - s .now) (s .config)) d f in
@@ -55,7 +55,6 @@ module _ (m : Monitor) (ps : List Packet) (s : Standing) (e : Entry) (next : ℕ
             record {
               fired = omega arith;
               last = ready .last;
-              free = small;
               clocks = two;
               first = omega (arith, below 0, read .0, b .first, b .fired, ready .behind);
               second = omega (arith, below 1, read .1, b .second, b .fired, ready .behind);
@@ -78,11 +77,11 @@ module _ (m : Monitor) (ps : List Packet) (s : Standing) (e : Entry) where
   unfolding removes
   not-removed next unit n u h = rw (n, u, h)
 
-  pub removed-step : (free : ℕ) → Ready s e → free ≡ e .time + airtime m (e .kind) + 1 → free ≤ timeLimit + 256 → isNext (drop (s .next) ps) (rowOf e) ≡ true → toUnit m (e .kind) ≡ true →
+  pub removed-step : (free : ℕ) → Ready s e → free ≡ e .time + airtime m (e .kind) + 1 → isNext (drop (s .next) ps) (rowOf e) ≡ true → toUnit m (e .kind) ≡ true →
       Stepped ps (removes m p (rowOf e))
       (record { sound = true; to = record { before = e; next = s .next + 1; now = s .now; free = free; config = s .config } })
   unfolding removes
-  removed-step free ready g small n u =
+  removed-step free ready g n u =
       let b = ready .bounded in
       record {
         is = rw (n, u, ← g, ne-eqb (e .time) 0 (λ q. omega (arith, ready .behind)), others-drop (s .next) ps, add-one (s .next));
@@ -91,7 +90,6 @@ module _ (m : Monitor) (ps : List Packet) (s : Standing) (e : Entry) where
             record {
               fired = omega (arith, b .fired, ready .behind);
               last = ready .last;
-              free = small;
               clocks = b .clocks;
               first = b .first;
               second = b .second;
@@ -106,27 +104,27 @@ module _ (m : Monitor) (ps : List Packet) (s : Standing) (e : Entry) where
   unfolding adds
   added-sent h = rw h
 
-  -- a row whose form and time are right, where the air is free, goes by its mark
-
-  pub not-accounted : (place early free : Bool) → inPlace (beforeOf (s .before)) (rowOf e) ≡ place → noneBefore (drop (s .next) ps) (e .time) ≡ early →
-      leb (s .free) (e .time) ≡ free → place && early && free ≡ false → none ≡ account m p (rowOf e)
+-- a row whose form and time are right, where the air is free, goes by its mark
+module _ (edition : Edition) (m : Monitor) (ps : List Packet) (s : Standing) (e : Entry) where
+  pub not-accounted : (place early free : Bool) → inPlace edition (beforeOf (s .before)) (rowOf e) ≡ place → noneBefore (drop (s .next) ps) (e .time) ≡ early →
+      leb (s .free) (e .time) ≡ free → place && early && free ≡ false → none ≡ account edition m (p m ps s e) (rowOf e)
   unfolding account
   not-accounted place early free a b d h = rw (a, b, d, h)
 
-  module _ (a : inPlace (beforeOf (s .before)) (rowOf e) ≡ true) (b : noneBefore (drop (s .next) ps) (e .time) ≡ true) (d : s .free ≤ e .time) where
-    pub account-kept : e .mark ≡ 0 → keeps m p (rowOf e) ≡ account m p (rowOf e)
+  module _ (a : inPlace edition (beforeOf (s .before)) (rowOf e) ≡ true) (b : noneBefore (drop (s .next) ps) (e .time) ≡ true) (d : s .free ≤ e .time) where
+    pub account-kept : e .mark ≡ 0 → keeps m (p m ps s e) (rowOf e) ≡ account edition m (p m ps s e) (rowOf e)
     unfolding account
     account-kept k = rw (a, b, le-leb (s .free) (e .time) d, eq-eqb (e .mark) 0 k)
 
-    pub account-removed : e .mark ≡ 1 → removes m p (rowOf e) ≡ account m p (rowOf e)
+    pub account-removed : e .mark ≡ 1 → removes m (p m ps s e) (rowOf e) ≡ account edition m (p m ps s e) (rowOf e)
     unfolding account
     account-removed k = rw (a, b, le-leb (s .free) (e .time) d, ne-eqb (e .mark) 0 (λ q. omega arith), eq-eqb (e .mark) 1 k)
 
-    pub account-added : (e .mark ≡ 0 → ⊥) → (e .mark ≡ 1 → ⊥) → adds m p (rowOf e) ≡ account m p (rowOf e)
+    pub account-added : (e .mark ≡ 0 → ⊥) → (e .mark ≡ 1 → ⊥) → adds m (p m ps s e) (rowOf e) ≡ account edition m (p m ps s e) (rowOf e)
     unfolding account
     account-added n r = rw (a, b, le-leb (s .free) (e .time) d, ne-eqb (e .mark) 0 n, ne-eqb (e .mark) 1 r)
 
-pub ready-row : (s : Standing) (e : Entry) → Bounded s → inPlace (beforeOf (s .before)) (rowOf e) ≡ true → Ready s e
-ready-row s e b h =
-    let t = place-times (s .before) e h in
+pub ready-row : (edition : Edition) (s : Standing) (e : Entry) → Bounded s → inPlace edition (beforeOf (s .before)) (rowOf e) ≡ true → Ready s e
+ready-row edition s e b h =
+    let t = place-times edition (s .before) e h in
     record { bounded = b; behind = t .0; last = t .1 }

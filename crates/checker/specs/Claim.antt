@@ -9,6 +9,7 @@ use Rattle.model.specs.Witness.{rowsAt, SoundForm}
 use Rattle.model.specs.Rules.{checkAnswer}
 use Rattle.model.specs.Numbers.{checkingValues}
 use Rattle.model.specs.Claims.{Explains}
+use Rattle.model.specs.declared.Edition.{Edition}
 use Rattle.model.specs.declared.Checking.{Checking}
 use Rattle.model.specs.declared.Checking.the-variants.{Permitted, Unchecked}
 
@@ -16,12 +17,12 @@ abbrev pub IsPermitted : Checking → Type 0
 IsPermitted (Permitted changed rows) = Unit {0}
 IsPermitted (Unchecked r) = ⊥
 
-abbrev pub Faithful : (table recording witness : List ℕ) → Checking → Type 0
-Faithful table recording witness r =
-    SoundRecording table recording → SoundForm witness → IsPermitted r ↔ Explains (monitorAt table) (packetsAt recording) (rowsAt witness)
+abbrev pub Faithful : Edition → (table recording witness : List ℕ) → Checking → Type 0
+Faithful edition table recording witness r =
+    SoundRecording table recording → SoundForm edition witness → IsPermitted r ↔ Explains (monitorAt table) (packetsAt recording) (rowsAt edition witness)
 
--- for any bytes: the definition's answer, document 01's numbers of it, and demand 2
-pub record Checks (table recording witness : List ℕ) (r : Checking) : Type 0 where
-  pub answered : r ≡ checkAnswer table recording witness
-  pub numbers : checkingValues r ≡ checkingValues (checkAnswer table recording witness)
-  pub faithful : Faithful table recording witness r
+-- for either edition and any bytes: the definition's answer, document 01's numbers of it, and demand 2
+pub record Checks (edition : Edition) (table recording witness : List ℕ) (r : Checking) : Type 0 where
+  pub answered : r ≡ checkAnswer edition table recording witness
+  pub numbers : checkingValues r ≡ checkingValues (checkAnswer edition table recording witness)
+  pub faithful : Faithful edition table recording witness r

@@ -11,15 +11,12 @@ use Rattle.model.specs.Trace.{Packet}
 use Rattle.model.specs.Monitor.{Monitor}
 use Rattle.model.specs.Witness.{Row, badRow}
 use Rattle.model.specs.Rules.{Progress, begin, broken, checked}
+use Rattle.model.specs.declared.Edition.{Edition}
 use Rattle.model.specs.declared.Checking.{Checking}
 use Rattle.witness.specs.declared.Entry.{Entry}
-use Rattle.witness.specs.Rows.{rowOf}
+use Rattle.witness.specs.Rows.{beforeOf}
 use Rattle.checker.specs.declared.Standing.{Standing}
 use Rattle.checker.specs.declared.Step.{Step}
-
--- the row before, where there is one: times are from 1 up
-abbrev pub beforeOf : Entry → Option Row
-beforeOf e = cond (eqb (e .time) 0) none (some (rowOf e))
 
 -- the recorded packets from the next one on are not accounted for
 abbrev pub progressOf : List Packet → Standing → Progress
@@ -35,11 +32,10 @@ progressOf recording s =
 abbrev pub stepOf : List Packet → Step → Option Progress
 stepOf recording s = cond (s .sound) (some (progressOf recording (s .to))) none
 
--- the clocks read at most the ticks until the monitor last fired, no time is past the last, and an airtime is a byte
+-- the clocks read at most the ticks until the monitor last fired, and no time is past the last
 pub record Bounded (s : Standing) : Type 0 where
   pub fired : s .now ≤ s .before .time
   pub last : s .before .time ≤ timeLimit
-  pub free : s .free ≤ timeLimit + 256
   pub clocks : length (s .config .clocks) ≡ 2
   pub first : getD (s .config .clocks) 0 0 ≤ s .now
   pub second : getD (s .config .clocks) 1 0 ≤ s .now
@@ -56,5 +52,5 @@ pub record Stepped (recording : List Packet) (next : Option Progress) (s : Step)
   pub bounded : s .sound ≡ true → Bounded (s .to)
 
 -- the answer by the rows alone
-unfoldable pub checkedRows : Monitor → List Packet → List Row → Checking
-checkedRows m recording rows = checked (badRow (broken m (begin recording) 0 rows)) rows
+unfoldable pub checkedRows : Edition → Monitor → List Packet → List Row → Checking
+checkedRows edition m recording rows = checked (badRow (broken edition m (begin recording) 0 rows)) rows

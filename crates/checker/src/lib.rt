@@ -2,6 +2,7 @@
 use codec::recording::recording_answer;
 use model::Checking;
 use model::Config;
+use model::Edition;
 use model::KEPT;
 use model::REMOVED;
 use model::Reading;
@@ -13,8 +14,9 @@ use monitor::to_unit;
 use wire::byte;
 use wire::word;
 use witness::Entry;
-use witness::in_form;
-use witness::in_order;
+use witness::count_at;
+use witness::in_place;
+use witness::no_row;
 use witness::row_at;
 use witness::witness_frame;
 ghost use mathlib.Core.Path.{_≡_};
@@ -24,23 +26,22 @@ ghost use mathlib.Core.Option.{none};
 ghost use Prim.Native.Nat.{ℕ, _+_, _<_, _≤_};
 ghost use lib.Dec.{eqb};
 ghost use lib.ListN.{length, getD, drop};
-ghost use Rattle.model.specs.Limits.{timeLimit};
 ghost use Rattle.model.specs.Monitor.{wait, airtime};
 ghost use Rattle.model.specs.Trace.{Packet};
 ghost use Rattle.model.specs.Recording.{recordingAnswer, packetsAt};
-ghost use Rattle.model.specs.Witness.{kept, inPlace, rowsAt, witnessFrame};
+ghost use Rattle.model.specs.Witness.{kept, rowsAt, witnessFrame};
 ghost use Rattle.model.specs.Rules.{begin, noneBefore, isNext, noneAt, sends, removes, keeps, adds, account, checkAnswer};
 ghost use Rattle.monitor.specs.From.{monitorFrom};
 ghost use Rattle.witness.specs.Rows.{rowOf};
 ghost use Rattle.checker.specs.Claim.{Checks};
-ghost use Rattle.checker.specs.Standing.{beforeOf, progressOf, Bounded, Ready, Stepped, checkedRows};
+ghost use Rattle.checker.specs.Standing.{progressOf, Bounded, Ready, Stepped, checkedRows};
 
 // What the rows so far have come to. While there is no row before, its time is 0.
 struct Standing {
     before: Entry,
     next: u16,
     now: u16,
-    free: u16,
+    free: u32,
     config: Config,
 }
 
@@ -48,19 +49,6 @@ struct Standing {
 struct Step {
     sound: bool,
     to: Standing,
-}
-
-// The row by itself, and behind the row before it.
-fn in_place(p: Entry, e: Entry) -> bool
-    ensures { λ r. ⌜ r ≡ inPlace (beforeOf p) (rowOf e) ⌝ }
-{
-    if !in_form(e) {
-        return false;
-    }
-    if p.time == 0 {
-        return true;
-    }
-    in_order(p, e)
 }
 
 // No recorded row of an earlier time is unaccounted for.
@@ -117,11 +105,10 @@ fn refused(s: Standing) -> Step
 }
 
 // The first time at which the air is free behind a row, which takes it for its airtime.
-fn free_after(table: &[u8], e: Entry) -> u16
-    requires { ⌜ e .time ≤ timeLimit ⌝ }
-    ensures { λ r. ⌜ ((offsets : List ℕ) → r ≡ e .time + airtime (monitorFrom (now (table .entry)) offsets) (e .kind) + 1) × (r ≤ timeLimit + 256) ⌝ }
+fn free_after(table: &[u8], e: Entry) -> u32
+    ensures { λ r. ⌜ ((offsets : List ℕ) → r ≡ e .time + airtime (monitorFrom (now (table .entry)) offsets) (e .kind) + 1) ⌝ }
 {
-    e.time + airtime_of(table, e.kind) as u16 + 1
+    e.time as u32 + airtime_of(table, e.kind) as u32 + 1
 }
 
 // A kept or added row: its transition has its kind and fires.
@@ -217,6 +204,7 @@ fn add_row<'a>(table: &'a [u8], offsets: &'a [u16], recording: &[u8], s: Standin
 
 // The next row: its form, the air, which it finds free, and the rule for its mark.
 fn accounted<'a>(
+    edition: Edition,
     table: &'a [u8],
     offsets: &'a [u16],
     recording: &[u8],
@@ -224,17 +212,17 @@ fn accounted<'a>(
     e: Entry,
 ) -> Step
     requires { ⌜ Bounded s ⌝ }
-    ensures { λ r. ⌜ Stepped (packetsAt (now (recording .entry))) (account (monitorFrom (now (table .entry)) (now (offsets .entry))) (progressOf (packetsAt (now (recording .entry))) s) (rowOf e)) r ⌝ }
+    ensures { λ r. ⌜ Stepped (packetsAt (now (recording .entry))) (account edition (monitorFrom (now (table .entry)) (now (offsets .entry))) (progressOf (packetsAt (now (recording .entry))) s) (rowOf e)) r ⌝ }
 {
     let before = s.before;
     let next = s.next;
-    if !in_place(before, e) {
+    if !in_place(edition, before, e) {
         return refused(s);
     }
     if !none_before(recording, next, e.time) {
         return refused(s);
     }
-    if e.time < s.free {
+    if (e.time as u32) < s.free {
         return refused(s);
     }
     if e.mark == KEPT {
@@ -250,12 +238,7 @@ fn begun() -> Standing
     ensures { λ r. ⌜ Bounded r × ((recording : List Packet) → progressOf recording r ≡ begin recording) ⌝ }
 {
     Standing {
-        before: Entry {
-            mark: 0,
-            time: 0,
-            kind: 0,
-            transition: 0,
-        },
+        before: no_row(),
         next: 0,
         now: 0,
         free: 0,
@@ -274,16 +257,22 @@ fn change_by(e: Entry) -> u64
 }
 
 // The rows in turn, for the table's records at the offsets.
-fn check_rows<'a>(table: &'a [u8], offsets: &'a [u16], recording: &[u8], witness: &[u8]) -> Checking
-    ensures { λ r. ⌜ r ≡ checkedRows (monitorFrom (now (table .entry)) (now (offsets .entry))) (packetsAt (now (recording .entry))) (rowsAt (now (witness .entry))) ⌝ }
+fn check_rows<'a>(
+    edition: Edition,
+    table: &'a [u8],
+    offsets: &'a [u16],
+    recording: &[u8],
+    witness: &[u8],
+) -> Checking
+    ensures { λ r. ⌜ r ≡ checkedRows edition (monitorFrom (now (table .entry)) (now (offsets .entry))) (packetsAt (now (recording .entry))) (rowsAt edition (now (witness .entry))) ⌝ }
 {
-    let count = word(witness, 3);
+    let count = count_at(edition, witness);
     let mut s = begun();
     let mut changed: u64 = 0;
     let mut i = 0;
     while i < count {
-        let e = row_at(witness, i);
-        let step = accounted(table, offsets, recording, s, e);
+        let e = row_at(edition, witness, i);
+        let step = accounted(edition, table, offsets, recording, s, e);
         if !step.sound {
             return Checking::Unchecked(Refusal::WitnessRow { row: i as u64 });
         }
@@ -302,14 +291,15 @@ fn check_rows<'a>(table: &'a [u8], offsets: &'a [u16], recording: &[u8], witness
 
 // The answers on the recording and on the witness's frame come first.
 fn answered(
+    edition: Edition,
     read: Reading,
     frame: Reading,
     table: &[u8],
     recording: &[u8],
     witness: &[u8],
 ) -> Checking
-    requires { ⌜ (read ≡ recordingAnswer (now table) (now recording)) × (frame ≡ witnessFrame (now witness)) ⌝ }
-    ensures { λ r. ⌜ r ≡ checkAnswer (now (table .entry)) (now (recording .entry)) (now (witness .entry)) ⌝ }
+    requires { ⌜ (read ≡ recordingAnswer (now table) (now recording)) × (frame ≡ witnessFrame edition (now witness)) ⌝ }
+    ensures { λ r. ⌜ r ≡ checkAnswer edition (now (table .entry)) (now (recording .entry)) (now (witness .entry)) ⌝ }
 {
     if let Reading::Unsound(r) = read {
         return Checking::Unchecked(r);
@@ -318,14 +308,14 @@ fn answered(
         return Checking::Unchecked(r);
     }
     let starts = offsets(table);
-    check_rows(table, &starts, recording, witness)
+    check_rows(edition, table, &starts, recording, witness)
 }
 
-// The answer on a witness: 0, or the first number that applies.
-pub fn check_witness(table: &[u8], recording: &[u8], witness: &[u8]) -> Checking
-    ensures { λ r. ⌜ Checks (now (table .entry)) (now (recording .entry)) (now (witness .entry)) r ⌝ }
+// The answer on a witness of this edition: 0, or the first number that applies.
+pub fn check_witness(edition: Edition, table: &[u8], recording: &[u8], witness: &[u8]) -> Checking
+    ensures { λ r. ⌜ Checks edition (now (table .entry)) (now (recording .entry)) (now (witness .entry)) r ⌝ }
 {
     let read = recording_answer(table, recording);
-    let frame = witness_frame(witness);
-    answered(read, frame, table, recording, witness)
+    let frame = witness_frame(edition, witness);
+    answered(edition, read, frame, table, recording, witness)
 }

@@ -17,6 +17,7 @@ use Rattle.model.specs.Answers.{Writes}
 use Rattle.model.specs.Room.{write, over}
 use Rattle.model.specs.Kinds.{kindAt, kindBytes}
 use Rattle.model.specs.Table.{guardBytesIn, transitionBytes, countBytes, tableBody, tableBytes, tableLimit, countsOf, tableCounts, scanWith, wholeAnswer, monitorOf, tableWritable, writeTable}
+use Rattle.model.specs.declared.Edition.the-variants.{One}
 use Rattle.model.specs.declared.Refusal.the-variants.{TableFrame, TableVersion}
 use Rattle.model.specs.declared.Reading.{Reading}
 use Rattle.model.specs.declared.Reading.the-variants.{Sound, Unsound}
@@ -151,7 +152,7 @@ module _ (t : TableParts) where
   unfolding tableBody
   body-least = omega arith
 
-  frame-is : length (tableBody t) < 65536 → framed (tableBytes t) 8 tableVersions TableFrame TableVersion ≡ andThen (unless (isVersion tableVersions (t .version)) TableVersion) Sound
+  frame-is : length (tableBody t) < 65536 → framed One (tableBytes t) 8 1 tableVersions TableFrame TableVersion ≡ andThen (unless (isVersion 1 tableVersions (t .version)) TableVersion) Sound
   unfolding framed
   frame-is h =
       let all : wordAt (tableBytes t) 0 + 2 ≡ length (tableBytes t) = omega (arith, word-is h, table-long) in
@@ -163,11 +164,11 @@ module _ (t : TableParts) where
   refused-scan room why e = write-refused (tableWritable t) (tableBytes t) room why (scan-all (tableBytes t) (t .devices) ∙ rw e)
 
   -- 11
-  pub write-version : (room : List ℕ) → t .kinds ≤ 255 → t .transitions ≤ 255 → isVersion tableVersions (t .version) ≡ false → Writes (writeTable t room) (Unwritten TableVersion) room
+  pub write-version : (room : List ℕ) → t .kinds ≤ 255 → t .transitions ≤ 255 → isVersion 1 tableVersions (t .version) ≡ false → Writes (writeTable t room) (Unwritten TableVersion) room
   unfolding scanWith
   write-version room h k e = refused-scan room TableVersion (rw (frame-is (body-most h k), e))
 
-  module _ (version : isVersion tableVersions (t .version) ≡ true) (counts : Reading) (is : counts ≡ countsOf (t .states) (t .variables) (t .clocks) (t .kinds) (t .transitions)) where
+  module _ (version : isVersion 1 tableVersions (t .version) ≡ true) (counts : Reading) (is : counts ≡ countsOf (t .states) (t .variables) (t .clocks) (t .kinds) (t .transitions)) where
     -- 12
     pub write-early : (room : List ℕ) → t .kinds ≤ 255 → t .transitions ≤ 255 → (why : Refusal) → counts ≡ Unsound why → Writes (writeTable t room) (Unwritten why) room
     unfolding scanWith

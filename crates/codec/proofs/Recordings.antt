@@ -16,6 +16,7 @@ use Rattle.model.specs.Room.{Lent, write, over}
 use Rattle.model.specs.Monitor.{airtime}
 use Rattle.model.specs.Table.{tableAnswer, monitorAt}
 use Rattle.model.specs.Recording.{countAt, timeAt, rowKindAt, clearOfBefore, recordedRow, recordedRows, recordingFrame, recordingScan, recordingAnswer, recordingParts, noRecording, readRecording, recordedBytes, recordingBytes, recordingEarly, recordingWritable, writeRecording}
+use Rattle.model.specs.declared.Edition.the-variants.{One}
 use Rattle.model.specs.declared.RecordingParts.{RecordingParts}
 use Rattle.model.specs.declared.RecordingReading.{RecordingReading}
 use Rattle.model.specs.declared.Refusal.the-variants.{RecordingCount}
@@ -26,7 +27,8 @@ use Rattle.model.specs.declared.Writing.{Writing}
 use Rattle.model.specs.declared.Writing.the-variants.{Unwritten}
 use Rattle.model.proofs.Tests.{test, le-test}
 use Rattle.model.proofs.RecordingForm.{recording-facts}
-use Rattle.frame.proofs.Answers.{then-sound, goes, sound-is}
+use Rattle.model.proofs.Tests.{then-sound}
+use Rattle.frame.proofs.Answers.{goes, sound-is}
 use Rattle.codec.proofs.Steps.{left}
 use Rattle.frame.proofs.Columns.{joined-long}
 use Rattle.frame.proofs.Written.{high, taken, write-refused}
@@ -74,9 +76,9 @@ module _ (table b : List ℕ) where
 pub row-bytes : (time kind : ℕ) (times kinds : List ℕ) (i : ℕ) → time < 65536 → time ≡ getD times i 0 → kind ≡ getD kinds i 0 → time / 256 ∷ time % 256 ∷ kind ∷ [] ≡ recordedBytes times kinds i
 row-bytes time kind times kinds i h e g = rw (← e, ← g, ← high time h)
 
-pub long-rows : (count : ℕ) (times kinds : List ℕ) (i : ℕ) → length (rowsFrame 3 count ++ joined (recordedBytes times kinds) i) ≡ 5 + 3 * i
+pub long-rows : (count : ℕ) (times kinds : List ℕ) (i : ℕ) → length (rowsFrame One 3 count ++ joined (recordedBytes times kinds) i) ≡ 5 + 3 * i
 long-rows count times kinds i =
-    length-append (rowsFrame 3 count) (joined (recordedBytes times kinds) i) ∙ omega (arith, joined-long (recordedBytes times kinds) 3 i (λ j h. refl))
+    length-append (rowsFrame One 3 count) (joined (recordedBytes times kinds) i) ∙ omega (arith, joined-long (recordedBytes times kinds) 3 i (λ j h. refl))
 
 module _ (table : List ℕ) (r : RecordingParts) where
   writable-row : recordingWritable table r ≡ andThen (recordingEarly table (r .count)) (recordingAnswer table (recordingBytes r))
@@ -101,9 +103,9 @@ module _ (table : List ℕ) (r : RecordingParts) where
       same : write answer bytes room ≡ writeRecording table r room
       same = rw (g, e) (ap (λ a. write a (recordingBytes r) room) (sym (writable-row ∙ goes (recordingEarly table (r .count)) (recordingAnswer table (recordingBytes r)) h)))
 
-  bytes-are : rowsFrame 3 (r .count) ++ joined (recordedBytes (r .times) (r .kinds)) (r .count) ≡ recordingBytes r
+  bytes-are : rowsFrame One 3 (r .count) ++ joined (recordedBytes (r .times) (r .kinds)) (r .count) ≡ recordingBytes r
   unfolding recordingBytes
   bytes-are = refl
 
-  pub encoded : (room out : List ℕ) (n : ℕ) → out ≡ over (rowsFrame 3 (r .count) ++ joined (recordedBytes (r .times) (r .kinds)) (r .count)) room → n ≡ 5 + 3 * r .count → take n out ≡ recordingBytes r
+  pub encoded : (room out : List ℕ) (n : ℕ) → out ≡ over (rowsFrame One 3 (r .count) ++ joined (recordedBytes (r .times) (r .kinds)) (r .count)) room → n ≡ 5 + 3 * r .count → take n out ≡ recordingBytes r
   encoded room out n e h = taken (recordingBytes r) room out n (e ∙ ap (λ (l : List ℕ). over l room) bytes-are) (sym (ap length bytes-are) ∙ long-rows (r .count) (r .times) (r .kinds) (r .count) ∙ sym h)

@@ -18,7 +18,7 @@ use Rattle.model.specs.declared.Refusal.the-variants.{TableLength}
 use Rattle.model.specs.declared.Reading.{Reading}
 use Rattle.model.specs.declared.Reading.the-variants.{Sound, Unsound}
 use Rattle.model.proofs.Tests.{first-refused}
-use Rattle.frame.proofs.Answers.{then-sound}
+use Rattle.model.proofs.Tests.{then-sound}
 
 -- at turn i of n
 pub left : (n i : ℕ) → i < n → n - i ≡ suc (n - (i + 1))

@@ -16,6 +16,7 @@ use Rattle.model.specs.Monitor.{Monitor}
 use Rattle.model.specs.Size.{size}
 use Rattle.model.specs.Reach.{statesAnswer}
 use Rattle.model.specs.Table.{countsOf, tableCounts, apart, transitionFields, guardRecord, transitionRecord, transitionRecords, statesAt, variablesAt, clocksAt, kindsAt, transitionsAt, transitionAt, guardLengthAt, guardPlace, kindRecords, deviceColumn, scanWith, tableScan, wholeAnswer, answerWith, tableAnswer, tableParts, noTable, readTable, monitorOf}
+use Rattle.model.specs.declared.Edition.the-variants.{One}
 use Rattle.model.specs.declared.TableParts.{TableParts}
 use Rattle.model.specs.declared.TableReading.{TableReading}
 use Rattle.model.specs.declared.Refusal.the-variants.{TableFrame, TableVersion, TableSize, TableCount, TableLength, TableField}
@@ -26,7 +27,7 @@ use Rattle.model.proofs.Tests.{test, le-test, tests}
 use Rattle.model.proofs.TableForm.{TableFacts, countTests, scan-facts, places}
 use Rattle.wire.specs.Placed.{placed}
 use Rattle.frame.proofs.Columns.{joined-long, place-more}
-use Rattle.frame.proofs.Answers.{then-sound}
+use Rattle.model.proofs.Tests.{then-sound}
 
 pub counts-are : (b : List ℕ) (s v c k t : ℕ) → s ≡ statesAt b → v ≡ variablesAt b → c ≡ clocksAt b → k ≡ kindsAt b → t ≡ transitionsAt b → countsOf s v c k t ≡ tableCounts b
 unfolding countsOf
@@ -82,7 +83,7 @@ module _ (b : List ℕ) where
   -- the scan asks for devices only where there are no more kinds than a sound table has
   same-scan : (d e : List ℕ) → (kindsAt b ≤ kindLimit → d ≡ e) → scanWith d b ≡ scanWith e b
   unfolding scanWith
-  same-scan d e same = ap (andThen (framed b 8 tableVersions TableFrame TableVersion)) (go (tableCounts b) refl)
+  same-scan d e same = ap (andThen (framed One b 8 1 tableVersions TableFrame TableVersion)) (go (tableCounts b) refl)
     where
       go :
           (counts : Reading) → tableCounts b ≡ counts

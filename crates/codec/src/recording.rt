@@ -2,16 +2,16 @@
 use crate::table::table_answer;
 use frame::column::bytes_column;
 use frame::column::words_column;
-use frame::frame_bytes;
 use frame::put;
+use frame::put_frame;
 use frame::rows_framed;
 use frame::sound;
+use model::Edition;
 use model::ROW_LIMIT;
 use model::Reading;
 use model::RecordingParts;
 use model::RecordingReading;
 use model::Refusal;
-use model::TIME_LIMIT;
 use model::Writing;
 use monitor::airtime_of;
 use wire::byte;
@@ -28,10 +28,11 @@ ghost use Rattle.model.specs.Bytes.{joined};
 ghost use Rattle.model.specs.Frame.{rowsFrame};
 ghost use Rattle.model.specs.Room.{over};
 ghost use Rattle.wire.specs.Placed.{placed};
+ghost use Rattle.model.specs.declared.Edition.the-variants.{One};
 ghost use Rattle.model.specs.Recording.{countAt, clearOfBefore, recordedRow, recordedRows, recordingFrame, recordingScan, recordingAnswer, recordingParts, noRecording, readRecording, recordedBytes, recordingEarly, writeRecording};
 
 // The most rows.
-const LIMIT: u16 = ROW_LIMIT as u16;
+const LIMIT: u32 = ROW_LIMIT as u32;
 
 // Row i does not overlap or precede the row before it.
 fn clear_of_before(table: &[u8], b: &[u8], i: usize) -> bool
@@ -46,15 +47,13 @@ fn clear_of_before(table: &[u8], b: &[u8], i: usize) -> bool
     (word(b, 5 + 3 * before) as usize) + air < word(b, 5 + 3 * i) as usize
 }
 
+// No time is too late: the latest is the largest that two bytes can say.
 fn recorded_row(table: &[u8], b: &[u8], i: usize) -> Reading
     requires { ⌜ i < 65536 ⌝ }
     ensures { λ r. ⌜ r ≡ recordedRow (now (table .entry)) (now (b .entry)) i ⌝ }
 {
     let time = word(b, 5 + 3 * i);
     if time < 1 {
-        return Reading::Unsound(Refusal::RecordingRange { row: i as u64 });
-    }
-    if TIME_LIMIT < time {
         return Reading::Unsound(Refusal::RecordingRange { row: i as u64 });
     }
     if byte(table, 6) <= byte(b, 7 + 3 * i) {
@@ -86,6 +85,7 @@ pub fn recording_frame(b: &[u8]) -> Reading
     ensures { λ r. ⌜ r ≡ recordingFrame (now (b .entry)) ⌝ }
 {
     rows_framed(
+        Edition::One,
         b,
         3,
         LIMIT,
@@ -122,7 +122,7 @@ fn time_column(b: &[u8]) -> [u16; ROW_LIMIT]
     ensures { λ r. ⌜ r ≡ recordingParts (now (b .entry)) .times ⌝ }
 {
     let mut times = [0u16; ROW_LIMIT];
-    words_column(b, 5, 3, word(b, 3), &mut times);
+    words_column(b, 5, 3, word(b, 3) as u32, &mut times);
     times
 }
 
@@ -131,7 +131,7 @@ fn kind_column(b: &[u8]) -> [u8; ROW_LIMIT]
     ensures { λ r. ⌜ r ≡ recordingParts (now (b .entry)) .kinds ⌝ }
 {
     let mut kinds = [0u8; ROW_LIMIT];
-    bytes_column(b, 7, 3, word(b, 3), &mut kinds);
+    bytes_column(b, 7, 3, word(b, 3) as u32, &mut kinds);
     kinds
 }
 
@@ -179,10 +179,9 @@ fn put_row<'a>(times: &'a [u16], kinds: &'a [u8], i: usize, out: &mut [u8])
 
 fn encode<'a>(times: &'a [u16], kinds: &'a [u8], count: usize, out: &mut [u8])
     requires { ⌜ (count ≤ rowLimit) × (5 + 3 * count ≤ length (now out)) ⌝ }
-    ensures { λ _. ⌜ now (out .exit) ≡ over (rowsFrame 3 count ++ joined (recordedBytes (now (times .entry)) (now (kinds .entry))) count) (now (out .entry)) ⌝ }
+    ensures { λ _. ⌜ now (out .exit) ≡ over (rowsFrame One 3 count ++ joined (recordedBytes (now (times .entry)) (now (kinds .entry))) count) (now (out .entry)) ⌝ }
 {
-    let frame = frame_bytes(3, count as u16);
-    place(&frame, out, 0);
+    put_frame(Edition::One, 3, count as u32, out);
     let mut i = 0;
     while i < count {
         put_row(times, kinds, i, out);

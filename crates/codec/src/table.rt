@@ -16,6 +16,7 @@ use kinds::record_at;
 use kinds::transitions_at;
 use model::AIRTIME_LIMIT;
 use model::CLOCK_LIMIT;
+use model::Edition;
 use model::GUARD_LIMIT;
 use model::KIND_LIMIT;
 use model::Reading;
@@ -280,8 +281,10 @@ fn scan_with<'a>(b: &'a [u8], devices: &'a [u8]) -> Reading
     ensures { λ r. ⌜ r ≡ scanWith (now (devices .entry)) (now (b .entry)) ⌝ }
 {
     let frame = framed_answer(
+        Edition::One,
         b,
         8,
+        1,
         TABLE_VERSIONS,
         Refusal::TableFrame,
         Refusal::TableVersion,
@@ -307,7 +310,7 @@ fn kind_column(b: &[u8], field: u8) -> [u8; KIND_LIMIT]
 {
     let mut column = [0u8; KIND_LIMIT];
     let width = kind_width(byte(b, 2));
-    bytes_column(b, FIRST_KIND + field, width, byte(b, 6) as u16, &mut column);
+    bytes_column(b, FIRST_KIND + field, width, byte(b, 6) as u32, &mut column);
     column
 }
 
@@ -591,7 +594,7 @@ pub fn write_table(t: TableParts, room: &mut [u8]) -> Writing
     ensures { λ w. ⌜ Writes (writeTable t (now (room .entry))) w (now (room .exit)) ⌝ }
     ensures { λ w. ⌜ JudgesDevices t (tableBytes t) (writingValues w) ⌝ }
 {
-    if !is_version(TABLE_VERSIONS, t.version) {
+    if !is_version(1, TABLE_VERSIONS, t.version) {
         return Writing::Unwritten(Refusal::TableVersion);
     }
     let counts = counts_answer(t.states, t.variables, t.clocks, t.kinds, t.transitions);

@@ -8,6 +8,7 @@ use Rattle.model.specs.Table.{monitorAt}
 use Rattle.model.specs.Recording.{packetsAt}
 use Rattle.model.specs.Witness.{witnessBytes}
 use Rattle.model.specs.Validation.{preferred}
+use Rattle.model.specs.declared.Edition.{Edition}
 use Rattle.model.specs.declared.Verdict.{Verdict}
 use Rattle.model.specs.declared.Verdict.the-variants.{Accepted, Rejected, Exhausted}
 use Rattle.model.proofs.RecordingForm.{sound-table}
@@ -23,12 +24,12 @@ use Rattle.engine.specs.declared.forward.Outcome.{Outcome}
 use Rattle.engine.specs.declared.forward.Outcome.the-variants.{Passed, Emptied, Spent}
 use Rattle.engine.proofs.Grounds.{setting, triggers}
 
-module _ (table offsets recording scratch room : List ℕ) (g : Measures) (budget : ℕ) (o : Outcome) (e : Ending table offsets recording scratch room g budget o) where
-  pub spent : (instant : ℕ) → o ≡ Spent instant → Concluded table recording budget scratch room scratch room (Exhausted budget instant)
+module _ (edition : Edition) (table offsets recording scratch room : List ℕ) (g : Measures) (budget : ℕ) (o : Outcome) (e : Ending edition table offsets recording scratch room g budget o) where
+  pub spent : (instant : ℕ) → o ≡ Spent instant → Concluded edition table recording budget scratch room scratch room (Exhausted budget instant)
   spent instant same =
       record { long = refl; answered = sym (subst (Ended table recording scratch budget (g .row) (g .last)) same (e .ended)); written = refl }
 
-  pub emptied : (cost instant : ℕ) → o ≡ Emptied cost instant → Concluded table recording budget scratch room scratch room (Rejected cost instant)
+  pub emptied : (cost instant : ℕ) → o ≡ Emptied cost instant → Concluded edition table recording budget scratch room scratch room (Rejected cost instant)
   emptied cost instant same =
       record { long = refl; answered = sym (subst (Ended table recording scratch budget (g .row) (g .last)) same (e .ended)); written = refl }
 
@@ -37,8 +38,8 @@ module _ (table offsets recording scratch room : List ℕ) (g : Measures) (budge
 
   pub passed : (cost : ℕ) → o ≡ Passed cost → (scratchThen roomThen : List ℕ) (rows : ℕ) → length scratchThen ≡ length scratch
       → rows ≡ length (preferred (monitorAt table) (packetsAt recording))
-      → roomThen ≡ over (witnessBytes (preferred (monitorAt table) (packetsAt recording))) room
-      → Concluded table recording budget scratch room scratchThen roomThen (Accepted cost rows)
+      → roomThen ≡ over (witnessBytes edition (preferred (monitorAt table) (packetsAt recording))) room
+      → Concluded edition table recording budget scratch room scratchThen roomThen (Accepted cost rows)
   passed cost same scratchThen roomThen rows long count written =
       record {
         long = long;
@@ -46,7 +47,7 @@ module _ (table offsets recording scratch room : List ℕ) (g : Measures) (budge
         written = written;
       }
 
-module _ (table recording scratch room : List ℕ) (g : Measures) (j : Judging table recording scratch room g) where
+module _ (edition : Edition) (table recording scratch room : List ℕ) (g : Measures) (j : Judging edition table recording scratch room g) where
   grounds : (offsets : List ℕ) → offsets ≡ offsetsOf table → Setting table offsets recording g
   grounds offsets e = subst (λ (l : List ℕ). Setting table l recording g) (sym e) (setting table recording (j .sound) g (j .measured))
 
@@ -60,7 +61,7 @@ module _ (table recording scratch room : List ℕ) (g : Measures) (j : Judging t
       }
 
   pub ending : (offsets after : List ℕ) (budget : ℕ) (o : Outcome) → offsets ≡ offsetsOf table
-      → Ended table recording after budget (g .row) (g .last) o → Ending table offsets recording after room g budget o
+      → Ended table recording after budget (g .row) (g .last) o → Ending edition table offsets recording after room g budget o
   ending offsets after budget o found ended =
       record {
         setting = grounds offsets found;
@@ -70,8 +71,8 @@ module _ (table recording scratch room : List ℕ) (g : Measures) (j : Judging t
       }
 
   pub settled : (budget : ℕ) (v : Verdict) (before after scratchThen roomThen : List ℕ) → length before ≡ length scratch
-      → Concluded table recording budget before room after roomThen v → scratchThen ≡ replicate (length after) 0
-      → Settled table recording budget scratch room scratchThen roomThen v
+      → Concluded edition table recording budget before room after roomThen v → scratchThen ≡ replicate (length after) 0
+      → Settled edition table recording budget scratch room scratchThen roomThen v
   settled budget v before after scratchThen roomThen long c zero =
       record {
         answered = c .answered;

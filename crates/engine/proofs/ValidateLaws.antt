@@ -9,12 +9,14 @@ use lib.Seq.{length-take-le}
 use borrow.Author.Tests.{le-leb, lt-leb}
 use Rattle.model.specs.Bytes.{tab}
 use Rattle.model.specs.Size
+use Rattle.model.specs.Edition.{rowsPlace, latestTime}
 use Rattle.model.specs.Table.{tableAnswer, readTable, monitorAt, tableParts}
 use Rattle.model.specs.Recording.{recordingScan, recordingAnswer, countAt, packetsAt, endOf}
 use Rattle.model.specs.Witness.{witnessBytes}
 use Rattle.model.specs.Numbers.{verdictValues}
 use Rattle.model.specs.Validation.{refusal, validation, verdict, preferred, scratchWanted, roomWanted, scratchBy, roomBy, scratchAfter, roomAfter}
 use Rattle.model.specs.Claims.{ValuesOf, Judged}
+use Rattle.model.specs.declared.Edition.{Edition}
 use Rattle.model.specs.declared.Reading.{Reading}
 use Rattle.model.specs.declared.Reading.the-variants.{Sound, Unsound}
 use Rattle.model.specs.declared.Refusal.{Refusal}
@@ -52,43 +54,52 @@ module _ (table recording : List ℕ) (x : TableReading) (read : x ≡ readTable
     unfolding recordingAnswer
     both-read e = rw (answered, sound, ← is, e)
 
-module _ (table recording : List ℕ) (budget : ℕ) (scratch room : List ℕ) where
-  validation-refused : (why : Refusal) → refusal table recording (length scratch) (length room) ≡ Unsound why
-      → validation table recording budget (length scratch) (length room) ≡ Refused why
+module _ (edition : Edition) (table recording : List ℕ) (budget : ℕ) (scratch room : List ℕ) where
+  validation-refused : (why : Refusal) → refusal edition table recording (length scratch) (length room) ≡ Unsound why
+      → validation edition table recording budget (length scratch) (length room) ≡ Refused why
   unfolding validation
   validation-refused why e = rw (e, validation)
 
   -- a refusal answers itself and touches nothing
-  refused : (why : Refusal) → refusal table recording (length scratch) (length room) ≡ Unsound why
-      → Validates table recording budget scratch room scratch room (Refused why)
+  refused : (why : Refusal) → refusal edition table recording (length scratch) (length room) ≡ Unsound why
+      → Validates edition table recording budget scratch room scratch room (Refused why)
   unfolding scratchAfter roomAfter
   refused why e =
       record {
         answered = sym (validation-refused why e);
         numbers = ap verdictValues (sym (validation-refused why e));
         cleared = ap (λ (v : Verdict). scratchBy v (scratchWanted table recording) scratch) (sym (validation-refused why e));
-        written = ap (λ (v : Verdict). roomBy v (witnessBytes (preferred (monitorAt table) (packetsAt recording))) room) (sym (validation-refused why e));
+        written = ap (λ (v : Verdict). roomBy v (witnessBytes edition (preferred (monitorAt table) (packetsAt recording))) room) (sym (validation-refused why e));
         judged = λ s. absurd (sound-unsound why (sym s ∙ e));
       }
 
-  pub unread : (why : Refusal) → recordingAnswer table recording ≡ Unsound why → Validates table recording budget scratch room scratch room (Refused why)
+  pub unread : (why : Refusal) → recordingAnswer table recording ≡ Unsound why → Validates edition table recording budget scratch room scratch room (Refused why)
   unfolding refusal
   unread why e = refused why (rw (refusal, e))
 
   pub scratch-short : (wanted : ℕ) → recordingAnswer table recording ≡ Sound → wanted ≡ scratchWanted table recording → length scratch < wanted
-      → Validates table recording budget scratch room scratch room (Refused (Scratch wanted))
+      → Validates edition table recording budget scratch room scratch room (Refused (Scratch wanted))
   unfolding refusal
-  scratch-short wanted e w short = subst (λ (n : ℕ). Validates table recording budget scratch room scratch room (Refused (Scratch n))) (sym w)
+  scratch-short wanted e w short = subst (λ (n : ℕ). Validates edition table recording budget scratch room scratch room (Refused (Scratch n))) (sym w)
       (refused (Scratch (scratchWanted table recording))
       (rw (refusal, e, lt-leb (scratchWanted table recording) (length scratch) (subst (λ (n : ℕ). length scratch < n) w short))))
 
-  pub room-short : (wanted : ℕ) → recordingAnswer table recording ≡ Sound → scratchWanted table recording ≤ length scratch → wanted ≡ roomWanted recording
-      → length room < wanted → Validates table recording budget scratch room scratch room (Refused (WitnessRoom wanted))
+  -- an edition whose times end before the last recorded one
+  pub too-late : recordingAnswer table recording ≡ Sound → scratchWanted table recording ≤ length scratch → latestTime edition < endOf (packetsAt recording)
+      → Validates edition table recording budget scratch room scratch room (Refused (WitnessRoom 0))
   unfolding refusal
-  room-short wanted e fits w short = subst (λ (n : ℕ). Validates table recording budget scratch room scratch room (Refused (WitnessRoom n))) (sym w)
-      (refused (WitnessRoom (roomWanted recording))
+  too-late e fits late =
+      refused (WitnessRoom 0)
+      (rw (refusal, e, le-leb (scratchWanted table recording) (length scratch) fits, lt-leb (endOf (packetsAt recording)) (latestTime edition) late))
+
+  pub room-short : (wanted : ℕ) → recordingAnswer table recording ≡ Sound → scratchWanted table recording ≤ length scratch
+      → endOf (packetsAt recording) ≤ latestTime edition → wanted ≡ roomWanted edition recording
+      → length room < wanted → Validates edition table recording budget scratch room scratch room (Refused (WitnessRoom wanted))
+  unfolding refusal
+  room-short wanted e fits early w short = subst (λ (n : ℕ). Validates edition table recording budget scratch room scratch room (Refused (WitnessRoom n))) (sym w)
+      (refused (WitnessRoom (roomWanted edition recording))
       (rw
-      (refusal, e, le-leb (scratchWanted table recording) (length scratch) fits, lt-leb (roomWanted recording) (length room) (subst (λ (n : ℕ). length room < n) w short))))
+      (refusal, e, le-leb (scratchWanted table recording) (length scratch) fits, le-leb (endOf (packetsAt recording)) (latestTime edition) early, lt-leb (roomWanted edition recording) (length room) (subst (λ (n : ℕ). length room < n) w short))))
 
   -- a verdict leaves the wanted part of the scratch zero
   zeroed : (v : Verdict) → ValuesOf (monitorAt table) (packetsAt recording) budget v → (wanted : ℕ)
@@ -98,36 +109,38 @@ module _ (table recording : List ℕ) (budget : ℕ) (scratch room : List ℕ) w
   zeroed (Exhausted limit instant) h wanted = refl
   zeroed (Refused why) h wanted = absurd h
 
-  module _ (e : recordingAnswer table recording ≡ Sound) (fits : scratchWanted table recording ≤ length scratch) (roomy : roomWanted recording ≤ length room) where
-    sound : refusal table recording (length scratch) (length room) ≡ Sound
-    unfolding refusal
-    sound =
-        rw
-        (refusal, e, le-leb (scratchWanted table recording) (length scratch) fits, le-leb (roomWanted recording) (length room) roomy)
+  module _ (e : recordingAnswer table recording ≡ Sound) (fits : scratchWanted table recording ≤ length scratch)
+      (early : endOf (packetsAt recording) ≤ latestTime edition) (roomy : roomWanted edition recording ≤ length room)
+    where
+      sound : refusal edition table recording (length scratch) (length room) ≡ Sound
+      unfolding refusal
+      sound =
+          rw
+          (refusal, e, le-leb (scratchWanted table recording) (length scratch) fits, le-leb (endOf (packetsAt recording)) (latestTime edition) early, le-leb (roomWanted edition recording) (length room) roomy)
 
-    valid : validation table recording budget (length scratch) (length room) ≡ verdict (monitorAt table) (packetsAt recording) budget
-    unfolding validation
-    valid = rw (sound, validation)
+      valid : validation edition table recording budget (length scratch) (length room) ≡ verdict (monitorAt table) (packetsAt recording) budget
+      unfolding validation
+      valid = rw (sound, validation)
 
-    pub judged-whole : (v : Verdict) (part partThen roomThen : List ℕ) → length part ≡ scratchWanted table recording
-        → Settled table recording budget part room partThen roomThen v
-        → Validates table recording budget scratch room (partThen ++ drop (scratchWanted table recording) scratch) roomThen v
-    unfolding scratchAfter roomAfter
-    judged-whole v part partThen roomThen long s =
-        let right : Judged (monitorAt table) (packetsAt recording) budget v =
-        subst (Judged (monitorAt table) (packetsAt recording) budget) (sym (s .answered)) (sound-judged table recording e budget)
-        in
-        let same : v ≡ validation table recording budget (length scratch) (length room) = s .answered ∙ sym valid in
-        record {
-          answered = same;
-          numbers = ap verdictValues same;
-          cleared =
-              ap (λ (l : List ℕ). l ++ drop (scratchWanted table recording) scratch) (s .cleared ∙ ap (λ (n : ℕ). replicate n 0) long)
-              ∙ zeroed v (right .valued) (scratchWanted table recording)
-              ∙ ap (λ (w : Verdict). scratchBy w (scratchWanted table recording) scratch) same;
-          written = s .written ∙ ap (λ (w : Verdict). roomBy w (witnessBytes (preferred (monitorAt table) (packetsAt recording))) room) same;
-          judged = λ _. right;
-        }
+      pub judged-whole : (v : Verdict) (part partThen roomThen : List ℕ) → length part ≡ scratchWanted table recording
+          → Settled edition table recording budget part room partThen roomThen v
+          → Validates edition table recording budget scratch room (partThen ++ drop (scratchWanted table recording) scratch) roomThen v
+      unfolding scratchAfter roomAfter
+      judged-whole v part partThen roomThen long s =
+          let right : Judged edition (monitorAt table) (packetsAt recording) budget v =
+          subst (Judged edition (monitorAt table) (packetsAt recording) budget) (sym (s .answered)) (sound-judged edition table recording e early budget)
+          in
+          let same : v ≡ validation edition table recording budget (length scratch) (length room) = s .answered ∙ sym valid in
+          record {
+            answered = same;
+            numbers = ap verdictValues same;
+            cleared =
+                ap (λ (l : List ℕ). l ++ drop (scratchWanted table recording) scratch) (s .cleared ∙ ap (λ (n : ℕ). replicate n 0) long)
+                ∙ zeroed v (right .valued) (scratchWanted table recording)
+                ∙ ap (λ (w : Verdict). scratchBy w (scratchWanted table recording) scratch) same;
+            written = s .written ∙ ap (λ (w : Verdict). roomBy w (witnessBytes edition (preferred (monitorAt table) (packetsAt recording))) room) same;
+            judged = λ _. right;
+          }
 
 -- what is measured of a sound table and recording
 module _ (table recording : List ℕ) (e : recordingAnswer table recording ≡ Sound) (reading : TableReading) (r : reading ≡ readTable table)
@@ -147,8 +160,9 @@ module _ (table recording : List ℕ) (e : recordingAnswer table recording ≡ S
 pub count-is : (recording : List ℕ) → length (packetsAt recording) ≡ countAt recording
 count-is recording = ap length (packets-tab recording) ∙ length-tab (packetAt recording) (countAt recording)
 
-pub room-is : (recording : List ℕ) (last n : ℕ) → last ≡ endOf (packetsAt recording) → n ≡ countAt recording → 5 + 5 * (last + n) ≡ roomWanted recording
-room-is recording last n l c = let h = count-is recording in omega arith
+pub room-is : (edition : Edition) (recording : List ℕ) (head last n : ℕ) → head ≡ rowsPlace edition → last ≡ endOf (packetsAt recording) → n ≡ countAt recording
+    → head + 5 * (last + n) ≡ roomWanted edition recording
+room-is edition recording head last n p l c = let h = count-is recording in omega arith
 
 pub no-end : (recording : List ℕ) → countAt recording ≡ 0 → 0 ≡ endOf (packetsAt recording)
 unfolding tab endOf
@@ -157,11 +171,11 @@ no-end recording c = sym (ap endOf (packets-tab recording ∙ ap (tab (packetAt 
 pub le-by : (a b n : ℕ) → a ≡ b → a ≤ n → b ≤ n
 le-by a b n e h = omega arith
 
-pub judging : (table recording : List ℕ) (e : recordingAnswer table recording ≡ Sound) (reading : TableReading) (r : reading ≡ readTable table)
-    (g : Measures) (m : Measured (reading .parts) recording g) (scratch room : List ℕ) (count : ℕ)
-    → count ≡ countAt recording → g .row * (g .last + 1) ≤ length scratch → 5 + 5 * (g .last + count) ≤ length room
-    → Judging table recording (take (g .row * (g .last + 1) - 0) scratch) room g
-judging table recording e reading r g m scratch room count counted fits roomy =
+pub judging : (edition : Edition) (table recording : List ℕ) (e : recordingAnswer table recording ≡ Sound) (reading : TableReading) (r : reading ≡ readTable table)
+    (g : Measures) (m : Measured (reading .parts) recording g) (scratch room : List ℕ) (head count : ℕ)
+    → head ≡ rowsPlace edition → count ≡ countAt recording → g .row * (g .last + 1) ≤ length scratch → head + 5 * (g .last + count) ≤ length room
+    → Judging edition table recording (take (g .row * (g .last + 1) - 0) scratch) room g
+judging edition table recording e reading r g m scratch room head count placed counted fits roomy =
     record {
       sound = e;
       measured = measured table recording e reading r g m;
@@ -170,12 +184,12 @@ judging table recording e reading r g m scratch room count counted fits roomy =
     }
 
 -- the judged part comes back to the front of the scratch
-pub judged-part : (table recording : List ℕ) (budget : ℕ) (scratch room : List ℕ) (e : recordingAnswer table recording ≡ Sound) (n : ℕ) → n ≡ scratchWanted table recording
-    → n ≤ length scratch → roomWanted recording ≤ length room → (v : Verdict) (partThen roomThen : List ℕ)
-    → Settled table recording budget (take (n - 0) scratch) room partThen roomThen v
-    → Validates table recording budget scratch room (partThen ++ drop (n - 0) scratch) roomThen v
-judged-part table recording budget scratch room e n wanted fits roomy v partThen roomThen s =
+pub judged-part : (edition : Edition) (table recording : List ℕ) (budget : ℕ) (scratch room : List ℕ) (e : recordingAnswer table recording ≡ Sound) (n : ℕ) → n ≡ scratchWanted table recording
+    → n ≤ length scratch → endOf (packetsAt recording) ≤ latestTime edition → roomWanted edition recording ≤ length room → (v : Verdict) (partThen roomThen : List ℕ)
+    → Settled edition table recording budget (take (n - 0) scratch) room partThen roomThen v
+    → Validates edition table recording budget scratch room (partThen ++ drop (n - 0) scratch) roomThen v
+judged-part edition table recording budget scratch room e n wanted fits early roomy v partThen roomThen s =
     let whole : n - 0 ≡ scratchWanted table recording = omega arith in
     let long = length-take-le (n - 0) scratch (omega arith) in
-    subst (λ (k : ℕ). Validates table recording budget scratch room (partThen ++ drop k scratch) roomThen v) (sym whole)
-    (judged-whole table recording budget scratch room e (omega arith) roomy v (take (n - 0) scratch) partThen roomThen (omega arith) s)
+    subst (λ (k : ℕ). Validates edition table recording budget scratch room (partThen ++ drop k scratch) roomThen v) (sym whole)
+    (judged-whole edition table recording budget scratch room e (omega arith) early roomy v (take (n - 0) scratch) partThen roomThen (omega arith) s)

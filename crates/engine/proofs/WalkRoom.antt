@@ -1,13 +1,17 @@
 -- Rows written into a room one behind the other, and the frame before them.
-use Prim.Native.Nat.{ℕ, _+_, _*_, _≤_}
+use Prim.Native.Nat.{ℕ, _+_, _-_, _*_, _≤_}
+use native.Mathlib.Nat.{zero-add}
 use native.Mathlib.Omega.{arith}
 use mathlib.Core.Path.{_≡_, sym, ap, ap₂, subst, _∙_}
 use mathlib.Core.List.{List, [], _++_, append-assoc, append-nil}
-use lib.ListN.{length, take, drop, length-append, length-take, length-drop, take-append-drop}
-use lib.Seq.{take-at, drop-at, drop-drop, length-take-le}
+use lib.ListN.{length, take, drop, drop-of-length-le, length-append, length-take, length-drop, take-append-drop}
+use lib.Seq.{take-all, take-at, drop-at, drop-drop, length-take-le}
+use Rattle.model.specs.Edition.{rowsPlace}
 use Rattle.model.specs.Frame.{rowsFrame}
 use Rattle.model.specs.Room.{over}
 use Rattle.model.specs.Witness.{Row, rowsBytes, witnessBytes}
+use Rattle.model.specs.declared.Edition.{Edition}
+use Rattle.model.proofs.EditionLaws.{frame-length}
 use Rattle.model.proofs.WitnessForm.{rowsBytes-append, rowsBytes-length}
 use Rattle.wire.specs.Placed.{placed}
 use Rattle.wire.proofs.Room.{placed-fits}
@@ -46,32 +50,21 @@ placed-more a b at room h =
     ∙ ap (λ (l : List ℕ). l ++ drop (at + length (a ++ b)) room) (append-assoc (take at room) a b)
     ∙ sym (placed-fits (a ++ b) at room (omega (arith, length-append a b)))
 
--- bytes placed before bytes
-pub placed-before : (a b : List ℕ) (room : List ℕ) → length a + length b ≤ length room → placed a 0 (placed b (length a) room) ≡ over (a ++ b) room
-placed-before a b room h =
-    let front : List ℕ = take (length a) room in
-    let rest : List ℕ = drop (length a + length b) room in
-    placed-fits a 0 (placed b (length a) room) (omega (arith, placed-length b (length a) room h))
-    ∙ ap (λ (l : List ℕ). a ++ drop (0 + length a) l) (placed-fits b (length a) room h ∙ append-assoc front b rest)
-    ∙ ap (λ (l : List ℕ). a ++ l) (drop-at front (b ++ rest) (0 + length a) (length-take-le (length a) room (omega arith) ∙ omega arith))
-    ∙ sym (append-assoc a b rest)
-    ∙ ap (λ (n : ℕ). a ++ b ++ drop n room) (sym (length-append a b))
-
 -- rows
 
-pub rows-put-none : (r : ℕ) (room : List ℕ) → 5 + 5 * r ≤ length room → RowsPut [] r r room room
+pub rows-put-none : (r : ℕ) (room : List ℕ) → 5 * r ≤ length room → RowsPut [] r r room room
 unfolding rowsBytes
-rows-put-none r room h = record { bytes = sym (placed-none (5 + 5 * r) room h); count = omega arith }
+rows-put-none r room h = record { bytes = sym (placed-none (5 * r) room h); count = omega arith }
 
 pub rows-put-more : {a b : List Row} {r n k : ℕ} {x y z : List ℕ} → Room (a ++ b) r x → RowsPut a r n x y → RowsPut b n k y z → RowsPut (a ++ b) r k x z
 rows-put-more {a} {b} {r} {n} {k} {x} {y} {z} h first then =
-    let place : 5 + 5 * n ≡ 5 + 5 * r + length (rowsBytes a) = omega (arith, rowsBytes-length a, first .count) in
+    let place : 5 * n ≡ 5 * r + length (rowsBytes a) = omega (arith, rowsBytes-length a, first .count) in
     record {
       bytes =
           then .bytes
           ∙ ap₂ (λ (p : ℕ) (l : List ℕ). placed (rowsBytes b) p l) place (first .bytes)
-          ∙ placed-more (rowsBytes a) (rowsBytes b) (5 + 5 * r) x (omega (arith, rowsBytes-length a, rowsBytes-length b, length-append a b))
-          ∙ ap (λ (l : List ℕ). placed l (5 + 5 * r) x) (sym (rowsBytes-append a b));
+          ∙ placed-more (rowsBytes a) (rowsBytes b) (5 * r) x (omega (arith, rowsBytes-length a, rowsBytes-length b, length-append a b))
+          ∙ ap (λ (l : List ℕ). placed l (5 * r) x) (sym (rowsBytes-append a b));
       count = omega (arith, first .count, then .count, length-append a b);
     }
 
@@ -80,17 +73,37 @@ rows-put-same {a} {b} {r} {n} {x} {y} e w = subst (λ (l : List Row). RowsPut l 
 
 pub rows-put-length : {a : List Row} {r n : ℕ} {x y : List ℕ} → RowsPut a r n x y → Room a r x → length y ≡ length x
 rows-put-length {a} {r} {n} {x} {y} w h =
-    ap length (w .bytes) ∙ placed-length (rowsBytes a) (5 + 5 * r) x (omega (arith, rowsBytes-length a))
+    ap length (w .bytes) ∙ placed-length (rowsBytes a) (5 * r) x (omega (arith, rowsBytes-length a))
 
 -- behind the rows that are written there is room for the others
 pub room-behind : {a : List Row} (b : List Row) {r n : ℕ} {x y : List ℕ} → RowsPut a r n x y → Room (a ++ b) r x → Room b n y
 room-behind {a} b {r} {n} {x} {y} w h =
     omega (arith, length-append a b, w .count, rows-put-length w (omega (arith, length-append a b)))
 
--- all rows and the frame
-pub rows-put-framed : {a : List Row} {n : ℕ} {x y : List ℕ} → RowsPut a 0 n x y → Room a 0 x → placed (rowsFrame 5 n) 0 y ≡ over (witnessBytes a) x
+-- all rows, from the start of a room
+pub rows-put-all : {a : List Row} {n : ℕ} {x y : List ℕ} → RowsPut a 0 n x y → Room a 0 x → y ≡ over (rowsBytes a) x
+rows-put-all {a} {n} {x} {y} w h = w .bytes ∙ placed-fits (rowsBytes a) 0 x (omega (arith, rowsBytes-length a)) ∙ ap (λ (k : ℕ). rowsBytes a ++ drop k x) (zero-add (length (rowsBytes a)))
+
+-- the frame before rows that stand in the part of the room behind it
+framed-rows : (edition : Edition) (a : List Row) (head n : ℕ) (room part : List ℕ) → head ≡ rowsPlace edition → n ≡ length a → part ≡ over (rowsBytes a) (drop head room)
+    → head + 5 * length a ≤ length room → placed (rowsFrame edition 5 n) 0 (take head room ++ part) ≡ over (witnessBytes edition a) room
 unfolding witnessBytes
-rows-put-framed {a} {n} {x} {y} w h =
-    let all : n ≡ length a = omega (arith, w .count) in
-    ap₂ (λ (k : ℕ) (l : List ℕ). placed (rowsFrame 5 k) 0 l) all (w .bytes)
-    ∙ placed-before (rowsFrame 5 (length a)) (rowsBytes a) x (omega (arith, rowsBytes-length a))
+framed-rows edition a head n room part place count rows fits =
+    let frame : List ℕ = rowsFrame edition 5 (length a) in
+    let long : length frame ≡ head = frame-length edition 5 (length a) ∙ sym place in
+    let bytes : length (rowsBytes a) ≡ 5 * length a = rowsBytes-length a in
+    let behind : head + length (rowsBytes a) ≡ length (frame ++ rowsBytes a) = omega (arith, length-append frame (rowsBytes a)) in
+    ap₂ (λ (k : ℕ) (l : List ℕ). placed (rowsFrame edition 5 k) 0 (take head room ++ l)) count rows
+    ∙ placed-fits frame 0 (take head room ++ over (rowsBytes a) (drop head room)) (omega (arith, length-append (take head room) (over (rowsBytes a) (drop head room)), length-take-le head room (omega arith)))
+    ∙ ap (λ (l : List ℕ). frame ++ l) (drop-at (take head room) (over (rowsBytes a) (drop head room)) (0 + length frame) (length-take-le head room (omega arith) ∙ omega arith))
+    ∙ sym (append-assoc frame (rowsBytes a) (drop (length (rowsBytes a)) (drop head room)))
+    ∙ ap (λ (l : List ℕ). frame ++ rowsBytes a ++ l) (drop-drop (length (rowsBytes a)) head room ∙ ap (λ (k : ℕ). drop k room) behind)
+
+-- .. where that part is handed on and comes back
+pub framed-part : (edition : Edition) (a : List Row) (head n : ℕ) (room part : List ℕ) → head ≡ rowsPlace edition → n ≡ length a
+    → part ≡ over (rowsBytes a) (take (length room - head) (drop head room)) → head + 5 * length a ≤ length room
+    → placed (rowsFrame edition 5 n) 0 (take head room ++ (part ++ drop (length room - head) (drop head room))) ≡ over (witnessBytes edition a) room
+framed-part edition a head n room part place count rows fits =
+    let long : length (drop head room) ≤ length room - head = omega (arith, length-drop head room) in
+    ap (λ (l : List ℕ). placed (rowsFrame edition 5 n) 0 (take head room ++ l)) (ap (λ (l : List ℕ). part ++ l) (drop-of-length-le (drop head room) long) ∙ append-nil part)
+    ∙ framed-rows edition a head n room part place count (rows ∙ ap (over (rowsBytes a)) (take-all (length room - head) (drop head room) long)) fits

@@ -14,7 +14,6 @@ use Rattle.model.specs.Recording.{packetsAt, endOf}
 use Rattle.model.specs.Layers.{count, layer, arrived, leastFrom}
 use Rattle.model.specs.Situation.{moveOf, moveLimit, recordedAt, firstNumber}
 use Rattle.model.specs.Validation.{rowsBy, rowsOf, movesOf, preferred, HasRows}
-use Rattle.model.specs.Limits.{witnessLimit}
 use Rattle.model.specs.Witness.{Row}
 use Rattle.model.specs.declared.Situation.{Situation}
 use Rattle.model.proofs.SetLaws.{member-within, leadsInto-member, count-some}
@@ -254,11 +253,8 @@ module _ (table offsets recording : List ℕ) (g : Measures) (set : Setting tabl
         length-least (sizeOf table) moveLimit (stepOf table recording) (firstNumber (monitorAt table)) (endOf (packetsAt recording)),
       )
 
-  pub rows-few : length (preferred (monitorAt table) (packetsAt recording)) ≤ witnessLimit
-  rows-few = omega (arith, rows-fit)
-
-  pub walked-first : (room : List ℕ) → 5 ≤ length room → Walked table recording (g .last) 0 (firstNumber (monitorAt table)) 0 room room
-  walked-first room l = record { rows = []; wrote = rows-put-none 0 room (omega arith); whole = rows-all }
+  pub walked-first : (room : List ℕ) → Walked table recording (g .last) 0 (firstNumber (monitorAt table)) 0 room room
+  walked-first room = record { rows = []; wrote = rows-put-none 0 room (omega arith); whole = rows-all }
 
   pub walked-all : {t n r : ℕ} {before after : List ℕ} → Walked table recording (g .last) t n r before after → t ≡ g .last
       → RowsPut (preferred (monitorAt table) (packetsAt recording)) 0 r before after

@@ -3,10 +3,12 @@ use Prim.Native.Nat.{ℕ, _+_, _*_, _≤_}
 use mathlib.Core.Path.{_≡_}
 use mathlib.Core.List.{List}
 use lib.ListN.{length, replicate}
+use Rattle.model.specs.Edition.{rowsPlace}
 use Rattle.model.specs.Table.{monitorAt, tableParts}
 use Rattle.model.specs.Recording.{SoundRecording, packetsAt}
 use Rattle.model.specs.Witness.{witnessBytes}
 use Rattle.model.specs.Validation.{preferred, verdict, roomBy}
+use Rattle.model.specs.declared.Edition.{Edition}
 use Rattle.model.specs.declared.Verdict.{Verdict}
 use Rattle.engine.specs.Measured.{Measured}
 use Rattle.engine.specs.Setting.{Setting}
@@ -16,27 +18,27 @@ use Rattle.engine.specs.declared.measures.Measures.{Measures}
 use Rattle.engine.specs.declared.forward.Outcome.{Outcome}
 
 -- a sound table and recording, and what is measured of them; the wanted part of the scratch; room enough
-pub record Judging (table recording scratch room : List ℕ) (g : Measures) : Type 0 where
+pub record Judging (edition : Edition) (table recording scratch room : List ℕ) (g : Measures) : Type 0 where
   pub sound : SoundRecording table recording
   pub measured : Measured (tableParts table) recording g
   pub long : g .row * (g .last + 1) ≤ length scratch
-  pub roomy : 5 + 5 * (g .last + length (packetsAt recording)) ≤ length room
+  pub roomy : rowsPlace edition + 5 * (g .last + length (packetsAt recording)) ≤ length room
 
 -- what ending a forward pass starts from
-pub record Ending (table offsets recording scratch room : List ℕ) (g : Measures) (budget : ℕ) (o : Outcome) : Type 0 where
+pub record Ending (edition : Edition) (table offsets recording scratch room : List ℕ) (g : Measures) (budget : ℕ) (o : Outcome) : Type 0 where
   pub setting : Setting table offsets recording g
   pub triggers : Triggers table offsets
-  pub roomy : 5 + 5 * (g .last + length (packetsAt recording)) ≤ length room
+  pub roomy : rowsPlace edition + 5 * (g .last + length (packetsAt recording)) ≤ length room
   pub ended : Ended table recording scratch budget (g .row) (g .last) o
 
 -- what it ends with: the verdict, and the witness in the room where there is one
-pub record Concluded (table recording : List ℕ) (budget : ℕ) (scratch room scratchThen roomThen : List ℕ) (v : Verdict) : Type 0 where
+pub record Concluded (edition : Edition) (table recording : List ℕ) (budget : ℕ) (scratch room scratchThen roomThen : List ℕ) (v : Verdict) : Type 0 where
   pub long : length scratchThen ≡ length scratch
   pub answered : v ≡ verdict (monitorAt table) (packetsAt recording) budget
-  pub written : roomThen ≡ roomBy v (witnessBytes (preferred (monitorAt table) (packetsAt recording))) room
+  pub written : roomThen ≡ roomBy v (witnessBytes edition (preferred (monitorAt table) (packetsAt recording))) room
 
 -- the verdict, the scratch zero, and the witness in the room where there is one
-pub record Settled (table recording : List ℕ) (budget : ℕ) (scratch room scratchThen roomThen : List ℕ) (v : Verdict) : Type 0 where
+pub record Settled (edition : Edition) (table recording : List ℕ) (budget : ℕ) (scratch room scratchThen roomThen : List ℕ) (v : Verdict) : Type 0 where
   pub answered : v ≡ verdict (monitorAt table) (packetsAt recording) budget
   pub cleared : scratchThen ≡ replicate (length scratch) 0
-  pub written : roomThen ≡ roomBy v (witnessBytes (preferred (monitorAt table) (packetsAt recording))) room
+  pub written : roomThen ≡ roomBy v (witnessBytes edition (preferred (monitorAt table) (packetsAt recording))) room

@@ -1,4 +1,4 @@
--- What validation promises for any bytes, any budget, and any lengths and contents of scratch and room.
+-- What validation promises for either edition of the witness, any bytes, any budget, and any lengths and contents of scratch and room.
 use Prim.Native.Nat.{ℕ}
 use mathlib.Core.Path.{_≡_}
 use mathlib.Core.List.{List}
@@ -8,13 +8,14 @@ use Rattle.model.specs.Recording.{packetsAt}
 use Rattle.model.specs.Numbers.{verdictValues}
 use Rattle.model.specs.Validation.{refusal, validation, scratchAfter, roomAfter}
 use Rattle.model.specs.Claims.{Judged}
+use Rattle.model.specs.declared.Edition.{Edition}
 use Rattle.model.specs.declared.Reading.the-variants.{Sound}
 use Rattle.model.specs.declared.Verdict.{Verdict}
 
 -- the answer, document 01's numbers of it and the lent buffers are the definition's; and where nothing is refused, demand 3 itself
-pub record Validates (table recording : List ℕ) (budget : ℕ) (scratch room scratchThen roomThen : List ℕ) (v : Verdict) : Type 0 where
-  pub answered : v ≡ validation table recording budget (length scratch) (length room)
-  pub numbers : verdictValues v ≡ verdictValues (validation table recording budget (length scratch) (length room))
-  pub cleared : scratchThen ≡ scratchAfter table recording budget scratch room
-  pub written : roomThen ≡ roomAfter table recording budget scratch room
-  pub judged : refusal table recording (length scratch) (length room) ≡ Sound → Judged (monitorAt table) (packetsAt recording) budget v
+pub record Validates (edition : Edition) (table recording : List ℕ) (budget : ℕ) (scratch room scratchThen roomThen : List ℕ) (v : Verdict) : Type 0 where
+  pub answered : v ≡ validation edition table recording budget (length scratch) (length room)
+  pub numbers : verdictValues v ≡ verdictValues (validation edition table recording budget (length scratch) (length room))
+  pub cleared : scratchThen ≡ scratchAfter edition table recording budget scratch room
+  pub written : roomThen ≡ roomAfter edition table recording budget scratch room
+  pub judged : refusal edition table recording (length scratch) (length room) ≡ Sound → Judged edition (monitorAt table) (packetsAt recording) budget v

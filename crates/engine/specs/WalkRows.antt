@@ -30,14 +30,14 @@ pub record Ground (table offsets recording scratch : List ℕ) (g : Measures) : 
   pub triggers : Triggers table offsets
   pub pruned : PrunedRows table recording scratch (g .row) (g .size) (g .last)
 
--- rows stand in the room from row r on, and next is the number of the row behind them
+-- rows stand in the room, which begins with row 0, from row r on, and next is the number of the row behind them
 pub record RowsPut (rows : List Row) (r next : ℕ) (before after : List ℕ) : Type 0 where
-  pub bytes : after ≡ placed (rowsBytes rows) (5 + 5 * r) before
+  pub bytes : after ≡ placed (rowsBytes rows) (5 * r) before
   pub count : next ≡ r + length rows
 
 -- so many rows have a place in the room from row r on
 abbrev pub Room : (rows : List Row) → (r : ℕ) → List ℕ → Type 0
-Room rows r room = 5 + 5 * (r + length rows) ≤ length room
+Room rows r room = 5 * (r + length rows) ≤ length room
 
 -- the walk stands after instant t at number n, from which the end, last, can be reached, and j rows are recorded up to t
 pub record Stands (table recording : List ℕ) (last t n j : ℕ) : Type 0 where

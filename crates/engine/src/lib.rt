@@ -7,23 +7,27 @@ mod walk;
 
 use codec::recording::recording_scan;
 use codec::table::read_table;
+use frame::edition::latest_time;
+use frame::edition::rows_place;
 use judge::judge;
 use measures::measure;
+use model::Edition;
 use model::Reading;
 use model::Refusal;
 use model::Verdict;
 use wire::word;
 ghost use Rattle.engine.specs.Validates.{Validates};
 
-// Judges a recording against a table, with a scratch and a witness room that the caller lends, whatever they hold.
+// Judges a recording against a table, with a scratch and a witness room that the caller lends, whatever they hold. The caller names the witness's edition.
 pub fn validate<'a>(
+    edition: Edition,
     table: &'a [u8],
     recording: &'a [u8],
     budget: u32,
     scratch: &mut [u8],
     room: &mut [u8],
 ) -> Verdict
-    ensures { λ r. ⌜ Validates (now (table .entry)) (now (recording .entry)) budget (now (scratch .entry)) (now (room .entry)) (now (scratch .exit)) (now (room .exit)) r ⌝ }
+    ensures { λ r. ⌜ Validates edition (now (table .entry)) (now (recording .entry)) budget (now (scratch .entry)) (now (room .entry)) (now (scratch .exit)) (now (room .exit)) r ⌝ }
 {
     let reading = read_table(table);
     let answer = reading.answer;
@@ -42,12 +46,16 @@ pub fn validate<'a>(
             wanted: scratch_wanted as u64,
         });
     }
-    let room_wanted = 5 + 5 * (g.last + word(recording, 3) as usize);
+    // an edition whose times end before the handover does is not written, however large the room
+    if (latest_time(edition) as usize) < g.last {
+        return Verdict::Refused(Refusal::WitnessRoom { wanted: 0 });
+    }
+    let room_wanted = rows_place(edition) + 5 * (g.last + word(recording, 3) as usize);
     if room.len() < room_wanted {
         return Verdict::Refused(Refusal::WitnessRoom {
             wanted: room_wanted as u64,
         });
     }
     let part = &mut scratch[0..scratch_wanted];
-    judge(table, recording, g, budget as u64, part, room)
+    judge(edition, table, recording, g, budget as u64, part, room)
 }

@@ -1,9 +1,11 @@
 // The walk along the least moves, whose rows are the preferred witness.
 use crate::measures::Measures;
-use frame::frame_bytes;
+use frame::edition::rows_place;
+use frame::put_frame;
 use layers::Span;
 use layers::least_into;
 use model::ADDED;
+use model::Edition;
 use model::FIRST_ADD;
 use model::KEPT;
 use model::NO_TRANSITION;
@@ -26,16 +28,14 @@ ghost use mathlib.Core.Path.{_≡_};
 ghost use mathlib.Core.List.{[], _∷_};
 ghost use mathlib.Core.Option.{some};
 ghost use lib.ListN.{length};
-ghost use Rattle.model.specs.Limits.{witnessLimit};
-ghost use Rattle.model.specs.Frame.{rowsFrame};
+ghost use Rattle.model.specs.Edition.{rowsPlace};
 ghost use Rattle.model.specs.Table.{monitorAt};
 ghost use Rattle.model.specs.Recording.{packetsAt};
 ghost use Rattle.model.specs.Situation.{triggerOf, moveLimit, moveOf};
 ghost use Rattle.model.specs.Layers.{count};
 ghost use Rattle.model.specs.Room.{over};
 ghost use Rattle.model.specs.Validation.{rowFor, rowsBy, HasRows, possibleAfter, preferred};
-ghost use Rattle.model.specs.Witness.{added, witnessBytes};
-ghost use Rattle.wire.specs.Placed.{placed};
+ghost use Rattle.model.specs.Witness.{added, rowsBytes, witnessBytes};
 ghost use Rattle.witness.specs.Rows.{rowOf};
 ghost use Rattle.situation.specs.Rows.{heardOf};
 ghost use Rattle.layers.specs.Advance.{stepAt, leastInto};
@@ -54,13 +54,13 @@ struct Place {
     rows: usize,
 }
 
-// Writes row number r and gives the next row's number, as the functions below do.
+// Writes row number r of a room that begins with row 0, and gives the next row's number, as the functions below do.
 fn put_row(room: &mut [u8], r: usize, row: Entry) -> usize
     requires { ⌜ Room (rowOf row ∷ []) r (now room) ⌝ }
     ensures { λ n. ⌜ RowsPut (rowOf row ∷ []) r n (now (room .entry)) (now (room .exit)) ⌝ }
 {
     let bytes = row_bytes(row);
-    place(&bytes, room, 5 + 5 * r);
+    place(&bytes, room, 5 * r);
     r + 1
 }
 
@@ -131,15 +131,6 @@ fn put_move<'a>(
     put_added(table, offsets, room, r, t, k - FIRST_ADD)
 }
 
-// What stands before the rows.
-fn put_header(room: &mut [u8], rows: usize)
-    requires { ⌜ rows ≤ witnessLimit ⌝ }
-    ensures { λ n. ⌜ now (room .exit) ≡ placed (rowsFrame 5 rows) 0 (now (room .entry)) ⌝ }
-{
-    let frame = frame_bytes(5, rows as u16);
-    place(&frame, room, 0);
-}
-
 // The least move from situation n into a row.
 fn least_move<'a>(
     table: &'a [u8],
@@ -201,8 +192,8 @@ fn walk_on<'a>(
     }
 }
 
-// Writes the preferred witness into the room, along the pruned rows. The result is the number of its rows.
-pub(crate) fn walk<'a>(
+// Writes the rows of the preferred witness along the pruned rows of the scratch. The result is how many they are.
+fn walk_rows<'a>(
     table: &'a [u8],
     offsets: &'a [u16],
     recording: &'a [u8],
@@ -210,8 +201,8 @@ pub(crate) fn walk<'a>(
     scratch: &'a [u8],
     room: &mut [u8],
 ) -> usize
-    requires { ⌜ Ground (now table) (now offsets) (now recording) (now scratch) g × (0 < count (possibleAfter (monitorAt (now table)) (packetsAt (now recording)) (g .last))) × (5 + 5 * (g .last + length (packetsAt (now recording))) ≤ length (now room)) ⌝ }
-    ensures { λ r. ⌜ (r ≡ length (preferred (monitorAt (now (table .entry))) (packetsAt (now (recording .entry))))) × (now (room .exit) ≡ over (witnessBytes (preferred (monitorAt (now (table .entry))) (packetsAt (now (recording .entry))))) (now (room .entry))) ⌝ }
+    requires { ⌜ Ground (now table) (now offsets) (now recording) (now scratch) g × (0 < count (possibleAfter (monitorAt (now table)) (packetsAt (now recording)) (g .last))) × (5 * (g .last + length (packetsAt (now recording))) ≤ length (now room)) ⌝ }
+    ensures { λ r. ⌜ (r ≡ length (preferred (monitorAt (now (table .entry))) (packetsAt (now (recording .entry))))) × (now (room .exit) ≡ over (rowsBytes (preferred (monitorAt (now (table .entry))) (packetsAt (now (recording .entry))))) (now (room .entry))) × (r ≤ g .last) ⌝ }
 {
     let mut at = Place {
         number: g.first,
@@ -223,7 +214,24 @@ pub(crate) fn walk<'a>(
         at = walk_on(table, offsets, recording, g, scratch, room, t, at);
         t += 1;
     }
-    let rows = at.rows;
-    put_header(room, rows);
+    at.rows
+}
+
+// Writes the preferred witness into the room. The result is the number of its rows.
+pub(crate) fn walk<'a>(
+    edition: Edition,
+    table: &'a [u8],
+    offsets: &'a [u16],
+    recording: &'a [u8],
+    g: Measures,
+    scratch: &'a [u8],
+    room: &mut [u8],
+) -> usize
+    requires { ⌜ Ground (now table) (now offsets) (now recording) (now scratch) g × (0 < count (possibleAfter (monitorAt (now table)) (packetsAt (now recording)) (g .last))) × (rowsPlace edition + 5 * (g .last + length (packetsAt (now recording))) ≤ length (now room)) ⌝ }
+    ensures { λ r. ⌜ (r ≡ length (preferred (monitorAt (now (table .entry))) (packetsAt (now (recording .entry))))) × (now (room .exit) ≡ over (witnessBytes edition (preferred (monitorAt (now (table .entry))) (packetsAt (now (recording .entry))))) (now (room .entry))) ⌝ }
+{
+    let head = rows_place(edition);
+    let rows = walk_rows(table, offsets, recording, g, scratch, &mut room[head..]);
+    put_frame(edition, 5, rows as u32, room);
     rows
 }

@@ -2,6 +2,7 @@
 // Each comparison is proved: the engine's contract gives what it leaves, and the definition computes on these bytes. Scratch and room are lent dirty.
 use check::expect;
 use check::same;
+use model::Edition;
 use model::Verdict;
 ghost use Rattle.fixed_witness.specs.Tells.{Tells};
 
@@ -34,7 +35,14 @@ fn accepted(verdict: Verdict, cost: u64, rows: u64) -> bool
 fn main() {
     let mut scratch = [7u8; 100];
     let mut room = [9u8; 90];
-    let verdict = engine::validate(&TABLE, &RECORDING, 10000, &mut scratch, &mut room);
+    let verdict = engine::validate(
+        Edition::One,
+        &TABLE,
+        &RECORDING,
+        10000,
+        &mut scratch,
+        &mut room,
+    );
     expect(accepted(verdict, 1, 1));
     expect(same(&room[0..10], &WITNESS));
     expect(same(&room[10..], &[9u8; 80]));

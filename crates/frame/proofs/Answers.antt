@@ -15,10 +15,6 @@ pub goes : (x y : Reading) → isSound x ≡ true → andThen x y ≡ y
 goes Sound y e = refl
 goes (Unsound r) y e = absurd (false≢true e)
 
-pub then-sound : (x : Reading) → andThen x Sound ≡ x
-then-sound Sound = refl
-then-sound (Unsound r) = refl
-
 pub then-assoc : (x y z : Reading) → andThen (andThen x y) z ≡ andThen x (andThen y z)
 then-assoc Sound y z = refl
 then-assoc (Unsound r) y z = refl

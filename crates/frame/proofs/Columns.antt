@@ -1,13 +1,17 @@
--- Columns that are filled from the front, over zeros.
+-- Columns: filled from the front, over zeros, and the numbers of an array.
+use denote.Array.{each}
+use denote.Shadow.{shadow}
+use denote.Struct.Field.{u16-field}
+use mir.Val.{Val}
 use Prim.Native.Nat.{ℕ, zero, suc, _+_, _-_, _*_, _≤_, _<_, min}
 use native.Mathlib.Omega.{arith}
 use native.Mathlib.Nat.{sub-zero, mul-zero, mul-suc, mul-le-mul}
 use native.Mathlib.Numerals.{add-one}
 use mathlib.Core.Path.{_≡_, refl, sym, ap, _∙_}
-use mathlib.Core.List.{List, [], _∷_, _++_, append-assoc}
+use mathlib.Core.List.{List, [], _∷_, _++_, map, append-assoc}
 use lib.ListN.{length, drop, set, replicate, length-append, length-replicate, replicate-append-replicate}
 use lib.Seq.{drop-cons, set-at}
-use Rattle.model.specs.Bytes.{tab, joined, padded}
+use Rattle.model.specs.Bytes.{byteAt, tab, joined, padded}
 use Rattle.model.specs.Room.{over}
 use Rattle.model.proofs.Basics.{length-tab}
 use Rattle.wire.specs.Placed.{placed}
@@ -45,8 +49,8 @@ padded-over size l = ap (λ (z : List ℕ). l ++ z) (drop-zeros (length l) size)
 pub column-padded : (f : ℕ → ℕ) (n size : ℕ) → tab f n ++ drop n (zeros size) ≡ padded size (tab f n)
 column-padded f n size = ap (λ k. tab f n ++ drop k (zeros size)) (sym (length-tab f n)) ∙ padded-over size (tab f n)
 
-pub step-bound : (step i : ℕ) → step < 256 → i < 65536 → step * i ≤ 16711425
-step-bound step i h k = omega (arith, mul-le-mul {n₂ = 255} {m₂ = 65535} (below step 255 h) (below i 65535 k))
+pub step-bound : (step i : ℕ) → step < 256 → i < 4294967296 → step * i ≤ 1095216660225
+step-bound step i h k = omega (arith, mul-le-mul {n₂ = 255} {m₂ = 4294967295} (below step 255 h) (below i 4294967295 k))
   where
     below : (n m : ℕ) → n < m + 1 → n ≤ m
     below n m h = omega arith
@@ -98,3 +102,10 @@ pub joined-most : (f : ℕ → List ℕ) (w n : ℕ) → ((j : ℕ) → length (
 unfolding joined
 joined-most f w zero h = omega (arith, mul-zero w)
 joined-most f w (suc n) h = omega (arith, length-append (joined f n) (f n), joined-most f w n h, h n, mul-suc w n)
+
+-- the numbers of an array of u16 are below 65,536
+pub all-below : (xs : List ℕ) (us : List Val) → shadow (each ℕ (u16-field .row .own) (map (λ x. x) xs) us) → (i : ℕ) → byteAt xs i < 65536
+all-below [] us s i = omega arith
+all-below (x ∷ xs) [] s i = absurd s
+all-below (x ∷ xs) (u ∷ us) s zero = omega (arith, s .0)
+all-below (x ∷ xs) (u ∷ us) s (suc i) = all-below xs us (s .1) i

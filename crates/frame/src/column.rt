@@ -13,7 +13,7 @@ pub fn smaller(a: usize, b: usize) -> usize
 }
 
 // The bytes at from, from + step, .. into the first n places.
-pub fn bytes_column(b: &[u8], from: u8, step: u8, n: u16, column: &mut [u8])
+pub fn bytes_column(b: &[u8], from: u8, step: u8, n: u32, column: &mut [u8])
     ensures { λ _. ⌜ now (column .exit) ≡ filled (λ i. byteAt (now (b .entry)) (from + step * i)) n (now (column .entry)) ⌝ }
 {
     let most = smaller(n as usize, column.len());
@@ -25,7 +25,7 @@ pub fn bytes_column(b: &[u8], from: u8, step: u8, n: u16, column: &mut [u8])
 }
 
 // The two-byte numbers at from, from + step, .. into the first n places.
-pub fn words_column(b: &[u8], from: u8, step: u8, n: u16, column: &mut [u16])
+pub fn words_column(b: &[u8], from: u8, step: u8, n: u32, column: &mut [u16])
     ensures { λ _. ⌜ now (column .exit) ≡ filled (λ i. wordAt (now (b .entry)) (from + step * i)) n (now (column .entry)) ⌝ }
 {
     let most = smaller(n as usize, column.len());

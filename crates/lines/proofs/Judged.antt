@@ -7,28 +7,28 @@ use mathlib.Core.Option.{none, some}
 use lib.ListN.{length, take, drop, getElem?, List·getD-append, length-append}
 use lib.Dec.{leb}
 use borrow.Author.Tests.{lt-ltb, le-ltb, le-leb, lt-leb}
-use Rattle.model.specs.Limits.{witnessLimit}
+use Rattle.model.specs.Edition.{mostRows, latestTime}
 use Rattle.model.specs.Bytes.{tab}
 use Rattle.model.specs.Numbers.{refusalValues}
 use Rattle.model.specs.First.{unless}
 use Rattle.model.specs.Room.{over}
 use Rattle.model.specs.Table.{monitorAt}
-use Rattle.model.specs.Recording.{packetsAt, recordingAnswer, SoundRecording}
+use Rattle.model.specs.Recording.{packetsAt, recordingAnswer, SoundRecording, endOf}
 use Rattle.model.specs.Witness.{Row, rowAt, rowsAt, witnessCountAt, witnessBytes}
 use Rattle.model.specs.Order.{Preferred}
 use Rattle.model.specs.Claims.{Judged}
 use Rattle.model.specs.Validation.{preferred, verdict, refusal, validation, roomBy, scratchAfter, roomAfter, scratchWanted, roomWanted}
 use Rattle.model.specs.Desk.{filesIn, tableLength, tableIn, recordingIn, budgetIn, line, acceptedWord, rejectedWord, exhaustedWord, refusedWord, rowLines, verdictLines, judgedLines, linesFor, scratchFor, roomFor}
+use Rattle.model.specs.declared.Edition.the-variants.{One}
 use Rattle.model.specs.declared.Reading.{Reading}
 use Rattle.model.specs.declared.Reading.the-variants.{Sound, Unsound}
 use Rattle.model.specs.declared.Refusal.the-variants.{Scratch, WitnessRoom}
 use Rattle.model.specs.declared.Verdict.{Verdict}
 use Rattle.model.specs.declared.Verdict.the-variants.{Accepted, Rejected, Exhausted, Refused}
 use Rattle.model.proofs.Basics.{length-tab}
-use Rattle.model.proofs.Tests.{test}
+use Rattle.model.proofs.Tests.{test, le-test}
 use Rattle.model.proofs.Places.{tab-same}
 use Rattle.model.proofs.WitnessForm.{witness-back, witness-length}
-use Rattle.model.proofs.RecordingForm.{sane-recording}
 use Rattle.model.proofs.Judgement.{sound-judged}
 use Rattle.lines.specs.Written.{Wrote, rowsStanding, FewRows, FilesJudged, Lines}
 use Rattle.lines.proofs.Stores.{wrote-front}
@@ -37,27 +37,27 @@ use Rattle.lines.proofs.Rows.{rows-length}
 
 -- rows that a witness can hold
 pub record Fitting (rows : List Row) : Type 0 where
-  pub few : length rows ≤ witnessLimit
+  pub few : length rows ≤ mostRows One
   pub times : (i : ℕ) (r : Row) → getElem? rows i ≡ some r → r .time < 65536
 
-row-before : (b rest : List ℕ) (i : ℕ) → 9 + 5 * i < length b → rowAt (b ++ rest) i ≡ rowAt b i
+row-before : (b rest : List ℕ) (i : ℕ) → 9 + 5 * i < length b → rowAt One (b ++ rest) i ≡ rowAt One b i
 unfolding rowAt
 row-before b rest i h j =
     record {
       mark = List·getD-append b rest 0 (5 + 5 * i) (omega arith) j;
-      time = 256 * List·getD-append b rest 0 (6 + 5 * i) (omega arith) j + List·getD-append b rest 0 (6 + 5 * i + 1) (omega arith) j;
-      kind = List·getD-append b rest 0 (8 + 5 * i) (omega arith) j;
-      transition = List·getD-append b rest 0 (9 + 5 * i) (omega arith) j;
+      time = 256 * List·getD-append b rest 0 (5 + 5 * i + 1) (omega arith) j + List·getD-append b rest 0 (5 + 5 * i + 1 + 1) (omega arith) j;
+      kind = List·getD-append b rest 0 (5 + 5 * i + 3) (omega arith) j;
+      transition = List·getD-append b rest 0 (5 + 5 * i + 4) (omega arith) j;
     }
 
 -- rows written over a room and read back
-pub rows-back : (rows : List Row) (room : List ℕ) → Fitting rows → tab (rowAt (over (witnessBytes rows) room)) (length rows) ≡ rows
+pub rows-back : (rows : List Row) (room : List ℕ) → Fitting rows → tab (rowAt One (over (witnessBytes One rows) room)) (length rows) ≡ rows
 rows-back rows room fit =
-    let b : List ℕ = witnessBytes rows in
-    let back : rowsAt b ≡ rows = witness-back rows (fit .few) (fit .times) in
-    let n : witnessCountAt b ≡ length rows = sym (length-tab (rowAt b) (witnessCountAt b)) ∙ ap length back in
-    tab-same (rowAt (over b room)) (rowAt b) (length rows) (λ i h. row-before b (drop (length b) room) i (omega (arith, witness-length rows)))
-    ∙ ap (tab (rowAt b)) (sym n)
+    let b : List ℕ = witnessBytes One rows in
+    let back : rowsAt One b ≡ rows = witness-back One rows (fit .few) (fit .times) in
+    let n : witnessCountAt One b ≡ length rows = sym (length-tab (rowAt One b) (witnessCountAt One b)) ∙ ap length back in
+    tab-same (rowAt One (over b room)) (rowAt One b) (length rows) (λ i h. row-before b (drop (length b) room) i (omega (arith, witness-length One rows)))
+    ∙ ap (tab (rowAt One b)) (sym n)
     ∙ back
 
 -- what the lines of a verdict need of its witness
@@ -74,10 +74,10 @@ few-rows (Exhausted budget instant) rows h = tt
 few-rows (Refused r) rows h = tt
 
 pub lines-back : (v : Verdict) (rows : List Row) (room : List ℕ) → Holds v rows
-    → verdictLines v (rowsStanding v (roomBy v (witnessBytes rows) room)) ≡ verdictLines v rows
+    → verdictLines v (rowsStanding v (roomBy v (witnessBytes One rows) room)) ≡ verdictLines v rows
 unfolding verdictLines
 lines-back (Accepted cost n) rows room (e, fit) =
-    ap (verdictLines (Accepted cost n)) (ap (tab (rowAt (over (witnessBytes rows) room))) e ∙ rows-back rows room fit)
+    ap (verdictLines (Accepted cost n)) (ap (tab (rowAt One (over (witnessBytes One rows) room))) e ∙ rows-back rows room fit)
 lines-back (Rejected cost instant) rows room h = refl
 lines-back (Exhausted budget instant) rows room h = refl
 lines-back (Refused r) rows room h = refl
@@ -106,70 +106,70 @@ member [] i r e = absurd (no-some e)
 member (x ∷ rows) zero r e = let h : r ≡ x = cc in List·Memᴰ·head h
 member (x ∷ rows) (suc i) r e = List·Memᴰ·tail (member rows i r e)
 
-module _ (table recording : List ℕ) (sound : SoundRecording table recording) (budget : ℕ) where
+module _ (table recording : List ℕ) (sound : SoundRecording table recording) (early : endOf (packetsAt recording) ≤ latestTime One) (budget : ℕ) where
   abbrev rows : List Row
   rows = preferred (monitorAt table) (packetsAt recording)
 
-  fitting : Preferred (monitorAt table) (packetsAt recording) rows → Fitting rows
+  fitting : Preferred One (monitorAt table) (packetsAt recording) rows → Fitting rows
   fitting p =
-      let last = sane-recording table recording sound .last in
       record {
         few = p .permitted .fits;
         times = λ i r e. let h = p .ends r (member rows i r e) in omega arith;
       }
 
-  by-verdict : (v : Verdict) → Judged (monitorAt table) (packetsAt recording) budget v → Holds v rows
+  by-verdict : (v : Verdict) → Judged One (monitorAt table) (packetsAt recording) budget v → Holds v rows
   by-verdict (Accepted cost n) j = (j .valued .1, fitting (j .witnessed tt))
   by-verdict (Rejected cost instant) j = tt
   by-verdict (Exhausted limit instant) j = tt
   by-verdict (Refused r) j = tt
 
   verdict-holds : Holds (verdict (monitorAt table) (packetsAt recording) budget) rows
-  verdict-holds = by-verdict (verdict (monitorAt table) (packetsAt recording) budget) (sound-judged table recording sound budget)
+  verdict-holds = by-verdict (verdict (monitorAt table) (packetsAt recording) budget) (sound-judged One table recording sound early budget)
 
 pub validation-holds : (table recording : List ℕ) (budget scratchLength roomLength : ℕ)
-    → Holds (validation table recording budget scratchLength roomLength) (preferred (monitorAt table) (packetsAt recording))
+    → Holds (validation One table recording budget scratchLength roomLength) (preferred (monitorAt table) (packetsAt recording))
 unfolding validation refusal
-validation-holds table recording budget scratchLength roomLength = by (refusal table recording scratchLength roomLength) refl
+validation-holds table recording budget scratchLength roomLength = by (refusal One table recording scratchLength roomLength) refl
   where
-    by : (x : Reading) → refusal table recording scratchLength roomLength ≡ x
+    by : (x : Reading) → refusal One table recording scratchLength roomLength ≡ x
         → Holds (elim x [ Sound ↦ verdict (monitorAt table) (packetsAt recording) budget | Unsound r ↦ Refused r ]) (preferred (monitorAt table) (packetsAt recording))
     by Sound e =
         let tests : List Reading =
         recordingAnswer table recording
         ∷ unless (leb (scratchWanted table recording) scratchLength) (Scratch (scratchWanted table recording))
-        ∷ unless (leb (roomWanted recording) roomLength) (WitnessRoom (roomWanted recording))
+        ∷ unless (leb (endOf (packetsAt recording)) (latestTime One)) (WitnessRoom 0)
+        ∷ unless (leb (roomWanted One recording) roomLength) (WitnessRoom (roomWanted One recording))
         ∷ []
         in
-        verdict-holds table recording (test tests e 0) budget
+        verdict-holds table recording (test tests e 0) (le-test _ _ (WitnessRoom 0) (test tests e 2)) budget
     by (Unsound r) e = tt
 
 -- the lines of a validation, with its rows read back from the room that it left
 pub judged-back : (table recording : List ℕ) (budget : ℕ) (scratch room : List ℕ) →
-    let v : Verdict = validation table recording budget (length scratch) (length room) in
-    verdictLines v (rowsStanding v (roomAfter table recording budget scratch room)) ≡ judgedLines (length scratch) (length room) table recording budget
+    let v : Verdict = validation One table recording budget (length scratch) (length room) in
+    verdictLines v (rowsStanding v (roomAfter One table recording budget scratch room)) ≡ judgedLines (length scratch) (length room) table recording budget
 unfolding judgedLines roomAfter
 judged-back table recording budget scratch room =
-    lines-back (validation table recording budget (length scratch) (length room)) (preferred (monitorAt table) (packetsAt recording)) room
+    lines-back (validation One table recording budget (length scratch) (length room)) (preferred (monitorAt table) (packetsAt recording)) room
     (validation-holds table recording budget (length scratch) (length room))
 
 judged-fit : (scratchLength roomLength : ℕ) (table recording : List ℕ) (budget : ℕ) → length (judgedLines scratchLength roomLength table recording budget) ≤ 400000
 unfolding judgedLines
 judged-fit scratchLength roomLength table recording budget =
-    lines-fit (validation table recording budget scratchLength roomLength) (preferred (monitorAt table) (packetsAt recording))
+    lines-fit (validation One table recording budget scratchLength roomLength) (preferred (monitorAt table) (packetsAt recording))
     (validation-holds table recording budget scratchLength roomLength)
 
 pub few-validated : (table recording : List ℕ) (budget scratchLength roomLength : ℕ) (v : Verdict)
-    → v ≡ validation table recording budget scratchLength roomLength → FewRows v
+    → v ≡ validation One table recording budget scratchLength roomLength → FewRows v
 few-validated table recording budget scratchLength roomLength v e =
-    subst FewRows (sym e) (few-rows (validation table recording budget scratchLength roomLength) (preferred (monitorAt table) (packetsAt recording)) (validation-holds table recording budget scratchLength roomLength))
+    subst FewRows (sym e) (few-rows (validation One table recording budget scratchLength roomLength) (preferred (monitorAt table) (packetsAt recording)) (validation-holds table recording budget scratchLength roomLength))
 
 module _ (files table recording : List ℕ) (budget : ℕ) (scratch room : List ℕ) where
   -- a validation of the files' two parts, and its verdict written
   pub judging : {text scratchLeft roomLeft textLeft : List ℕ} {v : Verdict} {next : ℕ} →
       table ≡ take (tableLength files) files → recording ≡ drop (tableLength files) files →
-      v ≡ validation table recording budget (length scratch) (length room) →
-      scratchLeft ≡ scratchAfter table recording budget scratch room → roomLeft ≡ roomAfter table recording budget scratch room →
+      v ≡ validation One table recording budget (length scratch) (length room) →
+      scratchLeft ≡ scratchAfter One table recording budget scratch room → roomLeft ≡ roomAfter One table recording budget scratch room →
       Wrote (verdictLines v (rowsStanding v roomLeft)) 0 text textLeft next →
       FilesJudged files budget scratch room text scratchLeft roomLeft textLeft next
   judging {text} {scratchLeft} {roomLeft} {textLeft} {v} {next} t r e s l w =
@@ -181,11 +181,11 @@ module _ (files table recording : List ℕ) (budget : ℕ) (scratch room : List 
             same (λ q p. Wrote (judgedLines (length scratch) (length room) q p budget) 0 text textLeft next)
             (subst (λ (bytes : List ℕ). Wrote bytes 0 text textLeft next)
             (ap (λ (x : Verdict). verdictLines x (rowsStanding x roomLeft)) e
-            ∙ ap (λ (x : List ℕ). verdictLines (validation table recording budget (length scratch) (length room)) (rowsStanding (validation table recording budget (length scratch) (length room)) x)) l
+            ∙ ap (λ (x : List ℕ). verdictLines (validation One table recording budget (length scratch) (length room)) (rowsStanding (validation One table recording budget (length scratch) (length room)) x)) l
             ∙ judged-back table recording budget scratch room)
             w);
-        scratch-after = same (λ q p. scratchLeft ≡ scratchAfter q p budget scratch room) s;
-        room-after = same (λ q p. roomLeft ≡ roomAfter q p budget scratch room) l;
+        scratch-after = same (λ q p. scratchLeft ≡ scratchAfter One q p budget scratch room) s;
+        room-after = same (λ q p. roomLeft ≡ roomAfter One q p budget scratch room) l;
       }
 
 -- the three ways of an input

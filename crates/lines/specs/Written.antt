@@ -4,11 +4,12 @@ use mathlib.Core.Path.{_≡_}
 use mathlib.Core.List.{List, []}
 use lib.ListN.{length, take, drop}
 use lib.Seq.{sets}
-use Rattle.model.specs.Limits.{witnessLimit}
+use Rattle.model.specs.Edition.{mostRows}
 use Rattle.model.specs.Bytes.{tab}
 use Rattle.model.specs.Desk.{tableLength, linesFor, judgedLines, inText, scratchFor, roomFor}
 use Rattle.model.specs.Validation.{scratchAfter, roomAfter}
 use Rattle.model.specs.Witness.{Row, rowAt}
+use Rattle.model.specs.declared.Edition.the-variants.{One}
 use Rattle.model.specs.declared.Verdict.{Verdict}
 use Rattle.model.specs.declared.Verdict.the-variants.{Accepted, Rejected, Exhausted, Refused}
 
@@ -26,13 +27,13 @@ Small at bytes = at + bytes ≤ 2 ^ 40
 
 -- the rows that stand in a witness room, as many as the verdict says
 abbrev pub rowsStanding : Verdict → List ℕ → List Row
-rowsStanding (Accepted cost rows) witness = tab (rowAt witness) rows
+rowsStanding (Accepted cost rows) witness = tab (rowAt One witness) rows
 rowsStanding (Rejected cost instant) witness = []
 rowsStanding (Exhausted budget instant) witness = []
 rowsStanding (Refused r) witness = []
 
 abbrev pub FewRows : Verdict → Type 0
-FewRows (Accepted cost rows) = rows ≤ witnessLimit
+FewRows (Accepted cost rows) = rows ≤ mostRows One
 FewRows (Rejected cost instant) = Unit {0}
 FewRows (Exhausted budget instant) = Unit {0}
 FewRows (Refused r) = Unit {0}
@@ -41,8 +42,8 @@ FewRows (Refused r) = Unit {0}
 pub record FilesJudged (files : List ℕ) (budget : ℕ) (scratch room text scratchLeft roomLeft textLeft : List ℕ) (next : ℕ) : Type 0 where
   pub wrote :
       Wrote (judgedLines (length scratch) (length room) (take (tableLength files) files) (drop (tableLength files) files) budget) 0 text textLeft next
-  pub scratch-after : scratchLeft ≡ scratchAfter (take (tableLength files) files) (drop (tableLength files) files) budget scratch room
-  pub room-after : roomLeft ≡ roomAfter (take (tableLength files) files) (drop (tableLength files) files) budget scratch room
+  pub scratch-after : scratchLeft ≡ scratchAfter One (take (tableLength files) files) (drop (tableLength files) files) budget scratch room
+  pub room-after : roomLeft ≡ roomAfter One (take (tableLength files) files) (drop (tableLength files) files) budget scratch room
 
 -- what the program's function promises: how many bytes the lines are, and the lent bytes after them; the lines of any input fit 400,000 bytes
 pub record Lines (input scratch room text scratchLeft roomLeft textLeft : List ℕ) (bytes : ℕ) : Type 0 where

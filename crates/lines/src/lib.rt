@@ -4,12 +4,14 @@ ghost use mathlib.Core.Path.{_≡_};
 ghost use mathlib.Core.List.{[], _∷_, _++_};
 ghost use Prim.Native.Nat.{_+_, _*_, _<_, _≤_};
 ghost use lib.ListN.{length};
-ghost use Rattle.model.specs.Limits.{witnessLimit};
+ghost use Rattle.model.specs.Edition.{mostRows};
+ghost use Rattle.model.specs.declared.Edition.the-variants.{One};
 ghost use Rattle.model.specs.Bytes.{tab};
 ghost use Rattle.model.specs.Witness.{rowAt};
 ghost use Rattle.model.specs.Desk.{budgetIn, tableLength, digits, spaced, line, markWord, rowLine, rowLines, verdictLines};
 ghost use Rattle.witness.specs.Rows.{rowOf};
 ghost use Rattle.lines.specs.Written.{Wrote, Small, rowsStanding, FewRows, FilesJudged, Lines};
+use model::Edition;
 use model::KEPT;
 use model::REMOVED;
 use model::Verdict;
@@ -103,15 +105,15 @@ fn row_line(e: Entry, text: &mut [u8], at: usize) -> usize
 }
 
 fn line_at(witness: &[u8], i: usize, text: &mut [u8], at: usize) -> usize
-    requires { ⌜ (i < witnessLimit) × Small at 71 ⌝ }
-    ensures { λ r. ⌜ Wrote (rowLine (rowAt (now (witness .entry)) i)) at (now (text .entry)) (now (text .exit)) r ⌝ }
+    requires { ⌜ (i < mostRows One) × Small at 71 ⌝ }
+    ensures { λ r. ⌜ Wrote (rowLine (rowAt One (now (witness .entry)) i)) at (now (text .entry)) (now (text .exit)) r ⌝ }
 {
-    row_line(row_at(witness, i as u16), text, at)
+    row_line(row_at(Edition::One, witness, i as u32), text, at)
 }
 
 fn row_lines(witness: &[u8], rows: usize, text: &mut [u8], at: usize) -> usize
-    requires { ⌜ (rows ≤ witnessLimit) × Small at (71 * rows) ⌝ }
-    ensures { λ r. ⌜ Wrote (rowLines (tab (rowAt (now (witness .entry))) rows)) at (now (text .entry)) (now (text .exit)) r ⌝ }
+    requires { ⌜ (rows ≤ mostRows One) × Small at (71 * rows) ⌝ }
+    ensures { λ r. ⌜ Wrote (rowLines (tab (rowAt One (now (witness .entry))) rows)) at (now (text .entry)) (now (text .exit)) r ⌝ }
 {
     let mut next = at;
     let mut i = 0;
@@ -163,16 +165,21 @@ fn budget(input: &[u8]) -> u32
     requires { ⌜ 4 ≤ length (now input) ⌝ }
     ensures { λ r. ⌜ r ≡ budgetIn (now (input .entry)) ⌝ }
 {
-    let high = wire::word(input, input.len() - 4) as u32;
-    let low = wire::word(input, input.len() - 2) as u32;
-    65536 * high + low
+    wire::long(input, input.len() - 4)
 }
 
 fn judge(files: &[u8], budget: u32, scratch: &mut [u8], room: &mut [u8], text: &mut [u8]) -> usize
     ensures { λ r. ⌜ FilesJudged (now (files .entry)) budget (now (scratch .entry)) (now (room .entry)) (now (text .entry)) (now (scratch .exit)) (now (room .exit)) (now (text .exit)) r ⌝ }
 {
     let split = table_length(files);
-    let verdict = engine::validate(&files[0..split], &files[split..], budget, scratch, room);
+    let verdict = engine::validate(
+        Edition::One,
+        &files[0..split],
+        &files[split..],
+        budget,
+        scratch,
+        room,
+    );
     verdict_lines(verdict, room, text, 0)
 }
 

@@ -4,6 +4,7 @@ use mathlib.Core.Path.{_≡_, subst, _∙_}
 use mathlib.Core.List.{List}
 use Rattle.model.specs.Numbers.{verdictValues, checkingValues, writingValues}
 use Rattle.model.specs.Room.{Lent}
+use Rattle.model.specs.declared.Edition.{Edition}
 use Rattle.model.specs.declared.Checking.{Checking}
 use Rattle.model.specs.declared.Reading.{Reading}
 use Rattle.model.specs.declared.Verdict.{Verdict}
@@ -15,19 +16,19 @@ use Rattle.checker.specs.Claim.{Checks}
 use Rattle.rewrite.specs.Rewriting.{Rewrites}
 use Rattle.lutarosa.specs.Face.{Validated, Checked, Rewritten}
 
-pub validated : {table recording : List ℕ} {budget : ℕ} {scratch room scratchThen roomThen : List ℕ} {v : Verdict} {a : Answer} →
-    Validates table recording budget scratch room scratchThen roomThen v → told a ≡ verdictValues v →
-    Validated table recording budget scratch room scratchThen roomThen a
-validated {table} {recording} {budget} {scratch} {room} {scratchThen} {roomThen} p e =
+pub validated : {edition : Edition} {table recording : List ℕ} {budget : ℕ} {scratch room scratchThen roomThen : List ℕ} {v : Verdict} {a : Answer} →
+    Validates edition table recording budget scratch room scratchThen roomThen v → told a ≡ verdictValues v →
+    Validated edition table recording budget scratch room scratchThen roomThen a
+validated {edition} {table} {recording} {budget} {scratch} {room} {scratchThen} {roomThen} p e =
     record {
       answered = e ∙ p .numbers;
-      promised = subst (Validates table recording budget scratch room scratchThen roomThen) (p .answered) p;
+      promised = subst (Validates edition table recording budget scratch room scratchThen roomThen) (p .answered) p;
     }
 
-pub checked : {table recording witness : List ℕ} {r : Checking} {a : Answer} → Checks table recording witness r → told a ≡ checkingValues r →
-    Checked table recording witness a
-checked {table} {recording} {witness} p e =
-    record { answered = e ∙ p .numbers; promised = subst (Checks table recording witness) (p .answered) p }
+pub checked : {edition : Edition} {table recording witness : List ℕ} {r : Checking} {a : Answer} → Checks edition table recording witness r → told a ≡ checkingValues r →
+    Checked edition table recording witness a
+checked {edition} {table} {recording} {witness} p e =
+    record { answered = e ∙ p .numbers; promised = subst (Checks edition table recording witness) (p .answered) p }
 
 pub rewritten : {answer : Reading} {b room roomThen : List ℕ} {given : Lent} {r : Writing} {a : Answer} →
     Rewrites answer b room roomThen given r → told a ≡ writingValues r → Rewritten answer b room roomThen given a

@@ -7,6 +7,7 @@ use Rattle.model.specs.Numbers.{verdictValues, checkingValues, writingValues}
 use Rattle.model.specs.Room.{Lent}
 use Rattle.model.specs.Rules.{checkAnswer}
 use Rattle.model.specs.Validation.{validation}
+use Rattle.model.specs.declared.Edition.{Edition}
 use Rattle.model.specs.declared.Reading.{Reading}
 use Rattle.numbers.specs.Told.{told}
 use Rattle.numbers.specs.declared.Answer.{Answer}
@@ -14,13 +15,13 @@ use Rattle.engine.specs.Validates.{Validates}
 use Rattle.checker.specs.Claim.{Checks}
 use Rattle.rewrite.specs.Rewriting.{Rewrites}
 
-pub record Validated (table recording : List ℕ) (budget : ℕ) (scratch room scratchThen roomThen : List ℕ) (a : Answer) : Type 0 where
-  pub answered : told a ≡ verdictValues (validation table recording budget (length scratch) (length room))
-  pub promised : Validates table recording budget scratch room scratchThen roomThen (validation table recording budget (length scratch) (length room))
+pub record Validated (edition : Edition) (table recording : List ℕ) (budget : ℕ) (scratch room scratchThen roomThen : List ℕ) (a : Answer) : Type 0 where
+  pub answered : told a ≡ verdictValues (validation edition table recording budget (length scratch) (length room))
+  pub promised : Validates edition table recording budget scratch room scratchThen roomThen (validation edition table recording budget (length scratch) (length room))
 
-pub record Checked (table recording witness : List ℕ) (a : Answer) : Type 0 where
-  pub answered : told a ≡ checkingValues (checkAnswer table recording witness)
-  pub promised : Checks table recording witness (checkAnswer table recording witness)
+pub record Checked (edition : Edition) (table recording witness : List ℕ) (a : Answer) : Type 0 where
+  pub answered : told a ≡ checkingValues (checkAnswer edition table recording witness)
+  pub promised : Checks edition table recording witness (checkAnswer edition table recording witness)
 
 -- answer: of reading the bytes; given: the definition's answer and room
 pub record Rewritten (answer : Reading) (b room roomThen : List ℕ) (given : Lent) (a : Answer) : Type 0 where

@@ -3,9 +3,11 @@ ghost use Rattle.model.specs.Table.{tableAnswer};
 ghost use Rattle.model.specs.Recording.{recordingAnswer};
 ghost use Rattle.model.specs.Witness.{witnessAnswer};
 ghost use Rattle.rewrite.specs.Rewriting.{rewriteTable, rewriteRecording, rewriteWitness};
+ghost use Rattle.model.specs.declared.Edition.the-variants.{One, Two};
 ghost use Rattle.lutarosa.specs.Face.{Validated, Checked, Rewritten};
 use checker::check_witness;
 use engine::validate;
+use model::Edition;
 use numbers::Answer;
 use numbers::checking_numbers;
 use numbers::verdict_numbers;
@@ -22,16 +24,16 @@ pub extern "C" fn lutarosa_validate<'a>(
     scratch: &mut [u8],
     room: &mut [u8],
 ) -> Answer
-    ensures { λ r. ⌜ Validated (now (table .entry)) (now (recording .entry)) budget (now (scratch .entry)) (now (room .entry)) (now (scratch .exit)) (now (room .exit)) r ⌝ }
+    ensures { λ r. ⌜ Validated One (now (table .entry)) (now (recording .entry)) budget (now (scratch .entry)) (now (room .entry)) (now (scratch .exit)) (now (room .exit)) r ⌝ }
 {
-    verdict_numbers(validate(table, recording, budget, scratch, room))
+    verdict_numbers(validate(Edition::One, table, recording, budget, scratch, room))
 }
 
 #[no_mangle]
 pub extern "C" fn lutarosa_check(table: &[u8], recording: &[u8], witness: &[u8]) -> Answer
-    ensures { λ r. ⌜ Checked (now (table .entry)) (now (recording .entry)) (now (witness .entry)) r ⌝ }
+    ensures { λ r. ⌜ Checked One (now (table .entry)) (now (recording .entry)) (now (witness .entry)) r ⌝ }
 {
-    checking_numbers(check_witness(table, recording, witness))
+    checking_numbers(check_witness(Edition::One, table, recording, witness))
 }
 
 #[no_mangle]
@@ -50,7 +52,36 @@ pub extern "C" fn lutarosa_rewrite_recording(table: &[u8], bytes: &[u8], room: &
 
 #[no_mangle]
 pub extern "C" fn lutarosa_rewrite_witness(bytes: &[u8], room: &mut [u8]) -> Answer
-    ensures { λ r. ⌜ Rewritten (witnessAnswer (now (bytes .entry))) (now (bytes .entry)) (now (room .entry)) (now (room .exit)) (rewriteWitness (now (bytes .entry)) (now (room .entry))) r ⌝ }
+    ensures { λ r. ⌜ Rewritten (witnessAnswer One (now (bytes .entry))) (now (bytes .entry)) (now (room .entry)) (now (room .exit)) (rewriteWitness One (now (bytes .entry)) (now (room .entry))) r ⌝ }
 {
-    writing_numbers(rewrite_witness(bytes, room))
+    writing_numbers(rewrite_witness(Edition::One, bytes, room))
+}
+
+// The same for edition 2 of the witness.
+
+#[no_mangle]
+pub extern "C" fn lutarosa_validate_edition2<'a>(
+    table: &'a [u8],
+    recording: &'a [u8],
+    budget: u32,
+    scratch: &mut [u8],
+    room: &mut [u8],
+) -> Answer
+    ensures { λ r. ⌜ Validated Two (now (table .entry)) (now (recording .entry)) budget (now (scratch .entry)) (now (room .entry)) (now (scratch .exit)) (now (room .exit)) r ⌝ }
+{
+    verdict_numbers(validate(Edition::Two, table, recording, budget, scratch, room))
+}
+
+#[no_mangle]
+pub extern "C" fn lutarosa_check_edition2(table: &[u8], recording: &[u8], witness: &[u8]) -> Answer
+    ensures { λ r. ⌜ Checked Two (now (table .entry)) (now (recording .entry)) (now (witness .entry)) r ⌝ }
+{
+    checking_numbers(check_witness(Edition::Two, table, recording, witness))
+}
+
+#[no_mangle]
+pub extern "C" fn lutarosa_rewrite_witness_edition2(bytes: &[u8], room: &mut [u8]) -> Answer
+    ensures { λ r. ⌜ Rewritten (witnessAnswer Two (now (bytes .entry))) (now (bytes .entry)) (now (room .entry)) (now (room .exit)) (rewriteWitness Two (now (bytes .entry)) (now (room .entry))) r ⌝ }
+{
+    writing_numbers(rewrite_witness(Edition::Two, bytes, room))
 }

@@ -13,6 +13,7 @@ use Rattle.model.specs.Room.{Lent}
 use Rattle.model.specs.Table.{tableAnswer, tableParts, noTable, readTable, tableBytes, writeTable}
 use Rattle.model.specs.Recording.{recordingAnswer, recordingParts, noRecording, readRecording}
 use Rattle.model.specs.Witness.{witnessAnswer, witnessParts, noWitness, readWitness}
+use Rattle.model.specs.declared.Edition.{Edition}
 use Rattle.model.specs.declared.TableReading.{TableReading}
 use Rattle.model.specs.declared.RecordingReading.{RecordingReading}
 use Rattle.model.specs.declared.WitnessReading.{WitnessReading}
@@ -51,9 +52,10 @@ pub recording-reads : (table b : List ℕ) (x : RecordingReading) → x ≡ read
 unfolding readRecording
 recording-reads table b x e = (e, reads-by _ _ _ _ _ (ap (λ (y : RecordingReading). y .answer) e) (ap (λ (y : RecordingReading). y .parts) e))
 
-pub witness-reads : (b : List ℕ) (x : WitnessReading) → x ≡ readWitness b → (x ≡ readWitness b) × Reads (witnessAnswer b) (witnessParts b) noWitness (x .answer) (x .parts)
+pub witness-reads : (edition : Edition) (b : List ℕ) (x : WitnessReading) → x ≡ readWitness edition b
+    → (x ≡ readWitness edition b) × Reads (witnessAnswer edition b) (witnessParts edition b) noWitness (x .answer) (x .parts)
 unfolding readWitness
-witness-reads b x e = (e, reads-by _ _ _ _ _ (ap (λ (y : WitnessReading). y .answer) e) (ap (λ (y : WitnessReading). y .parts) e))
+witness-reads edition b x e = (e, reads-by _ _ _ _ _ (ap (λ (y : WitnessReading). y .answer) e) (ap (λ (y : WitnessReading). y .parts) e))
 
 pub writes-by : (given : Lent) (answer : Writing) (room : List ℕ) → answer ≡ given .answer → room ≡ given .room → Writes given answer room
 writes-by given answer room same lent = record { answered = same; numbers = ap writingValues same; lent = lent }

@@ -10,6 +10,8 @@ use Rattle.model.specs.Table.{monitorAt}
 use Rattle.model.specs.Witness.{Row, kept, removed, noTransition, inForm}
 use Rattle.model.specs.Rules.{sends, removes, keeps, adds, account, broken, Permits}
 use Rattle.model.specs.Validation.{preferred}
+use Rattle.model.specs.declared.Edition.{Edition}
+use Rattle.model.specs.declared.Edition.the-variants.{One, Two}
 use Rattle.model.proofs.Examples.{run}
 
 -- two states, two kinds to the unit. Kind 0 leads from state 0 to state 1, from where nothing leads; kind 1 stays in state 0
@@ -43,7 +45,7 @@ keptRows (r ∷ rs) = cond (eqb (r .mark) kept) 1 0 + keptRows rs
 
 pub record NotTheMost : Type 0 where
   pub first : preferred (monitorAt table) (packetsAt recording) ≡ keepsFirst
-  pub other : Permits (monitorAt table) (packetsAt recording) keepsMost
+  pub other : (edition : Edition) → Permits edition (monitorAt table) (packetsAt recording) keepsMost
   pub fewer : keptRows keepsFirst < keptRows keepsMost
 
 pub not-the-most : NotTheMost
@@ -51,6 +53,10 @@ unfolding table recording keepsFirst keepsMost keptRows run row sends removes ke
 not-the-most =
     record {
       first = refl;
-      other = record { fits = omega arith; unbroken = refl };
+      other = permitted;
       fewer = omega arith;
     }
+  where
+    permitted : (edition : Edition) → Permits edition (monitorAt table) (packetsAt recording) keepsMost
+    permitted One = record { fits = omega arith; unbroken = refl }
+    permitted Two = record { fits = omega arith; unbroken = refl }

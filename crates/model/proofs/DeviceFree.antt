@@ -18,6 +18,7 @@ use Rattle.model.specs.declared.Verdict.the-variants.{Accepted, Rejected
 use Rattle.model.specs.Witness.{Row}
 use Rattle.model.specs.Rules.{Progress, sends, removes, keeps, adds, account, broken}
 use Rattle.model.specs.Validation.{rowsBy, rowsOf, movesOf, preferred, verdict}
+use Rattle.model.specs.declared.Edition.{Edition}
 
 -- a monitor with these devices
 abbrev pub withDevices : List ℕ → Monitor → Monitor
@@ -82,13 +83,13 @@ module _ (devices : List ℕ) (m : Monitor) where
             | false ↦ elim (L.isEmpty (L.layer (size m) moveLimit f (firstNumber m) last)) [ true ↦ Rejected cost last | false ↦ Accepted cost (length rows) ]
           ]
 
-  pub same-broken : (p : Progress) (i : ℕ) (rows : List Row) → broken (withDevices devices m) p i rows ≡ broken m p i rows
+  pub same-broken : (edition : Edition) (p : Progress) (i : ℕ) (rows : List Row) → broken edition (withDevices devices m) p i rows ≡ broken edition m p i rows
   unfolding broken account sends removes keeps adds fires
-  same-broken p i [] = refl
-  same-broken p i (r ∷ rs) = go (account m p r) (λ q. same-broken q (suc i) rs)
+  same-broken edition p i [] = refl
+  same-broken edition p i (r ∷ rs) = go (account edition m p r) (λ q. same-broken edition q (suc i) rs)
     where
       go :
-          (o : Option Progress) → ((q : Progress) → broken (withDevices devices m) q (suc i) rs ≡ broken m q (suc i) rs)
-          → _≡_ {A = Option ℕ} (elim o [ none ↦ some i | some q ↦ broken (withDevices devices m) q (suc i) rs ]) (elim o [ none ↦ some i | some q ↦ broken m q (suc i) rs ])
+          (o : Option Progress) → ((q : Progress) → broken edition (withDevices devices m) q (suc i) rs ≡ broken edition m q (suc i) rs)
+          → _≡_ {A = Option ℕ} (elim o [ none ↦ some i | some q ↦ broken edition (withDevices devices m) q (suc i) rs ]) (elim o [ none ↦ some i | some q ↦ broken edition m q (suc i) rs ])
       go none again = refl
       go (some q) again = again q

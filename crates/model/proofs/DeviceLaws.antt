@@ -116,7 +116,7 @@ first-device devices b i within before there bad =
     let kinds = first-refused (λ k. kindRecord b (at k) (byteAt devices k)) (kindsAt b) i (TableField (at i)) within (before .2) record-is in
     rw (before .0, before .1, kinds)
 
-not-version : (v : ℕ) → (v ≡ 1 → ⊥) → (v ≡ 2 → ⊥) → isVersion tableVersions v ≡ false
+not-version : (v : ℕ) → (v ≡ 1 → ⊥) → (v ≡ 2 → ⊥) → isVersion 1 tableVersions v ≡ false
 not-version zero one two = refl
 not-version (suc zero) one two = absurd (one refl)
 not-version (suc (suc zero)) one two = absurd (two refl)

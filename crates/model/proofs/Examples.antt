@@ -1,4 +1,4 @@
--- The desk's small monitor and its recordings P1 to P12 (document 01), from the bytes of the page through the whole definition of validation:
+-- The desk's small monitor and its recordings P1 to P12 (document 01), for either edition of the witness, from the bytes of the page through the whole definition of validation:
 -- the answer's three values, and every lent byte. Scratch and room are lent dirty.
 use Prim.Native.Nat.{ℕ}
 use mathlib.Core.Path.{_≡_, refl}
@@ -20,6 +20,8 @@ use Rattle.model.specs.Numbers.{Values, values, verdictValues}
 use Rattle.model.specs.Witness.{rowsBytes, witnessBytes}
 use Rattle.model.specs.Validation.{rowsBy, rowsOf, preferred, verdict, refusal, validation, scratchAfter, roomAfter, possibleAfter}
 use Rattle.model.specs.Desk.{digits, rowLines, verdictLines, judgedLines, tableLength, linesFor, deskLines}
+use Rattle.model.specs.declared.Edition.{Edition}
+use Rattle.model.specs.declared.Edition.the-variants.{One}
 
 -- what a run leaves: its values, the scratch and the room
 pub record Run : Type 0 where
@@ -33,13 +35,13 @@ dirtyScratch = replicate 100 7
 dirtyRoom : List ℕ
 dirtyRoom = replicate 90 9
 
-unfoldable pub run : (table recording : List ℕ) → ℕ → Run
+unfoldable pub run : Edition → (table recording : List ℕ) → ℕ → Run
 unfolding dirtyScratch dirtyRoom tab joined padded holds largest leafAt guardAt changed reset fires largestIn greatest cap size among targets reachedIn isReached lowestMissing statesAnswer wholeAnswer guardIn transitionIn monitorOf framed framedRows countsOf impliedDevice deviceAt deviceFits kindRecord kindRecords apart transitionFields guardRecord transitionRecord transitionRecords transitionAt guardPlace tableParts scanWith tableScan answerWith tableAnswer clearOfBefore recordedRow recordedRows recordingFrame recordingScan recordingAnswer recordingParts packetsOf endOf capped sent missed moved stepBy recordedAt moveOf number situationOf stepNumber count firstFrom spread image layer total lastInstant cost passing leads live walk leastMoves rowsBy rowsOf preferred verdict refusal validation bind rowsBytes witnessBytes scratchAfter roomAfter
-run table recording budget =
+run edition table recording budget =
     record {
-      answer = verdictValues (validation table recording budget (length dirtyScratch) (length dirtyRoom));
-      scratch = scratchAfter table recording budget dirtyScratch dirtyRoom;
-      room = roomAfter table recording budget dirtyScratch dirtyRoom;
+      answer = verdictValues (validation edition table recording budget (length dirtyScratch) (length dirtyRoom));
+      scratch = scratchAfter edition table recording budget dirtyScratch dirtyRoom;
+      room = roomAfter edition table recording budget dirtyScratch dirtyRoom;
     }
 
 -- a run that answers 0, 1 or 2: so many bytes of the scratch are zero, and these stand at the start of the room
@@ -71,46 +73,46 @@ two t k u l = 0 ∷ 9 ∷ 1 ∷ 0 ∷ 2 ∷ 0 ∷ t ∷ k ∷ 0 ∷ u ∷ l ∷ 
 unfoldable pub p5 : List ℕ
 p5 = 0 ∷ 12 ∷ 1 ∷ 0 ∷ 3 ∷ 0 ∷ 1 ∷ 0 ∷ 0 ∷ 3 ∷ 2 ∷ 0 ∷ 6 ∷ 1 ∷ []
 
-unfoldable pub runs : (table : List ℕ) → List Run
+unfoldable pub runs : Edition → (table : List ℕ) → List Run
 unfolding run one two p5
-runs table =
-    run table (0 ∷ 3 ∷ 1 ∷ 0 ∷ 0 ∷ []) 0
-    ∷ run table (one 1 0) 10000
-    ∷ run table (one 1 1) 10000
-    ∷ run table (one 1 2) 10000
-    ∷ run table p5 10000
-    ∷ run table p5 13
-    ∷ run table p5 12
-    ∷ run table p5 7
-    ∷ run table (two 1 0 12 0) 10000
-    ∷ run table (two 1 0 3 0) 10000
-    ∷ run table (two 1 0 4 0) 10000
-    ∷ run table (two 1 0 2 0) 10000
-    ∷ run table (two 1 0 4 2) 10000
-    ∷ run table (two 1 0 5 2) 10000
+runs edition table =
+    run edition table (0 ∷ 3 ∷ 1 ∷ 0 ∷ 0 ∷ []) 0
+    ∷ run edition table (one 1 0) 10000
+    ∷ run edition table (one 1 1) 10000
+    ∷ run edition table (one 1 2) 10000
+    ∷ run edition table p5 10000
+    ∷ run edition table p5 13
+    ∷ run edition table p5 12
+    ∷ run edition table p5 7
+    ∷ run edition table (two 1 0 12 0) 10000
+    ∷ run edition table (two 1 0 3 0) 10000
+    ∷ run edition table (two 1 0 4 0) 10000
+    ∷ run edition table (two 1 0 2 0) 10000
+    ∷ run edition table (two 1 0 4 2) 10000
+    ∷ run edition table (two 1 0 5 2) 10000
     ∷ []
 
 p5Witness : List ℕ
 p5Witness = 0 ∷ 18 ∷ 1 ∷ 0 ∷ 3 ∷ 0 ∷ 0 ∷ 1 ∷ 0 ∷ 0 ∷ 1 ∷ 0 ∷ 3 ∷ 2 ∷ 255 ∷ 0 ∷ 0 ∷ 6 ∷ 1 ∷ 2 ∷ []
 
--- P1 to P12 in order. P6 has two budgets and P12 two recordings
-unfoldable pub expected : List Run
+-- P1 to P12 in order. P6 has two budgets and P12 two recordings. The page's witnesses have edition 1; form: what they are in the room
+unfoldable pub expected : (form : List ℕ → List ℕ) → List Run
 unfolding judged refused p5Witness
-expected =
-    judged (values 0 0 0) 6 (0x00 ∷ 0x03 ∷ 0x01 ∷ 0x00 ∷ 0x00 ∷ [])
-    ∷ judged (values 0 1 1) 12 (0x00 ∷ 0x08 ∷ 0x01 ∷ 0x00 ∷ 0x01 ∷ 0x00 ∷ 0x00 ∷ 0x01 ∷ 0x00 ∷ 0x00 ∷ [])
+expected form =
+    judged (values 0 0 0) 6 (form (0x00 ∷ 0x03 ∷ 0x01 ∷ 0x00 ∷ 0x00 ∷ []))
+    ∷ judged (values 0 1 1) 12 (form (0x00 ∷ 0x08 ∷ 0x01 ∷ 0x00 ∷ 0x01 ∷ 0x00 ∷ 0x00 ∷ 0x01 ∷ 0x00 ∷ 0x00 ∷ []))
     ∷ judged (values 1 1 1) 12 []
-    ∷ judged (values 0 1 1) 12 (0 ∷ 8 ∷ 1 ∷ 0 ∷ 1 ∷ 1 ∷ 0 ∷ 1 ∷ 2 ∷ 255 ∷ [])
-    ∷ judged (values 0 13 3) 42 p5Witness
-    ∷ judged (values 0 13 3) 42 p5Witness
+    ∷ judged (values 0 1 1) 12 (form (0 ∷ 8 ∷ 1 ∷ 0 ∷ 1 ∷ 1 ∷ 0 ∷ 1 ∷ 2 ∷ 255 ∷ []))
+    ∷ judged (values 0 13 3) 42 (form p5Witness)
+    ∷ judged (values 0 13 3) 42 (form p5Witness)
     ∷ judged (values 2 12 6) 42 []
     ∷ judged (values 2 7 5) 42 []
-    ∷ judged (values 0 100 3) 78 (0 ∷ 18 ∷ 1 ∷ 0 ∷ 3 ∷ 0 ∷ 0 ∷ 1 ∷ 0 ∷ 0 ∷ 2 ∷ 0 ∷ 7 ∷ 1 ∷ 2 ∷ 0 ∷ 0 ∷ 12 ∷ 0 ∷ 4 ∷ [])
+    ∷ judged (values 0 100 3) 78 (form (0 ∷ 18 ∷ 1 ∷ 0 ∷ 3 ∷ 0 ∷ 0 ∷ 1 ∷ 0 ∷ 0 ∷ 2 ∷ 0 ∷ 7 ∷ 1 ∷ 2 ∷ 0 ∷ 0 ∷ 12 ∷ 0 ∷ 4 ∷ []))
     ∷ judged (values 1 3 3) 24 []
-    ∷ judged (values 0 5 3) 30 (0 ∷ 18 ∷ 1 ∷ 0 ∷ 3 ∷ 0 ∷ 0 ∷ 1 ∷ 0 ∷ 0 ∷ 2 ∷ 0 ∷ 3 ∷ 2 ∷ 1 ∷ 0 ∷ 0 ∷ 4 ∷ 0 ∷ 0 ∷ [])
+    ∷ judged (values 0 5 3) 30 (form (0 ∷ 18 ∷ 1 ∷ 0 ∷ 3 ∷ 0 ∷ 0 ∷ 1 ∷ 0 ∷ 0 ∷ 2 ∷ 0 ∷ 3 ∷ 2 ∷ 1 ∷ 0 ∷ 0 ∷ 4 ∷ 0 ∷ 0 ∷ []))
     ∷ refused (values 24 1 0)
-    ∷ judged (values 0 5 2) 30 (0 ∷ 13 ∷ 1 ∷ 0 ∷ 2 ∷ 0 ∷ 0 ∷ 1 ∷ 0 ∷ 0 ∷ 0 ∷ 0 ∷ 4 ∷ 2 ∷ 1 ∷ [])
-    ∷ judged (values 0 8 2) 36 (0 ∷ 13 ∷ 1 ∷ 0 ∷ 2 ∷ 0 ∷ 0 ∷ 1 ∷ 0 ∷ 0 ∷ 1 ∷ 0 ∷ 5 ∷ 2 ∷ 255 ∷ [])
+    ∷ judged (values 0 5 2) 30 (form (0 ∷ 13 ∷ 1 ∷ 0 ∷ 2 ∷ 0 ∷ 0 ∷ 1 ∷ 0 ∷ 0 ∷ 0 ∷ 0 ∷ 4 ∷ 2 ∷ 1 ∷ []))
+    ∷ judged (values 0 8 2) 36 (form (0 ∷ 13 ∷ 1 ∷ 0 ∷ 2 ∷ 0 ∷ 0 ∷ 1 ∷ 0 ∷ 0 ∷ 1 ∷ 0 ∷ 5 ∷ 2 ∷ 255 ∷ []))
     ∷ []
 
 -- P5's input to the program: table, recording, four-byte budget
@@ -137,7 +139,7 @@ p5Output =
 
 -- what document 01 says of P1 to P12
 pub record Page : Type 0 where
-  pub runs-right : runs table ≡ expected
+  pub runs-right : runs One table ≡ expected (λ witness. witness)
   pub p5-works : works table p5 6 ≡ 1 ∷ 1 ∷ 1 ∷ 2 ∷ 3 ∷ 5 ∷ []
   pub p5-output : printed p5Input ≡ p5Output
 

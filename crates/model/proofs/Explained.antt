@@ -13,6 +13,7 @@ use Rattle.model.specs.Trace.{Packet, PacketTrace}
 use Rattle.model.specs.Witness.{Row, kept, removed, added, isRemoved, inForm, follows, inPlace, misformed, Formed, marked}
 use Rattle.model.specs.Rules.{Progress, begin, noneBefore, isNext, noneAt, others, behindRow, sends, removes, keeps, adds, account, broken}
 use Rattle.model.specs.Claims.{packetOf, heard, sentRows, packets, CarriedBy, Explains}
+use Rattle.model.specs.declared.Edition.{Edition}
 use Rattle.model.proofs.Basics.{and-left, and-right, both-true, cond-some}
 use Rattle.model.proofs.RowLaws.{in-form, byMark, passed, sends-fires, first-row}
 use Rattle.model.proofs.Spacing.{freeAfter, TraceFrom, trace-from, from-earlier, spaced-from}
@@ -26,11 +27,11 @@ module _ {A : Type 0} where
 
 -- the form of rows
 
-misformed-cons : (b : Option Row) (i : ℕ) (r : Row) (rs : List Row) → misformed b i (r ∷ rs) ≡ none → (inPlace b r ≡ true) × (misformed (some r) (suc i) rs ≡ none)
+misformed-cons : (edition : Edition) (b : Option Row) (i : ℕ) (r : Row) (rs : List Row) → misformed edition b i (r ∷ rs) ≡ none → (inPlace edition b r ≡ true) × (misformed edition (some r) (suc i) rs ≡ none)
 unfolding misformed
-misformed-cons b i r rs e = go (inPlace b r) refl
+misformed-cons edition b i r rs e = go (inPlace edition b r) refl
   where
-    go : (t : Bool) → inPlace b r ≡ t → (inPlace b r ≡ true) × (misformed (some r) (suc i) rs ≡ none)
+    go : (t : Bool) → inPlace edition b r ≡ t → (inPlace edition b r ≡ true) × (misformed edition (some r) (suc i) rs ≡ none)
     go true h = (h, cc)
     go false h = let z : _≡_ {A = ℕ} 0 1 = cc in absurd (omega arith)
 
@@ -44,18 +45,18 @@ from-down u v [] h f = tt
 from-down u v (r ∷ rs) h f = omega arith
 
 -- behind a row, each row is later
-from-past : (b : Row) (i : ℕ) (rs : List Row) → misformed (some b) i rs ≡ none → From (suc (b .time)) rs
-from-past b i [] e = tt
-from-past b i (r ∷ rs) e = ltb-true (b .time) (r .time) (and-right (inForm r) (follows b r) (misformed-cons (some b) i r rs e .0))
+from-past : (edition : Edition) (b : Row) (i : ℕ) (rs : List Row) → misformed edition (some b) i rs ≡ none → From (suc (b .time)) rs
+from-past edition b i [] e = tt
+from-past edition b i (r ∷ rs) e = ltb-true (b .time) (r .time) (and-right (inForm edition r) (follows b r) (misformed-cons edition (some b) i r rs e .0))
 
 -- the recorded rows are not before u either
-heard-from : (u : ℕ) (b : Option Row) (i : ℕ) (rows : List Row) → misformed b i rows ≡ none → From u rows → noneBefore (heard rows) u ≡ true
+heard-from : (edition : Edition) (u : ℕ) (b : Option Row) (i : ℕ) (rows : List Row) → misformed edition b i rows ≡ none → From u rows → noneBefore (heard rows) u ≡ true
 unfolding heard
-heard-from u b i [] e h = refl
-heard-from u b i (r ∷ rs) e h = go (eqb (r .mark) added) (heard-from u (some r) (suc i) rs e' (from-down u (suc (r .time)) rs (omega arith) (from-past r (suc i) rs e')))
+heard-from edition u b i [] e h = refl
+heard-from edition u b i (r ∷ rs) e h = go (eqb (r .mark) added) (heard-from edition u (some r) (suc i) rs e' (from-down u (suc (r .time)) rs (omega arith) (from-past edition r (suc i) rs e')))
   where
-    e' : misformed (some r) (suc i) rs ≡ none
-    e' = misformed-cons b i r rs e .1
+    e' : misformed edition (some r) (suc i) rs ≡ none
+    e' = misformed-cons edition b i r rs e .1
 
     go : (t : Bool) → noneBefore (heard rs) u ≡ true → noneBefore (cond t (heard rs) (packetOf r ∷ heard rs)) u ≡ true
     go true again = again
@@ -106,12 +107,12 @@ inbound-cons m r rs now behind s i e = ⊎-elim (λ q. here q) (λ l. behind s l
 abbrev removedTo : Monitor → Progress → Row → Progress
 removedTo m p r = behindRow m r (others (p .left)) (p .now) (p .config)
 
-module _ (m : Monitor) (rs : List Row) where
-  continues-cons : (mark t k j : ℕ) (p q : Progress) → account m p (marked mark t k j) ≡ some q → Continues m q rs → Continues m p (marked mark t k j ∷ rs)
+module _ (edition : Edition) (m : Monitor) (rs : List Row) where
+  continues-cons : (mark t k j : ℕ) (p q : Progress) → account edition m p (marked mark t k j) ≡ some q → Continues m q rs → Continues m p (marked mark t k j ∷ rs)
   unfolding keeps removes adds heard sentRows packets
   continues-cons zero t k j p q e c =
       let r : Row = marked 0 t k j in
-      let a = passed m p r q e in
+      let a = passed edition m p r q e in
       let n = cond-some (isNext (p .left) r) (sends m p r (others (p .left))) q (a .by) in
       let f = sent-continues m p r (others (p .left)) rs q (n .1) c in
       record {
@@ -122,7 +123,7 @@ module _ (m : Monitor) (rs : List Row) where
       }
   continues-cons (suc zero) t k j p q e c =
       let r : Row = marked 1 t k j in
-      let a = passed m p r q e in
+      let a = passed edition m p r q e in
       let n = cond-some (isNext (p .left) r && toUnit m k) (some (removedTo m p r)) q (a .by) in
       let same : removedTo m p r ≡ q = cc in
       let d : Continues m (removedTo m p r) rs = subst (λ x. Continues m x rs) (sym same) c in
@@ -134,7 +135,7 @@ module _ (m : Monitor) (rs : List Row) where
       }
   continues-cons (suc (suc zero)) t k j p q e c =
       let r : Row = marked 2 t k j in
-      let a = passed m p r q e in
+      let a = passed edition m p r q e in
       let n = cond-some (noneAt (p .left) t) (sends m p r (p .left)) q (a .by) in
       let f = sent-continues m p r (p .left) rs q (n .1) c in
       record {
@@ -145,27 +146,27 @@ module _ (m : Monitor) (rs : List Row) where
       }
   continues-cons (suc (suc (suc n))) t k j p q e c =
       let r : Row = marked (suc (suc (suc n))) t k j in
-      let h : suc (suc (suc n)) ≤ 2 = in-form (p .before) r (passed m p r q e .placed) .mark in
+      let h : suc (suc (suc n)) ≤ 2 = in-form edition (p .before) r (passed edition m p r q e .placed) .mark in
       absurd (omega arith)
 
 -- one row, backwards
 
-record Accounted (m : Monitor) (p : Progress) (r : Row) (rs : List Row) : Type 0 where
+record Accounted (edition : Edition) (m : Monitor) (p : Progress) (r : Row) (rs : List Row) : Type 0 where
   next : Progress
-  accounted : account m p r ≡ some next
+  accounted : account edition m p r ≡ some next
   last : next .before ≡ some r
   continues : Continues m next rs
 
-module _ (m : Monitor) (p : Progress) (r : Row) (rs : List Row) (i : ℕ) where
+module _ (edition : Edition) (m : Monitor) (p : Progress) (r : Row) (rs : List Row) (i : ℕ) where
   -- a row in form behind those that explain the recording so far: its mark's rule decides
-  account-ready : misformed (p .before) i (r ∷ rs) ≡ none → heard (r ∷ rs) ≡ p .left → p .free ≤ r .time →
-      account m p r ≡ byMark m p r
+  account-ready : misformed edition (p .before) i (r ∷ rs) ≡ none → heard (r ∷ rs) ≡ p .left → p .free ≤ r .time →
+      account edition m p r ≡ byMark m p r
   unfolding account
   account-ready e a free =
-      cond-true (inPlace (p .before) r && noneBefore (p .left) (r .time) && leb (p .free) (r .time)) (byMark m p r)
-      (both-true (inPlace (p .before) r && noneBefore (p .left) (r .time)) _
-      (both-true _ _ (misformed-cons (p .before) i r rs e .0)
-      (subst (λ (l : List Packet). noneBefore l (r .time) ≡ true) a (heard-from (r .time) (p .before) i (r ∷ rs) e (omega arith))))
+      cond-true (inPlace edition (p .before) r && noneBefore (p .left) (r .time) && leb (p .free) (r .time)) (byMark m p r)
+      (both-true (inPlace edition (p .before) r && noneBefore (p .left) (r .time)) _
+      (both-true _ _ (misformed-cons edition (p .before) i r rs e .0)
+      (subst (λ (l : List Packet). noneBefore l (r .time) ≡ true) a (heard-from edition (r .time) (p .before) i (r ∷ rs) e (omega arith))))
       (le-leb (p .free) (r .time) free))
 
 cons-next : (left : List Packet) (r : Row) (l : List Packet) → packetOf r ∷ l ≡ left → (isNext left r ≡ true) × (l ≡ others left)
@@ -173,7 +174,7 @@ cons-next left r l e =
     subst (λ (x : List Packet). (isNext x r ≡ true) × (l ≡ others x)) e
     (both-true (eqb (r .time) (r .time)) (eqb (r .kind) (r .kind)) (eq-eqb (r .time) (r .time) refl) (eq-eqb (r .kind) (r .kind) refl), refl)
 
-module _ (m : Monitor) (rs : List Row) where
+module _ (edition : Edition) (m : Monitor) (rs : List Row) where
   -- rows that explain what is left explain, without the first, what is left behind it
   continues-behind : {p : Progress} (r : Row) (left : List Packet) (now : ℕ) (d : Config) → Continues m p (r ∷ rs) → heard rs ≡ left → CarriedBy m now d (sentRows rs)
       → Continues m (behindRow m r left now d) rs
@@ -181,7 +182,7 @@ module _ (m : Monitor) (rs : List Row) where
   continues-behind r left now d c a b =
       record { accounts = a; inbound = λ s l. c .inbound s (List·Memᴰ·tail l); clear = spaced-from m (packetOf r) (packets rs) .0 (c .clear .1); carried = b }
 
-  account-cons : (mark t k j : ℕ) (p : Progress) (i : ℕ) → misformed (p .before) i (marked mark t k j ∷ rs) ≡ none → Continues m p (marked mark t k j ∷ rs) → Accounted m p (marked mark t k j) rs
+  account-cons : (mark t k j : ℕ) (p : Progress) (i : ℕ) → misformed edition (p .before) i (marked mark t k j ∷ rs) ≡ none → Continues m p (marked mark t k j ∷ rs) → Accounted edition m p (marked mark t k j) rs
   unfolding keeps removes adds heard sentRows packets
   account-cons zero t k j p i e c =
       let r : Row = marked 0 t k j in
@@ -189,7 +190,7 @@ module _ (m : Monitor) (rs : List Row) where
       let d = c .carried in
       record {
         next = behindRow m r (others (p .left)) t (d .0);
-        accounted = account-ready m p r rs i e (c .accounts) (c .clear .0) ∙ (cond-true (isNext (p .left) r) _ (n .0) ∙ some-sends m p r (others (p .left)) (d .0) (d .1));
+        accounted = account-ready edition m p r rs i e (c .accounts) (c .clear .0) ∙ (cond-true (isNext (p .left) r) _ (n .0) ∙ some-sends m p r (others (p .left)) (d .0) (d .1));
         last = refl;
         continues = continues-behind r (others (p .left)) t (d .0) c (n .1) (d .2);
       }
@@ -199,7 +200,7 @@ module _ (m : Monitor) (rs : List Row) where
       record {
         next = removedTo m p r;
         accounted =
-            account-ready m p r rs i e (c .accounts) (c .clear .0)
+            account-ready edition m p r rs i e (c .accounts) (c .clear .0)
             ∙ cond-true (isNext (p .left) r && toUnit m k) _ (both-true _ _ (n .0) (c .inbound r (List·Memᴰ·head refl) refl));
         last = refl;
         continues = continues-behind r (others (p .left)) (p .now) (p .config) c (n .1) (c .carried);
@@ -207,45 +208,45 @@ module _ (m : Monitor) (rs : List Row) where
   account-cons (suc (suc zero)) t k j p i e c =
       let r : Row = marked 2 t k j in
       let d = c .carried in
-      let f = misformed-cons (p .before) i r rs e .1 in
-      let n : noneAt (p .left) t ≡ true = subst (λ (l : List Packet). noneAt l t ≡ true) (c .accounts) (none-at (heard rs) t (heard-from (suc t) (some r) (suc i) rs f (from-past r (suc i) rs f))) in
+      let f = misformed-cons edition (p .before) i r rs e .1 in
+      let n : noneAt (p .left) t ≡ true = subst (λ (l : List Packet). noneAt l t ≡ true) (c .accounts) (none-at (heard rs) t (heard-from edition (suc t) (some r) (suc i) rs f (from-past edition r (suc i) rs f))) in
       record {
         next = behindRow m r (p .left) t (d .0);
-        accounted = account-ready m p r rs i e (c .accounts) (c .clear .0) ∙ (cond-true (noneAt (p .left) t) _ n ∙ some-sends m p r (p .left) (d .0) (d .1));
+        accounted = account-ready edition m p r rs i e (c .accounts) (c .clear .0) ∙ (cond-true (noneAt (p .left) t) _ n ∙ some-sends m p r (p .left) (d .0) (d .1));
         last = refl;
         continues = continues-behind r (p .left) t (d .0) c (c .accounts) (d .2);
       }
   account-cons (suc (suc (suc n))) t k j p i e c =
       let r : Row = marked (suc (suc (suc n))) t k j in
-      let h : suc (suc (suc n)) ≤ 2 = in-form (p .before) r (misformed-cons (p .before) i r rs e .0) .mark in
+      let h : suc (suc (suc n)) ≤ 2 = in-form edition (p .before) r (misformed-cons edition (p .before) i r rs e .0) .mark in
       absurd (omega arith)
 
 -- all rows
 
 -- rows that break no rule explain what is left
-broken-continues : (m : Monitor) (p : Progress) (i : ℕ) (rows : List Row) → broken m p i rows ≡ none → Continues m p rows
+broken-continues : (edition : Edition) (m : Monitor) (p : Progress) (i : ℕ) (rows : List Row) → broken edition m p i rows ≡ none → Continues m p rows
 unfolding broken heard sentRows packets
-broken-continues m p i [] e = record { accounts = empty (p .left) refl; inbound = λ r l. absurd (List·Memᴰ·not-nil l); clear = tt; carried = tt }
+broken-continues edition m p i [] e = record { accounts = empty (p .left) refl; inbound = λ r l. absurd (List·Memᴰ·not-nil l); clear = tt; carried = tt }
   where
     empty : (left : List Packet) → p .left ≡ left → [] ≡ p .left
     empty [] h = sym h
     empty (q ∷ qs) h = let z : _≡_ {A = ℕ} 0 1 = cc in absurd (omega arith)
-broken-continues m p i (r ∷ rs) e =
-    let h = first-row m p i r rs e in
-    continues-cons m rs (r .mark) (r .time) (r .kind) (r .transition) p (h .0) (h .1) (broken-continues m (h .0) (suc i) rs (h .2))
+broken-continues edition m p i (r ∷ rs) e =
+    let h = first-row edition m p i r rs e in
+    continues-cons edition m rs (r .mark) (r .time) (r .kind) (r .transition) p (h .0) (h .1) (broken-continues edition m (h .0) (suc i) rs (h .2))
 
 -- formed rows that explain what is left break no rule
-continues-broken : (m : Monitor) (p : Progress) (i j : ℕ) (rows : List Row) → misformed (p .before) i rows ≡ none → Continues m p rows → broken m p j rows ≡ none
+continues-broken : (edition : Edition) (m : Monitor) (p : Progress) (i j : ℕ) (rows : List Row) → misformed edition (p .before) i rows ≡ none → Continues m p rows → broken edition m p j rows ≡ none
 unfolding broken heard
-continues-broken m p i j [] e c = cc
-continues-broken m p i j (r ∷ rs) e c =
-    let a : Accounted m p r rs = account-cons m rs (r .mark) (r .time) (r .kind) (r .transition) p i e c in
-    let f : misformed (a .next .before) (suc i) rs ≡ none = subst (λ (b : Option Row). misformed b (suc i) rs ≡ none) (sym (a .last)) (misformed-cons (p .before) i r rs e .1) in
-    rw (a .accounted, broken) (continues-broken m (a .next) (suc i) (suc j) rs f (a .continues))
+continues-broken edition m p i j [] e c = cc
+continues-broken edition m p i j (r ∷ rs) e c =
+    let a : Accounted edition m p r rs = account-cons edition m rs (r .mark) (r .time) (r .kind) (r .transition) p i e c in
+    let f : misformed edition (a .next .before) (suc i) rs ≡ none = subst (λ (b : Option Row). misformed edition b (suc i) rs ≡ none) (sym (a .last)) (misformed-cons edition (p .before) i r rs e .1) in
+    rw (a .accounted, broken) (continues-broken edition m (a .next) (suc i) (suc j) rs f (a .continues))
 
-account-last : (m : Monitor) (p : Progress) (r : Row) {q : Progress} → account m p r ≡ some q → q .before ≡ some r
+account-last : (edition : Edition) (m : Monitor) (p : Progress) (r : Row) {q : Progress} → account edition m p r ≡ some q → q .before ≡ some r
 unfolding keeps removes adds
-account-last m p r {q} e = go (eqb (r .mark) kept) (isRemoved r) (passed m p r q e .by)
+account-last edition m p r {q} e = go (eqb (r .mark) kept) (isRemoved r) (passed edition m p r q e .by)
   where
     sent-last : (left : List Packet) → sends m p r left ≡ some q → q .before ≡ some r
     sent-last left h = ap (λ (x : Progress). x .before) (sym (sends-fires m p r left q h .2))
@@ -256,32 +257,32 @@ account-last m p r {q} e = go (eqb (r .mark) kept) (isRemoved r) (passed m p r q
     go false false h = sent-last (p .left) (cond-some (noneAt (p .left) (r .time)) (sends m p r (p .left)) q h .1)
 
 -- each row's form is tested
-broken-formed : (m : Monitor) (p : Progress) (i j : ℕ) (rows : List Row) → broken m p i rows ≡ none → misformed (p .before) j rows ≡ none
+broken-formed : (edition : Edition) (m : Monitor) (p : Progress) (i j : ℕ) (rows : List Row) → broken edition m p i rows ≡ none → misformed edition (p .before) j rows ≡ none
 unfolding misformed
-broken-formed m p i j [] e = refl
-broken-formed m p i j (r ∷ rs) e =
-    let h = first-row m p i r rs e in
-    let f : misformed (some r) (suc j) rs ≡ none = subst (λ (b : Option Row). misformed b (suc j) rs ≡ none) (account-last m p r (h .1)) (broken-formed m (h .0) (suc i) (suc j) rs (h .2)) in
-    rw (passed m p r (h .0) (h .1) .placed, misformed) f
+broken-formed edition m p i j [] e = refl
+broken-formed edition m p i j (r ∷ rs) e =
+    let h = first-row edition m p i r rs e in
+    let f : misformed edition (some r) (suc j) rs ≡ none = subst (λ (b : Option Row). misformed edition b (suc j) rs ≡ none) (account-last edition m p r (h .1)) (broken-formed edition m (h .0) (suc i) (suc j) rs (h .2)) in
+    rw (passed edition m p r (h .0) (h .1) .placed, misformed) f
 
-pub unbroken-formed : (m : Monitor) (recording : List Packet) (rows : List Row) → broken m (begin recording) 0 rows ≡ none → Formed rows
-unbroken-formed m recording rows e = broken-formed m (begin recording) 0 0 rows e
+pub unbroken-formed : (edition : Edition) (m : Monitor) (recording : List Packet) (rows : List Row) → broken edition m (begin recording) 0 rows ≡ none → Formed edition rows
+unbroken-formed edition m recording rows e = broken-formed edition m (begin recording) 0 0 rows e
 
-pub explained : (m : Monitor) (recording : List Packet) (rows : List Row) → Formed rows → (broken m (begin recording) 0 rows ≡ none) ↔ Explains m recording rows
+pub explained : (edition : Edition) (m : Monitor) (recording : List Packet) (rows : List Row) → Formed edition rows → (broken edition m (begin recording) 0 rows ≡ none) ↔ Explains m recording rows
 unfolding packets
-explained m recording rows f = (onto, from)
+explained edition m recording rows f = (onto, from)
   where
     -- times are from 1 up by the form
-    formed-trace : (l : List Row) → Formed l → TraceFrom m 0 (packets l) → PacketTrace m (packets l)
+    formed-trace : (l : List Row) → Formed edition l → TraceFrom m 0 (packets l) → PacketTrace m (packets l)
     formed-trace [] h x = tt
-    formed-trace (r ∷ rs) h x = (in-form none r (misformed-cons none 0 r rs h .0) .time, x .1)
+    formed-trace (r ∷ rs) h x = (in-form edition none r (misformed-cons edition none 0 r rs h .0) .time, x .1)
 
-    onto : broken m (begin recording) 0 rows ≡ none → Explains m recording rows
+    onto : broken edition m (begin recording) 0 rows ≡ none → Explains m recording rows
     onto e =
-        let c = broken-continues m (begin recording) 0 rows e in
+        let c = broken-continues edition m (begin recording) 0 rows e in
         record { accounts = c .accounts; inbound = c .inbound; spaced = formed-trace rows f (c .clear); carried = c .carried }
 
-    from : Explains m recording rows → broken m (begin recording) 0 rows ≡ none
+    from : Explains m recording rows → broken edition m (begin recording) 0 rows ≡ none
     from x =
-        continues-broken m (begin recording) 0 0 rows f
+        continues-broken edition m (begin recording) 0 0 rows f
         (record { accounts = x .accounts; inbound = x .inbound; clear = from-earlier m 1 0 (packets rows) (omega arith) (trace-from m (packets rows) .0 (x .spaced)); carried = x .carried })

@@ -26,6 +26,8 @@ use Rattle.model.specs.declared.Situation.{Situation}
 use Rattle.model.specs.declared.Verdict.{Verdict}
 use Rattle.model.specs.declared.Verdict.the-variants.{Accepted, Rejected, Exhausted}
 use Rattle.model.specs.Sane.{Sane, SaneRecording}
+use Rattle.model.specs.Edition.{latestTime}
+use Rattle.model.specs.declared.Edition.{Edition}
 use Rattle.model.proofs.Chains.{Moves, Less}
 use Rattle.model.proofs.TableForm.{sane-table}
 use Rattle.model.proofs.RecordingForm.{sound-table, sane-recording}
@@ -39,6 +41,7 @@ use Rattle.model.proofs.Ordered.{rows-before}
 use Rattle.model.proofs.TraceMoves.{possible-moves}
 use Rattle.model.proofs.MoveRows.{moves-permitted, rows-short}
 use Rattle.model.proofs.RowMoves.{permitted-moves}
+use Rattle.model.proofs.EditionLaws.{times-rows}
 
 -- the verdict by two tests: is the cost above the budget, and is no situation left
 abbrev verdict-by : Monitor → List Packet → ℕ → (over empty : Bool) → Verdict
@@ -54,7 +57,7 @@ verdict-is m recording budget true empty p q = rw (p, verdict)
 verdict-is m recording budget false true p q = rw (p, q, verdict)
 verdict-is m recording budget false false p q = rw (p, q, verdict)
 
-module _ (m : Monitor) (recording : List Packet) (sane : Sane m) (sound : SaneRecording m recording) where
+module _ (edition : Edition) (m : Monitor) (recording : List Packet) (sane : Sane m) (sound : SaneRecording m recording) (fits : endOf recording ≤ latestTime edition) where
   -- a list of moves, one for each instant, that can be carried with real clocks
   abbrev Carried : Type 0
   Carried = (ks : List ℕ) × (z : Situation) × (length ks ≡ endOf recording) × Moves m recording 0 (firstBy uncapped) ks z
@@ -66,8 +69,8 @@ module _ (m : Monitor) (recording : List Packet) (sane : Sane m) (sound : SaneRe
   carried-possible : Carried → Possible m recording
   carried-possible (ks, z, e, h) =
       let rows : List Row = rowsOf m recording 1 ks in
-      let u : broken m (begin recording) 0 rows ≡ none = moves-permitted m recording sane sound ks z e h .0 in
-      explains-possible m recording rows (explained m recording rows (unbroken-formed m recording rows u) .0 u)
+      let u : broken edition m (begin recording) 0 rows ≡ none = moves-permitted edition m recording sane sound fits ks z e h .0 in
+      explains-possible m recording rows (explained edition m recording rows (unbroken-formed edition m recording rows u) .0 u)
 
   carried-left : Carried → 0 < left
   carried-left (ks, z, e, h) =
@@ -97,9 +100,9 @@ module _ (m : Monitor) (recording : List Packet) (sane : Sane m) (sound : SaneRe
       omega arith
 
   -- every other permitted witness comes from moves that the least ones come before
-  before-others : Carried → (v : List Row) → Permits m recording v → EndsBy (endOf recording) v → (v ≡ preferred m recording → ⊥) → Before (preferred m recording) v
+  before-others : Carried → (v : List Row) → Permits edition m recording v → EndsBy (endOf recording) v → (v ≡ preferred m recording → ⊥) → Before (preferred m recording) v
   unfolding preferred
-  before-others c v p e other = by (permitted-moves m recording sane sound v (p .unbroken) e)
+  before-others c v p e other = by (permitted-moves edition m recording sane sound fits v (p .unbroken) e)
     where
       by : (ks : List ℕ) × (z : Situation) × (length ks ≡ endOf recording) × Moves m recording 0 (firstBy uncapped) ks z × (rowsOf m recording 1 ks ≡ v)
           → Before (rowsOf m recording 1 (movesOf m recording)) v
@@ -113,22 +116,20 @@ module _ (m : Monitor) (recording : List Packet) (sane : Sane m) (sound : SaneRe
               subst (λ (w : List Row). Before (rowsOf m recording 1 (movesOf m recording)) w) r
               (rows-before m recording (movesOf m recording) ks (firstBy uncapped) (least-carried c .0) (firstBy uncapped) z (least-carried c .1) h less)
 
-  preferred-first : Carried → Preferred m recording (preferred m recording)
+  preferred-first : Carried → Preferred edition m recording (preferred m recording)
   unfolding preferred
   preferred-first c =
       let n = length-least (size m) moveLimit (stepNumber m recording) (firstNumber m) (endOf recording) in
       let w = least-carried c in
-      let p = moves-permitted m recording sane sound (movesOf m recording) (w .0) n (w .1) in
-      let few = sound .few in
-      let last = sound .last in
+      let p = moves-permitted edition m recording sane sound fits (movesOf m recording) (w .0) n (w .1) in
       record {
-        permitted = record { fits = le-trans short (omega arith); unbroken = p .0 };
+        permitted = record { fits = le-trans short (le-trans fits (times-rows edition)); unbroken = p .0 };
         ends = p .1;
         first = before-others c;
       }
 
   -- where a mutation trace satisfies the monitor, the witness of the least moves is the preferred one
-  pub possible-preferred : Possible m recording → Preferred m recording (preferred m recording)
+  pub possible-preferred : Possible m recording → Preferred edition m recording (preferred m recording)
   possible-preferred p = preferred-first (possible-moves m recording sane sound p)
 
   bounded : costOf m recording ≤ endOf recording * size m
@@ -159,7 +160,7 @@ module _ (m : Monitor) (recording : List Packet) (sane : Sane m) (sound : SaneRe
       record { within = w; past = p; before = b }
 
   by-tests : (budget : ℕ) (over empty : Bool) → ltb budget (costOf m recording) ≡ over
-      → isEmpty (possibleAfter m recording (lastOf m recording)) ≡ empty → Judged m recording budget (verdict-by m recording budget over empty)
+      → isEmpty (possibleAfter m recording (lastOf m recording)) ≡ empty → Judged edition m recording budget (verdict-by m recording budget over empty)
   by-tests budget true empty p q =
       let h : budget < costOf m recording = ltb-true budget (costOf m recording) p in
       record {
@@ -197,12 +198,12 @@ module _ (m : Monitor) (recording : List Packet) (sane : Sane m) (sound : SaneRe
         distinct = numbered sane;
       }
 
-  pub judged : (budget : ℕ) → Judged m recording budget (verdict m recording budget)
+  pub judged : (budget : ℕ) → Judged edition m recording budget (verdict m recording budget)
   judged budget =
-      subst (λ (v : Verdict). Judged m recording budget v) (sym (verdict-is m recording budget _ _ refl refl)) (by-tests budget _ _ refl refl)
+      subst (λ (v : Verdict). Judged edition m recording budget v) (sym (verdict-is m recording budget _ _ refl refl)) (by-tests budget _ _ refl refl)
 
 -- demand 3 for bytes: a sound recording against its sound table
-pub sound-judged : (table recording : List ℕ) → SoundRecording table recording → (budget : ℕ)
-    → Judged (monitorAt table) (packetsAt recording) budget (verdict (monitorAt table) (packetsAt recording) budget)
-sound-judged table recording sound budget =
-    judged (monitorAt table) (packetsAt recording) (sane-table table (sound-table table recording sound)) (sane-recording table recording sound) budget
+pub sound-judged : (edition : Edition) (table recording : List ℕ) → SoundRecording table recording → endOf (packetsAt recording) ≤ latestTime edition → (budget : ℕ)
+    → Judged edition (monitorAt table) (packetsAt recording) budget (verdict (monitorAt table) (packetsAt recording) budget)
+sound-judged edition table recording sound fits budget =
+    judged edition (monitorAt table) (packetsAt recording) (sane-table table (sound-table table recording sound)) (sane-recording table recording sound) fits budget

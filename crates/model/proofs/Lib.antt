@@ -13,6 +13,7 @@ pub mod TableStates
 pub mod TableTrip
 pub mod RoomLaws
 pub mod DeviceLaws
+pub mod EditionLaws
 pub mod RecordingForm
 pub mod WitnessForm
 pub mod SetLaws
@@ -39,4 +40,5 @@ pub mod Counterexample
 pub mod Overheard
 pub mod Unreached
 pub mod TwoVersions
+pub mod TwoEditions
 pub mod AnswerLaws

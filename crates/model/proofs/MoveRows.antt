@@ -11,7 +11,7 @@ use mathlib.Core.Logic.{⊎-elim}
 use lib.ListN.{length, length-append}
 use lib.Dec.{leb, eqb}
 use borrow.Author.Tests.{leb-true, leb-false, le-leb, lt-ltb, eq-eqb, ne-eqb}
-use Rattle.model.specs.Limits.{timeLimit}
+use Rattle.model.specs.Edition.{latestTime}
 use Rattle.model.specs.Monitor.{Monitor, Config, wait, fires, toUnit, airtime}
 use Rattle.model.specs.Trace.{Packet, PacketTrace, Spaced}
 use Rattle.model.specs.Recording.{endOf}
@@ -23,6 +23,7 @@ use Rattle.model.specs.Validation.{rowFor, rowsBy, HasRows, rowsOf}
 use Rattle.model.specs.declared.Situation.{Situation}
 use Rattle.model.proofs.Basics.{both-true, cond-some}
 use Rattle.model.specs.Sane.{Sane, SaneRecording}
+use Rattle.model.specs.declared.Edition.{Edition}
 use Rattle.model.proofs.Chains.{Moves}
 use Rattle.model.proofs.Instants.{recorded-here, recorded-later}
 use Rattle.model.proofs.RowLaws.{sends-fires, broken-next}
@@ -160,9 +161,9 @@ air-free free t = go (leb free (suc t)) refl
 -- one instant
 
 -- what rows come to, none where one breaks a rule
-unfoldable pub accounts : Monitor → Progress → List Row → Option Progress
-accounts m p [] = some p
-accounts m p (r ∷ rs) = bind (account m p r) (λ q. accounts m q rs)
+unfoldable pub accounts : Edition → Monitor → Progress → List Row → Option Progress
+accounts edition m p [] = some p
+accounts edition m p (r ∷ rs) = bind (account edition m p r) (λ q. accounts edition m q rs)
 
 module _ (m : Monitor) (t : ℕ) (p : Progress) where
   -- a packet on the air at instant t + 1
@@ -215,9 +216,9 @@ module _ (m : Monitor) (t : ℕ) (p : Progress) where
       (record { early = omega arith; past = omega arith; ahead = a })
 
 -- a move at instant t + 1 and a tick lead to the situation of what the rows of that move come to
-pub record Instant (m : Monitor) (recording : List Packet) (t : ℕ) (p : Progress) (recorded : Option ℕ) (a : Move) : Type 0 where
-  pub step : stepBy m uncapped recorded (situationAt t p) a ≡ Option·map (situationAt (suc t)) (accounts m p (rowsBy m recorded (suc t) a))
-  pub next : (q : Progress) → accounts m p (rowsBy m recorded (suc t) a) ≡ some q → Tied recording (suc t) q
+pub record Instant (edition : Edition) (m : Monitor) (recording : List Packet) (t : ℕ) (p : Progress) (recorded : Option ℕ) (a : Move) : Type 0 where
+  pub step : stepBy m uncapped recorded (situationAt t p) a ≡ Option·map (situationAt (suc t)) (accounts edition m p (rowsBy m recorded (suc t) a))
+  pub next : (q : Progress) → accounts edition m p (rowsBy m recorded (suc t) a) ≡ some q → Tied recording (suc t) q
 
 clear-of : (t u : ℕ) (l : List Packet) → Rising u l → t ≤ u → noneBefore l (suc t) ≡ true
 clear-of t u [] h g = refl
@@ -231,28 +232,28 @@ past-later : (t : ℕ) (o : Option Row) → Past t o → Past (suc t) o
 past-later t none h = tt
 past-later t (some r) h = omega arith
 
-pub one-row : (m : Monitor) (p : Progress) (r : Row) → accounts m p (r ∷ []) ≡ account m p r
+pub one-row : (edition : Edition) (m : Monitor) (p : Progress) (r : Row) → accounts edition m p (r ∷ []) ≡ account edition m p r
 unfolding accounts bind
-one-row m p r = go (account m p r)
+one-row edition m p r = go (account edition m p r)
   where
     go : (o : Option Progress) → bind o some ≡ o
     go none = refl
     go (some q) = refl
 
-module _ (m : Monitor) (recording : List Packet) (t : ℕ) (p : Progress) (limit : suc t ≤ timeLimit) (tied : Tied recording t p) where
-  formed : leb 1 (suc t) && leb (suc t) timeLimit && true ≡ true
-  formed = rw (le-leb 1 (suc t) (omega arith), le-leb (suc t) timeLimit limit)
+module _ (edition : Edition) (m : Monitor) (recording : List Packet) (t : ℕ) (p : Progress) (limit : suc t ≤ latestTime edition) (tied : Tied recording t p) where
+  formed : leb 1 (suc t) && leb (suc t) (latestTime edition) && true ≡ true
+  formed = rw (le-leb 1 (suc t) (omega arith), le-leb (suc t) (latestTime edition) limit)
 
-  in-place : (mark k j : ℕ) → inForm (marked mark (suc t) k j) ≡ true → inPlace (p .before) (marked mark (suc t) k j) ≡ true
+  in-place : (mark k j : ℕ) → inForm edition (marked mark (suc t) k j) ≡ true → inPlace edition (p .before) (marked mark (suc t) k j) ≡ true
   in-place mark k j f = go (p .before) (tied .past)
     where
-      go : (o : Option Row) → Past t o → inPlace o (marked mark (suc t) k j) ≡ true
+      go : (o : Option Row) → Past t o → inPlace edition o (marked mark (suc t) k j) ≡ true
       go none h = f
-      go (some r) h = both-true (inForm (marked mark (suc t) k j)) (follows r (marked mark (suc t) k j)) f (rw (lt-ltb (r .time) (suc t) (omega arith)))
+      go (some r) h = both-true (inForm edition (marked mark (suc t) k j)) (follows r (marked mark (suc t) k j)) f (rw (lt-ltb (r .time) (suc t) (omega arith)))
 
   -- a row in form at instant t + 1: the air and the rule for its mark are left
-  account-by : (mark k j : ℕ) → inForm (marked mark (suc t) k j) ≡ true
-      → account m p (marked mark (suc t) k j)
+  account-by : (mark k j : ℕ) → inForm edition (marked mark (suc t) k j) ≡ true
+      → account edition m p (marked mark (suc t) k j)
       ≡ cond (leb (p .free) (suc t))
       (cond (eqb mark kept) (keeps m p (marked mark (suc t) k j))
       (cond (eqb mark removed) (removes m p (marked mark (suc t) k j)) (adds m p (marked mark (suc t) k j))))
@@ -260,18 +261,18 @@ module _ (m : Monitor) (recording : List Packet) (t : ℕ) (p : Progress) (limit
   unfolding account
   account-by mark k j f = rw (in-place mark k j f, clear-of t t (p .left) (tied .ahead .rising) (omega arith))
 
-  instant-by : (recorded : Option ℕ) (a : Move) (o : Option Progress) → accounts m p (rowsBy m recorded (suc t) a) ≡ o
+  instant-by : (recorded : Option ℕ) (a : Move) (o : Option Progress) → accounts edition m p (rowsBy m recorded (suc t) a) ≡ o
       → stepBy m uncapped recorded (situationAt t p) a ≡ Option·map (situationAt (suc t)) o → ((q : Progress) → o ≡ some q → Tied recording (suc t) q)
-      → Instant m recording t p recorded a
+      → Instant edition m recording t p recorded a
   instant-by recorded a o e s n = record { step = s ∙ ap (Option·map (situationAt (suc t))) (sym e); next = λ q h. n q (sym e ∙ h) }
 
   module _ (ahead : Ahead recording (suc t) (p .left)) where
     account-added : (k j : ℕ)
-        → account m p (marked added (suc t) k j) ≡ cond (leb (p .free) (suc t)) (sends m p (marked added (suc t) k j) (p .left)) none
+        → account edition m p (marked added (suc t) k j) ≡ cond (leb (p .free) (suc t)) (sends m p (marked added (suc t) k j) (p .left)) none
     unfolding inForm adds
     account-added k j = account-by added k j formed ∙ rw (none-at (suc t) (p .left) (ahead .rising))
 
-    quiet-instant : (a : Move) → HasRows m none a → Instant m recording t p none a
+    quiet-instant : (a : Move) → HasRows m none a → Instant edition m recording t p none a
     unfolding accounts rowsBy stepBy moved bind
     quiet-instant (keep j) f = absurd f
     quiet-instant rest f =
@@ -280,7 +281,7 @@ module _ (m : Monitor) (recording : List Packet) (t : ℕ) (p : Progress) (limit
         (record { early = omega (arith, tied .early); past = past-later t (p .before) (tied .past); ahead = ahead }))
     quiet-instant (add j) f =
         instant-by none (add j) (cond (leb (p .free) (suc t)) (sends m p (marked added (suc t) (f .0) j) (p .left)) none)
-        (rw (f .1) (one-row m p (marked added (suc t) (f .0) j) ∙ account-added (f .0) j))
+        (rw (f .1) (one-row edition m p (marked added (suc t) (f .0) j) ∙ account-added (f .0) j))
         (rw (f .1) (sent-sends m t p added (f .0) j (p .left)))
         (λ q h. sends-tied m t p recording added (f .0) j (p .left) q ahead h)
 
@@ -293,35 +294,35 @@ module _ (m : Monitor) (recording : List Packet) (t : ℕ) (p : Progress) (limit
     ahead-others = subst (Ahead recording (suc t)) (sym (ap others first)) a
 
     account-kept : (j : ℕ)
-        → account m p (marked kept (suc t) k j) ≡ cond (leb (p .free) (suc t)) (sends m p (marked kept (suc t) k j) (others (p .left))) none
+        → account edition m p (marked kept (suc t) k j) ≡ cond (leb (p .free) (suc t)) (sends m p (marked kept (suc t) k j) (others (p .left))) none
     unfolding inForm keeps
     account-kept j = account-by kept k j formed ∙ rw (is-next kept j)
 
-    account-removed : account m p (marked removed (suc t) k noTransition)
+    account-removed : account edition m p (marked removed (suc t) k noTransition)
         ≡ cond (leb (p .free) (suc t)) (cond (toUnit m k) (some (without m t p k)) none) none
     unfolding inForm removes
     account-removed = account-by removed k noTransition formed ∙ rw (is-next removed noTransition)
 
-    heard-instant : (b : Move) → HasRows m (some k) b → Instant m recording t p (some k) b
+    heard-instant : (b : Move) → HasRows m (some k) b → Instant edition m recording t p (some k) b
     unfolding rowsBy stepBy moved
     heard-instant (keep j) f =
         instant-by (some k) (keep j) (cond (leb (p .free) (suc t)) (sends m p (marked kept (suc t) k j) (others (p .left))) none)
-        (one-row m p (marked kept (suc t) k j) ∙ account-kept j)
+        (one-row edition m p (marked kept (suc t) k j) ∙ account-kept j)
         (sent-sends m t p kept k j (others (p .left)))
         (λ q h. sends-tied m t p recording kept k j (others (p .left)) q ahead-others h)
     heard-instant rest f =
         instant-by (some k) rest (cond (leb (p .free) (suc t)) (cond (toUnit m k) (some (without m t p k)) none) none)
-        (one-row m p (marked removed (suc t) k noTransition) ∙ account-removed)
+        (one-row edition m p (marked removed (suc t) k noTransition) ∙ account-removed)
         (missed-removed m t p (tied .early) k)
         (λ q h. subst (Tied recording (suc t))
         (Option·some-injective (without m t p k) q (cond-some (toUnit m k) _ q (cond-some (leb (p .free) (suc t)) _ q h .1) .1))
         (record { early = omega (arith, tied .early); past = omega arith; ahead = ahead-others }))
     heard-instant (add j) f = absurd f
 
-  pub instant : (a : Move) → HasRows m (recordedAt recording (suc t)) a → Instant m recording t p (recordedAt recording (suc t)) a
+  pub instant : (a : Move) → HasRows m (recordedAt recording (suc t)) a → Instant edition m recording t p (recordedAt recording (suc t)) a
   instant a = go (coming recording t (p .left) (tied .ahead))
     where
-      go : Coming recording t (p .left) → HasRows m (recordedAt recording (suc t)) a → Instant m recording t p (recordedAt recording (suc t)) a
+      go : Coming recording t (p .left) → HasRows m (recordedAt recording (suc t)) a → Instant edition m recording t p (recordedAt recording (suc t)) a
       go (quiet e b) = rw e (quiet-instant b a)
       go (heard k l e f b) = rw e (heard-instant k l f b a)
 
@@ -347,55 +348,55 @@ row-time : (t : ℕ) (rows : List Row) → At t rows → (r : Row) → List·Mem
 row-time t [] h r i = absurd (List·Memᴰ·not-nil i)
 row-time t (a ∷ rows) h r i = ⊎-elim (λ e. ap (λ x. x .time) e ∙ h .0) (λ j. row-time t rows (h .1) r j) (List·Memᴰ·cases-cons i)
 
-broken-end : (m : Monitor) (p : Progress) (i : ℕ) → p .left ≡ [] → broken m p i [] ≡ none
+broken-end : (edition : Edition) (m : Monitor) (p : Progress) (i : ℕ) → p .left ≡ [] → broken edition m p i [] ≡ none
 unfolding broken
-broken-end m p i e = go (p .left) e
+broken-end edition m p i e = go (p .left) e
   where
     go : (l : List Packet) → l ≡ [] → _≡_ {A = Option ℕ} (elim l [ [] ↦ none | q ∷ qs ↦ some i ]) none
     go l h = rw h
 
-broken-accounts : (m : Monitor) (more rows : List Row) (p q : Progress) → accounts m p rows ≡ some q → ((i : ℕ) → broken m q i more ≡ none)
-    → (i : ℕ) → broken m p i (rows ++ more) ≡ none
+broken-accounts : (edition : Edition) (m : Monitor) (more rows : List Row) (p q : Progress) → accounts edition m p rows ≡ some q → ((i : ℕ) → broken edition m q i more ≡ none)
+    → (i : ℕ) → broken edition m p i (rows ++ more) ≡ none
 unfolding accounts bind
-broken-accounts m more [] p q e h i = subst (λ x. broken m x i more ≡ none) (sym (Option·some-injective p q e)) (h i)
-broken-accounts m more (r ∷ rows) p q e h i = go (λ u g. broken-accounts m more rows u q g h (suc i)) (account m p r) refl e
+broken-accounts edition m more [] p q e h i = subst (λ x. broken edition m x i more ≡ none) (sym (Option·some-injective p q e)) (h i)
+broken-accounts edition m more (r ∷ rows) p q e h i = go (λ u g. broken-accounts edition m more rows u q g h (suc i)) (account edition m p r) refl e
   where
-    go : ((u : Progress) → accounts m u rows ≡ some q → broken m u (suc i) (rows ++ more) ≡ none)
-        → (o : Option Progress) → account m p r ≡ o → bind o (λ u. accounts m u rows) ≡ some q → broken m p i (r ∷ rows ++ more) ≡ none
+    go : ((u : Progress) → accounts edition m u rows ≡ some q → broken edition m u (suc i) (rows ++ more) ≡ none)
+        → (o : Option Progress) → account edition m p r ≡ o → bind o (λ u. accounts edition m u rows) ≡ some q → broken edition m p i (r ∷ rows ++ more) ≡ none
     go again none f g = absurd (Option·none-ne-some q g)
-    go again (some u) f g = broken-next m p r u f i (rows ++ more) ∙ again u g
+    go again (some u) f g = broken-next edition m p r u f i (rows ++ more) ∙ again u g
 
 -- after the last recorded time nothing is left
 all-past : (t last : ℕ) (l : List Packet) → Rising t l → Within last l → last ≤ t → l ≡ []
 all-past t last [] h w g = refl
 all-past t last (p ∷ l) h w g = absurd (omega arith)
 
-module _ (m : Monitor) (recording : List Packet) (sane : SaneRecording m recording) where
+module _ (edition : Edition) (m : Monitor) (recording : List Packet) (sane : SaneRecording m recording) (fits : endOf recording ≤ latestTime edition) where
   -- a move that can be carried: its rows are accounted for, and come to the situation after it
   carried : (t : ℕ) (p : Progress) → Tied recording t p → suc t ≤ endOf recording → (a : Move) (x : Situation)
       → stepBy m uncapped (recordedAt recording (suc t)) (situationAt t p) a ≡ some x
-      → (q : Progress) × (accounts m p (rowsBy m (recordedAt recording (suc t)) (suc t) a) ≡ some q) × (x ≡ situationAt (suc t) q) × Tied recording (suc t) q
-  carried t p tied l a x e = go (accounts m p (rowsBy m (recordedAt recording (suc t)) (suc t) a)) refl
+      → (q : Progress) × (accounts edition m p (rowsBy m (recordedAt recording (suc t)) (suc t) a) ≡ some q) × (x ≡ situationAt (suc t) q) × Tied recording (suc t) q
+  carried t p tied l a x e = go (accounts edition m p (rowsBy m (recordedAt recording (suc t)) (suc t) a)) refl
     where
-      now : Instant m recording t p (recordedAt recording (suc t)) a
-      now = instant m recording t p (omega (arith, sane .last)) tied a (fits-step m uncapped (recordedAt recording (suc t)) (situationAt t p) a x e)
+      now : Instant edition m recording t p (recordedAt recording (suc t)) a
+      now = instant edition m recording t p (omega arith) tied a (fits-step m uncapped (recordedAt recording (suc t)) (situationAt t p) a x e)
 
-      go : (o : Option Progress) → accounts m p (rowsBy m (recordedAt recording (suc t)) (suc t) a) ≡ o
-          → (q : Progress) × (accounts m p (rowsBy m (recordedAt recording (suc t)) (suc t) a) ≡ some q) × (x ≡ situationAt (suc t) q) × Tied recording (suc t) q
+      go : (o : Option Progress) → accounts edition m p (rowsBy m (recordedAt recording (suc t)) (suc t) a) ≡ o
+          → (q : Progress) × (accounts edition m p (rowsBy m (recordedAt recording (suc t)) (suc t) a) ≡ some q) × (x ≡ situationAt (suc t) q) × Tied recording (suc t) q
       go none f = absurd (Option·none-ne-some x (sym (now .step ∙ ap (Option·map (situationAt (suc t))) f) ∙ e))
       go (some q) f =
           (q, f, Option·some-injective x (situationAt (suc t) q) (sym e ∙ now .step ∙ ap (Option·map (situationAt (suc t))) f), now .next q f)
 
   moves-rows : (ks : List ℕ) (t : ℕ) (p : Progress) (z : Situation) → length ks + t ≡ endOf recording → Tied recording t p
       → Moves m recording t (situationAt t p) ks z
-      → ((i : ℕ) → broken m p i (rowsOf m recording (suc t) ks) ≡ none) × EndsBy (endOf recording) (rowsOf m recording (suc t) ks)
+      → ((i : ℕ) → broken edition m p i (rowsOf m recording (suc t) ks) ≡ none) × EndsBy (endOf recording) (rowsOf m recording (suc t) ks)
   unfolding rowsOf
   moves-rows [] t p z e tied moves =
-      (λ i. broken-end m p i (all-past t (endOf recording) (p .left) (tied .ahead .rising) (tied .ahead .within) (omega arith)), λ r h. absurd (List·Memᴰ·not-nil h))
+      (λ i. broken-end edition m p i (all-past t (endOf recording) (p .left) (tied .ahead .rising) (tied .ahead .within) (omega arith)), λ r h. absurd (List·Memᴰ·not-nil h))
   moves-rows (k ∷ ks) t p z e tied moves =
       let c = carried t p tied (omega arith) (moveOf k) (moves .0) (moves .2) in
       let h = moves-rows ks (suc t) (c .0) z (omega arith) (c .3) (subst (λ x. Moves m recording (suc t) x ks z) (c .2) (moves .3)) in
-      (broken-accounts m (rowsOf m recording (suc (suc t)) ks) (rowsBy m (recordedAt recording (suc t)) (suc t) (moveOf k)) p (c .0) (c .1) (h .0), ends (h .1))
+      (broken-accounts edition m (rowsOf m recording (suc (suc t)) ks) (rowsBy m (recordedAt recording (suc t)) (suc t) (moveOf k)) p (c .0) (c .1) (h .0), ends (h .1))
     where
       ends : EndsBy (endOf recording) (rowsOf m recording (suc (suc t)) ks)
           → EndsBy (endOf recording) (rowsBy m (recordedAt recording (suc t)) (suc t) (moveOf k) ++ rowsOf m recording (suc (suc t)) ks)
@@ -403,9 +404,9 @@ module _ (m : Monitor) (recording : List Packet) (sane : SaneRecording m recordi
           ⊎-elim (λ f. let l : r .time ≡ suc t = row-time (suc t) (rowsBy m (recordedAt recording (suc t)) (suc t) (moveOf k)) (rowsBy-at m (recordedAt recording (suc t)) (suc t) (moveOf k)) r f in omega arith) (h r)
           (List·Memᴰ·append-cases (rowsBy m (recordedAt recording (suc t)) (suc t) (moveOf k)) g)
 
-pub moves-permitted : (m : Monitor) (recording : List Packet) → Sane m → SaneRecording m recording → (ks : List ℕ) (z : Situation)
+pub moves-permitted : (edition : Edition) (m : Monitor) (recording : List Packet) → Sane m → SaneRecording m recording → endOf recording ≤ latestTime edition → (ks : List ℕ) (z : Situation)
     → length ks ≡ endOf recording → Moves m recording 0 (firstBy uncapped) ks z
-    → (broken m (begin recording) 0 (rowsOf m recording 1 ks) ≡ none) × EndsBy (endOf recording) (rowsOf m recording 1 ks)
-moves-permitted m recording _ sane ks z e moves =
-    let h = moves-rows m recording sane ks 0 (begin recording) z (omega arith) (tied-first m recording sane) moves in
+    → (broken edition m (begin recording) 0 (rowsOf m recording 1 ks) ≡ none) × EndsBy (endOf recording) (rowsOf m recording 1 ks)
+moves-permitted edition m recording _ sane fits ks z e moves =
+    let h = moves-rows edition m recording sane fits ks 0 (begin recording) z (omega arith) (tied-first m recording sane) moves in
     (h .0 0, h .1)

@@ -29,8 +29,8 @@ refusal-number (Scratch n) = (omega arith, λ e. absurd (omega arith))
 refusal-number (WitnessRoom n) = (omega arith, λ e. absurd (omega arith))
 refusal-number (WriteRoom n) = (omega arith, λ e. absurd (omega arith))
 refusal-number WitnessFrame = (omega arith, λ e. absurd (omega arith))
-refusal-number WitnessVersion = (omega arith, λ e. absurd (omega arith))
-refusal-number WitnessCount = (omega arith, λ e. absurd (omega arith))
+refusal-number (WitnessVersion n) = (omega arith, λ e. absurd (omega arith))
+refusal-number (WitnessCount n) = (omega arith, λ e. absurd (omega arith))
 refusal-number (WitnessRow n) = (omega arith, λ e. absurd (omega arith))
 
 pub number-0 : (x : Reading) (n : ℕ) → readingValues x ≡ values 0 n 0 → x ≡ Sound

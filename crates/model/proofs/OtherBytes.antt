@@ -21,6 +21,7 @@ use Rattle.model.specs.Rules.{begin, broken, checkRefusal, checkAnswer}
 use Rattle.model.specs.Validation.{preferred, verdict, refusal, validation, scratchAfter, roomAfter}
 use Rattle.model.specs.Same.{SameTable}
 use Rattle.model.specs.Versions.{SameOtherBytes, SameAnswers}
+use Rattle.model.specs.declared.Edition.{Edition}
 use Rattle.model.specs.declared.TableParts.{TableParts}
 use Rattle.model.specs.declared.Reading.{Reading}
 use Rattle.model.specs.declared.Reading.the-variants.{Sound, Unsound}
@@ -188,14 +189,14 @@ module _ (b c : List ℕ) (soundb : SoundTable b) (soundc : SoundTable c) (same 
   verdict-alike : (recording : List Packet) (budget : ℕ) → verdict (monitorAt b) recording budget ≡ verdict (monitorAt c) recording budget
   verdict-alike recording budget = ap (λ (m : Monitor). verdict m recording budget) same-monitors ∙ same-verdict devices (monitorAt c) recording budget
 
-  refusal-alike : (recording : List ℕ) (scratchLength roomLength : ℕ) → refusal b recording scratchLength roomLength ≡ refusal c recording scratchLength roomLength
+  refusal-alike : (edition : Edition) (recording : List ℕ) (scratchLength roomLength : ℕ) → refusal edition b recording scratchLength roomLength ≡ refusal edition c recording scratchLength roomLength
   unfolding refusal
-  refusal-alike recording scratchLength roomLength = rw (answer-alike recording, size-alike)
+  refusal-alike edition recording scratchLength roomLength = rw (answer-alike recording, size-alike)
 
-  validation-alike : (recording : List ℕ) (budget scratchLength roomLength : ℕ) → validation b recording budget scratchLength roomLength ≡ validation c recording budget scratchLength roomLength
+  validation-alike : (edition : Edition) (recording : List ℕ) (budget scratchLength roomLength : ℕ) → validation edition b recording budget scratchLength roomLength ≡ validation edition c recording budget scratchLength roomLength
   unfolding validation
-  validation-alike recording budget scratchLength roomLength =
-      ap₂ by (refusal-alike recording scratchLength roomLength) (verdict-alike (packetsAt recording) budget)
+  validation-alike edition recording budget scratchLength roomLength =
+      ap₂ by (refusal-alike edition recording scratchLength roomLength) (verdict-alike (packetsAt recording) budget)
     where
       by : Reading → Verdict → Verdict
       by x v = elim x [ Sound ↦ v | Unsound r ↦ Refused r ]
@@ -205,8 +206,8 @@ module _ (b c : List ℕ) (soundb : SoundTable b) (soundc : SoundTable c) (same 
   same-answers =
       record {
         verdict = validation-alike;
-        scratch = λ recording budget scratch room. rw (validation-alike recording budget (length scratch) (length room), size-alike);
-        room = λ recording budget scratch room. rw (validation-alike recording budget (length scratch) (length room), preferred-alike (packetsAt recording));
-        checking = λ recording witness.
-            rw (answer-alike recording, ap (λ (m : Monitor). broken m (begin (packetsAt recording)) 0 (rowsAt witness)) same-monitors ∙ same-broken devices (monitorAt c) (begin (packetsAt recording)) 0 (rowsAt witness));
+        scratch = λ edition recording budget scratch room. rw (validation-alike edition recording budget (length scratch) (length room), size-alike);
+        room = λ edition recording budget scratch room. rw (validation-alike edition recording budget (length scratch) (length room), preferred-alike (packetsAt recording));
+        checking = λ edition recording witness.
+            rw (answer-alike recording, ap (λ (m : Monitor). broken edition m (begin (packetsAt recording)) 0 (rowsAt edition witness)) same-monitors ∙ same-broken devices (monitorAt c) edition (begin (packetsAt recording)) 0 (rowsAt edition witness));
       }

@@ -20,11 +20,13 @@ use Rattle.model.specs.Situation.{Move, keep, rest, add, capped, sent, t
 use Rattle.model.specs.Layers as L
 use Rattle.model.specs.Validation.{verdict, costOf}
 use Rattle.model.specs.Claims.{heard, sentRows, packets, CarriedBy, Judged}
+use Rattle.model.specs.declared.Edition.the-variants.{Two}
 use Rattle.model.specs.declared.Situation.{Situation}
 use Rattle.model.specs.declared.Verdict.{Verdict}
 use Rattle.model.specs.declared.Verdict.the-variants.{Rejected}
 use Rattle.model.proofs.Examples.{run, table, two}
 use Rattle.model.proofs.Judgement.{sound-judged}
+use Rattle.model.proofs.RecordingForm.{sane-recording}
 
 -- The rule before. Demand 2 held only kept and added rows apart:
 pub record ExplainedBefore (m : Monitor) (recording : List Packet) (rows : List Row) : Type 0 where
@@ -119,7 +121,7 @@ narrowed-by : (table recording : List ℕ) (moves : List ℕ) (given : List Row)
     → heard given ≡ packetsAt recording → Inbound (monitorAt table) given → PacketTrace (monitorAt table) (packets (sentRows given))
     → CarriedBy (monitorAt table) 0 start (sentRows given) → Narrowed (monitorAt table) (packetsAt recording) moves given cost instant
 narrowed-by table recording moves given cost instant sound e accepted least accounts inbound spaced carried =
-    let j = subst (λ (v : Verdict). Judged (monitorAt table) (packetsAt recording) 10000 v) e (sound-judged table recording sound 10000) in
+    let j = subst (λ (v : Verdict). Judged Two (monitorAt table) (packetsAt recording) 10000 v) e (sound-judged Two table recording sound (sane-recording table recording sound .last) 10000) in
     let within : 10000 < costOf (monitorAt table) (packetsAt recording) → ⊥ = j .exhausted .1 in
     record {
       rejected = e;

@@ -1,4 +1,4 @@
--- Where bytes stand: a list within another from an offset on, columns that end in zeros, rows one behind the other, and two-byte numbers.
+-- Where bytes stand: a list within another from an offset on, columns that end in zeros, rows one behind the other, and two-byte and four-byte numbers.
 use Prim.Native.Nat.{ℕ, zero, suc, _+_, _-_, _*_, _/_, _%_, _<_, _≤_}
 use native.Mathlib.Nat.{not-suc-le-zero, add-zero, zero-add, mul-zero, mul-suc}
 use native.Mathlib.Omega.{arith}
@@ -7,7 +7,7 @@ use mathlib.Core.Path.{_≡_, refl, sym, ap, ap₂, subst, _∙_}
 use mathlib.Core.List.{List, [], _∷_, _++_}
 use lib.ListN.{length, getD, take, drop, replicate, length-append, length-take, length-drop, length-replicate, List·getD-append}
 use lib.Seq.{ext-getD, getD-take, getD-drop, getD-append-add, length-take-le}
-use Rattle.model.specs.Bytes.{byteAt, wordAt, wordBytes, tab, joined, padded}
+use Rattle.model.specs.Bytes.{byteAt, wordAt, wordBytes, longAt, longBytes, tab, joined, padded}
 use Rattle.model.proofs.Basics.{length-tab, getD-tab}
 
 abbrev pub AllBytes : List ℕ → Type 0
@@ -86,6 +86,40 @@ word-back b at n h s =
     let x : byteAt b at ≡ n / 256 % 256 = stands-head b at (n / 256 % 256) (n % 256 ∷ []) s in
     let y : byteAt b (at + 1) ≡ n % 256 = stands-head b (at + 1) (n % 256) [] (stands-tail b at (n / 256 % 256) (n % 256 ∷ []) s) in
     omega arith
+
+-- four-byte numbers
+
+pub long-at : (b : List ℕ) (at n : ℕ) → AllBytes b → longAt b at ≡ n → Stands b at (longBytes n)
+long-at b at n all e =
+    let high : byteAt b at < 256 = all at in
+    let next : byteAt b (at + 1) < 256 = all (at + 1) in
+    let low : wordAt b (at + 2) < 65536 = word-within b (at + 2) all in
+    stands-append b at (n / 16777216 % 256 ∷ n / 65536 % 256 ∷ []) (wordBytes n)
+    (stands-cons b at (n / 16777216 % 256) (n / 65536 % 256 ∷ []) (omega arith) (stands-cons b (at + 1) (n / 65536 % 256) [] (omega arith) (stands-nil b (at + 1 + 1))))
+    (subst (λ (l : List ℕ). Stands b (at + 2) l) (same-low (wordAt b (at + 2)) n (omega arith)) (word-stands b (at + 2) all))
+  where
+    same-low : (w n : ℕ) → w ≡ n % 65536 → wordBytes w ≡ wordBytes n
+    same-low w n e =
+        let high : w / 256 % 256 ≡ n / 256 % 256 = omega arith in
+        let low : w % 256 ≡ n % 256 = omega arith in
+        λ i. high i ∷ low i ∷ []
+
+pub long-back : (b : List ℕ) (at n : ℕ) → n < 4294967296 → Stands b at (longBytes n) → longAt b at ≡ n
+long-back b at n h s =
+    let first : byteAt b at ≡ n / 16777216 % 256 = ap (λ (k : ℕ). getD b k 0) (omega arith) ∙ s 0 (omega arith) in
+    let second : byteAt b (at + 1) ≡ n / 65536 % 256 = s 1 (omega arith) in
+    let third : byteAt b (at + 2) ≡ n / 256 % 256 = ap (λ (k : ℕ). getD b k 0) (omega arith) ∙ s 2 (omega arith) in
+    let fourth : byteAt b (at + 2 + 1) ≡ n % 256 = ap (λ (k : ℕ). getD b k 0) (omega arith) ∙ s 3 (omega arith) in
+    ap₂ (λ (x y : ℕ). 65536 * x + y) (rw (first, second) (high n h)) (rw (third, fourth) (low n)) ∙ whole n
+  where
+    high : (n : ℕ) → n < 4294967296 → 256 * (n / 16777216 % 256) + n / 65536 % 256 ≡ n / 65536
+    high n h = omega arith
+
+    low : (n : ℕ) → 256 * (n / 256 % 256) + n % 256 ≡ n % 65536
+    low n = omega arith
+
+    whole : (n : ℕ) → 65536 * (n / 65536) + n % 65536 ≡ n
+    whole n = omega arith
 
 -- columns
 
@@ -168,20 +202,3 @@ module _ {A : Type 0} where
   tab-getD d l =
       ext-getD d (tab (λ i. getD l i d) (length l)) l (length-tab (λ i. getD l i d) (length l))
       (λ i h. getD-tab (λ i. getD l i d) d (length l) i (omega (arith, length-tab (λ i. getD l i d) (length l))))
-
--- what a recording and a witness begin with: a two-byte length, the version 1, a two-byte count
-module _ (b : List ℕ) (n count : ℕ) (rows : List ℕ) where
-  pub stands-headed :
-      Stands b 0 (wordBytes n) → byteAt b 2 ≡ 1 → Stands b 3 (wordBytes count) → Stands b 5 rows
-      → Stands b 0 (wordBytes n ++ (1 ∷ []) ++ wordBytes count ++ rows)
-  stands-headed p q r s =
-      stands-append b 0 (wordBytes n ++ (1 ∷ []) ++ wordBytes count) rows
-      (stands-append b 0 (wordBytes n ++ (1 ∷ [])) (wordBytes count)
-      (stands-append b 0 (wordBytes n) (1 ∷ []) p (stands-cons b 2 1 [] q (stands-nil b 3))) r) s
-
-  pub headed-count : Stands b 0 (wordBytes n ++ (1 ∷ []) ++ wordBytes count ++ rows) → Stands b 3 (wordBytes count)
-  headed-count s =
-      stands-right b 0 (wordBytes n ++ (1 ∷ [])) (wordBytes count) (stands-left b 0 (wordBytes n ++ (1 ∷ []) ++ wordBytes count) rows s)
-
-  pub headed-rows : Stands b 0 (wordBytes n ++ (1 ∷ []) ++ wordBytes count ++ rows) → Stands b 5 rows
-  headed-rows s = stands-right b 0 (wordBytes n ++ (1 ∷ []) ++ wordBytes count) rows s

@@ -17,13 +17,15 @@ use Rattle.model.specs.Table.{tableAnswer, kindsAt, SoundTable, monitorA
 use Rattle.model.specs.Recording.{countAt, timeAt, rowKindAt, clearOfBefore, recordedRow, recordedRows, recordingFrame, recordingScan, recordingAnswer, recordingParts, SoundRecording, packetsOf, packetsAt, endOf, recordedBytes, recordingBytes}
 use Rattle.model.specs.Same.{SameRecording, RecordingZero}
 use Rattle.model.specs.declared.RecordingParts.{RecordingParts}
+use Rattle.model.specs.declared.Edition.the-variants.{One}
 use Rattle.model.specs.declared.Reading.{Reading}
 use Rattle.model.specs.declared.Reading.the-variants.{Sound}
 use Rattle.model.specs.declared.Refusal.the-variants.{RecordingFrame, RecordingVersion, RecordingCount, RecordingRange, RecordingOrder}
 use Rattle.model.proofs.Basics.{unless-sound, length-tab}
 use Rattle.model.specs.Sane.{SaneRecording}
 use Rattle.model.proofs.Tests.{test, le-test, lt-test, FramedRows, rows-facts}
-use Rattle.model.proofs.Places.{AllBytes, Stands, stands-nil, stands-cons, stands-left, stands-append, stands-moved, stands-self, stands-whole, word-at, word-back, getD-column, getD-column-past, stands-joined, joined-stands, length-joined, tab-same, tab-cons, stands-headed, headed-count, headed-rows}
+use Rattle.model.proofs.Places.{AllBytes, Stands, stands-nil, stands-cons, stands-left, stands-append, stands-moved, stands-self, stands-whole, word-at, word-back, getD-column, getD-column-past, stands-joined, joined-stands, length-joined, tab-same, tab-cons}
+use Rattle.model.proofs.EditionLaws.{stands-headed, headed-count, headed-rows}
 
 -- row i
 pub record SoundRow (table b : List ℕ) (i : ℕ) : Type 0 where
@@ -63,7 +65,7 @@ rows-sound (suc n) table b i k e p q =
 -- all that a sound recording ensures of its bytes
 pub record RecordingFacts (table b : List ℕ) : Type 0 where
   pub sound : SoundTable table
-  pub rows : FramedRows b 3 rowLimit
+  pub rows : FramedRows One b 3 rowLimit
   pub row : (i : ℕ) → i < countAt b → SoundRow table b i
 
 pub recording-facts : (table b : List ℕ) → SoundRecording table b → RecordingFacts table b
@@ -74,7 +76,7 @@ recording-facts table b e =
     let s : firstOf l ≡ Sound = test all e 1 in
     record {
       sound = test all e 0;
-      rows = rows-facts b 3 rowLimit RecordingFrame RecordingVersion RecordingCount (test l s 0);
+      rows = rows-facts One b 3 rowLimit RecordingFrame RecordingVersion RecordingCount (test l s 0);
       row = λ i h. rows-sound (countAt b) table b 0 i (test l s 1) (omega arith) (omega arith);
     }
 
@@ -145,7 +147,7 @@ recording-again table b all e =
     let facts : RecordingFacts table b = recording-facts table b e in
     let r : RecordingParts = recordingParts b in
     stands-whole b (recordingBytes r) (omega (arith, recording-length r))
-    (stands-headed b (3 + 3 * countAt b) (countAt b) (joined (recordedBytes (r .times) (r .kinds)) (countAt b))
+    (stands-headed b One (3 + 3 * countAt b) (countAt b) (joined (recordedBytes (r .times) (r .kinds)) (countAt b))
     (word-at b 0 (3 + 3 * countAt b) all (facts .rows .sized)) (facts .rows .version) (word-at b 3 (countAt b) all refl)
     (stands-joined (recordedBytes (r .times) (r .kinds)) b 5 (countAt b) (λ i h. row i h (omega (arith, rows-length r i)))))
   where
@@ -164,7 +166,7 @@ module _ (r : RecordingParts) (few : r .count ≤ rowLimit) (times : (i : ℕ) �
   unfolding recordingBytes
   written-count =
       word-back (recordingBytes r) 3 (r .count) (omega arith)
-      (headed-count (recordingBytes r) (3 + 3 * r .count) (r .count) (joined (recordedBytes (r .times) (r .kinds)) (r .count)) (stands-self (recordingBytes r)))
+      (headed-count (recordingBytes r) One (3 + 3 * r .count) (r .count) (joined (recordedBytes (r .times) (r .kinds)) (r .count)) (stands-self (recordingBytes r)))
 
   written-row : (i : ℕ) → i < r .count → Stands (recordingBytes r) (5 + 3 * i) (recordedBytes (r .times) (r .kinds) i)
   unfolding recordingBytes
@@ -172,7 +174,7 @@ module _ (r : RecordingParts) (few : r .count ≤ rowLimit) (times : (i : ℕ) �
       let b : List ℕ = recordingBytes r in
       let e : 5 + length (joined (recordedBytes (r .times) (r .kinds)) i) ≡ 5 + 3 * i = omega (arith, rows-length r i) in
       stands-moved b (5 + length (joined (recordedBytes (r .times) (r .kinds)) i)) (5 + 3 * i) (recordedBytes (r .times) (r .kinds) i) e
-      (joined-stands (recordedBytes (r .times) (r .kinds)) b 5 (r .count) i h (headed-rows b (3 + 3 * r .count) (r .count) (joined (recordedBytes (r .times) (r .kinds)) (r .count)) (stands-self b)))
+      (joined-stands (recordedBytes (r .times) (r .kinds)) b 5 (r .count) i h (headed-rows b One (3 + 3 * r .count) (r .count) (joined (recordedBytes (r .times) (r .kinds)) (r .count)) (stands-self b)))
 
   written-time : (i : ℕ) → i < r .count → timeAt (recordingBytes r) i ≡ byteAt (r .times) i
   written-time i h =

@@ -6,11 +6,12 @@ use mathlib.Core.Bool.{Bool, true, cond, not, _&&_, _||_}
 use mathlib.Core.Option.{Option, none, some, Option·map, Option·none-ne-some, Option·some-ne-none, Option·some-injective}
 use lib.Dec.{leb, eqb}
 use borrow.Author.Tests.{eqb-true, leb-true, eq-eqb}
-use Rattle.model.specs.Limits.{timeLimit}
+use Rattle.model.specs.Edition.{latestTime}
 use Rattle.model.specs.Monitor.{Monitor, Config, wait, fires}
 use Rattle.model.specs.Trace.{Packet}
 use Rattle.model.specs.Witness.{Row, kept, removed, noTransition, isRemoved, inForm, follows, inPlace}
 use Rattle.model.specs.Rules.{Progress, noneBefore, behindRow, sends, removes, keeps, adds, account, broken}
+use Rattle.model.specs.declared.Edition.{Edition}
 use Rattle.model.proofs.Basics.{and-left, and-right, cond-some}
 
 -- its form
@@ -20,19 +21,19 @@ pub record InForm (r : Row) : Type 0 where
   pub time : 1 ≤ r .time
   pub transition : r .mark ≡ removed → r .transition ≡ noTransition
 
-pub in-form : (o : Option Row) (r : Row) → inPlace o r ≡ true → InForm r
+pub in-form : (edition : Edition) (o : Option Row) (r : Row) → inPlace edition o r ≡ true → InForm r
 unfolding inForm
-in-form o r e =
-    let f = four-true (leb (r .mark) 2) (leb 1 (r .time)) (leb (r .time) timeLimit) (not (isRemoved r) || eqb (r .transition) noTransition) (form o e) in
+in-form edition o r e =
+    let f = four-true (leb (r .mark) 2) (leb 1 (r .time)) (leb (r .time) (latestTime edition)) (not (isRemoved r) || eqb (r .transition) noTransition) (form o e) in
     record {
       mark = leb-true (r .mark) 2 (f .0);
       time = leb-true 1 (r .time) (f .1);
       transition = λ h. eqb-true (r .transition) noTransition (rw (eq-eqb (r .mark) removed h) at (f .3));
     }
   where
-    form : (x : Option Row) → inPlace x r ≡ true → inForm r ≡ true
+    form : (x : Option Row) → inPlace edition x r ≡ true → inForm edition r ≡ true
     form none f = f
-    form (some p) f = and-left (inForm r) (follows p r) f
+    form (some p) f = and-left (inForm edition r) (follows p r) f
 
     four-true : (a b c d : Bool) → a && b && c && d ≡ true → (a ≡ true) × (b ≡ true) × (c ≡ true) × (d ≡ true)
     four-true a b c d q =
@@ -45,16 +46,16 @@ in-form o r e =
 abbrev pub byMark : Monitor → Progress → Row → Option Progress
 byMark m p r = cond (eqb (r .mark) kept) (keeps m p r) (cond (isRemoved r) (removes m p r) (adds m p r))
 
-pub record Passed (m : Monitor) (p : Progress) (r : Row) (q : Progress) : Type 0 where
-  pub placed : inPlace (p .before) r ≡ true
+pub record Passed (edition : Edition) (m : Monitor) (p : Progress) (r : Row) (q : Progress) : Type 0 where
+  pub placed : inPlace edition (p .before) r ≡ true
   pub turn : noneBefore (p .left) (r .time) ≡ true
   pub free : p .free ≤ r .time
   pub by : byMark m p r ≡ some q
 
-pub passed : (m : Monitor) (p : Progress) (r : Row) (q : Progress) → account m p r ≡ some q → Passed m p r q
+pub passed : (edition : Edition) (m : Monitor) (p : Progress) (r : Row) (q : Progress) → account edition m p r ≡ some q → Passed edition m p r q
 unfolding account
-passed m p r q e =
-    let placed : Bool = inPlace (p .before) r in
+passed edition m p r q e =
+    let placed : Bool = inPlace edition (p .before) r in
     let turn : Bool = noneBefore (p .left) (r .time) in
     let h = cond-some (placed && turn && leb (p .free) (r .time)) (byMark m p r) q e in
     let f = and-left (placed && turn) (leb (p .free) (r .time)) (h .0) in
@@ -78,15 +79,15 @@ sends-fires m p r left q e = go (fires m (r .transition) (r .kind) (wait (r .tim
 
 -- rows, the first of which is accounted for
 
-pub broken-next : (m : Monitor) (p : Progress) (r : Row) (q : Progress) → account m p r ≡ some q → (i : ℕ) (rs : List Row) → broken m p i (r ∷ rs) ≡ broken m q (suc i) rs
+pub broken-next : (edition : Edition) (m : Monitor) (p : Progress) (r : Row) (q : Progress) → account edition m p r ≡ some q → (i : ℕ) (rs : List Row) → broken edition m p i (r ∷ rs) ≡ broken edition m q (suc i) rs
 unfolding broken
-broken-next m p r q e i rs = rw (e, broken)
+broken-next edition m p r q e i rs = rw (e, broken)
 
-pub first-row : (m : Monitor) (p : Progress) (i : ℕ) (r : Row) (rs : List Row) → broken m p i (r ∷ rs) ≡ none
-    → (q : Progress) × (account m p r ≡ some q) × (broken m q (suc i) rs ≡ none)
+pub first-row : (edition : Edition) (m : Monitor) (p : Progress) (i : ℕ) (r : Row) (rs : List Row) → broken edition m p i (r ∷ rs) ≡ none
+    → (q : Progress) × (account edition m p r ≡ some q) × (broken edition m q (suc i) rs ≡ none)
 unfolding broken
-first-row m p i r rs e = go (account m p r) refl
+first-row edition m p i r rs e = go (account edition m p r) refl
   where
-    go : (o : Option Progress) → account m p r ≡ o → (q : Progress) × (account m p r ≡ some q) × (broken m q (suc i) rs ≡ none)
+    go : (o : Option Progress) → account edition m p r ≡ o → (q : Progress) × (account edition m p r ≡ some q) × (broken edition m q (suc i) rs ≡ none)
     go none f = absurd (Option·some-ne-none i (rw (f, broken) at e))
-    go (some q) f = (q, f, sym (broken-next m p r q f i rs) ∙ e)
+    go (some q) f = (q, f, sym (broken-next edition m p r q f i rs) ∙ e)

@@ -14,6 +14,7 @@ use Rattle.model.specs.Frame.{framed}
 use Rattle.model.specs.Table.{statesAt, variablesAt, clocksAt, countsOf, kindRecords, transitionFields, guardRecord, transitionRecord, transitionRecords, kindsAt, transitionsAt, guardLengthAt, transitionAt, deviceColumn, scanWith, tableScan}
 use Rattle.model.specs.Kinds.{versionAt, kindAt, kindRecord}
 use Rattle.model.specs.Numbers.{refusalValues, readingValues}
+use Rattle.model.specs.declared.Edition.the-variants.{One}
 use Rattle.model.specs.declared.Reading.{Reading}
 use Rattle.model.specs.declared.Reading.the-variants.{Sound, Unsound}
 use Rattle.model.specs.declared.Refusal.{Refusal}
@@ -76,7 +77,7 @@ pub scan-earlier : (b : List ℕ) → Earlier (tableScan b)
 unfolding tableScan scanWith kindRecords framed countsOf early
 scan-earlier b =
     let kind : ℕ → Reading = λ i. kindRecord b (kindAt (versionAt b) i) (byteAt (deviceColumn b) i) in
-    then-earlier (tests-earlier (frameTests b 8 tableVersions TableFrame TableVersion) refl)
+    then-earlier (tests-earlier (frameTests One b 8 1 tableVersions TableFrame TableVersion) refl)
     (then-earlier (tests-earlier (countTests (statesAt b) (variablesAt b) (clocksAt b) (kindsAt b) (transitionsAt b)) refl)
     (then-earlier (first-earlier kind (λ i. kind-earlier b (kindAt (versionAt b) i) (byteAt (deviceColumn b) i)) (kindsAt b))
     (then-earlier (transitions-earlier (transitionsAt b) b (transitionAt b 0)) none-earlier)))

@@ -26,6 +26,7 @@ use Rattle.model.specs.declared.Refusal.{Refusal}
 use Rattle.model.specs.declared.Refusal.the-variants.{TableFrame, TableVersion, TableCount, TableLength, TableField, TableGuard, TableSize}
 use Rattle.model.proofs.Basics.{unless-sound, length-tab, getElem-tab, getElem-within}
 use Rattle.model.specs.Sane.{Sane, SaneTransition}
+use Rattle.model.specs.declared.Edition.the-variants.{One}
 use Rattle.model.proofs.Tests.{test, le-test, lt-test, eq-test, tests, Framed, framed-facts, passed-each}
 use Rattle.model.proofs.KindForm.{SoundKind, sound-kind}
 use Rattle.model.proofs.Places.{stands-part, length-padded, getD-padded, getD-column, length-joined, getD-joined}
@@ -152,7 +153,7 @@ transitions-end (suc n) b i e =
 
 -- all that a sound scan ensures of a table's bytes, its kinds having these devices
 pub record TableFacts (devices b : List ℕ) : Type 0 where
-  pub head : Framed b 8 tableVersions
+  pub head : Framed One b 8 1 tableVersions
   pub counts : SoundCounts b
   pub kind : (i : ℕ) → i < kindsAt b → SoundKind b (kindAt (versionAt b) i) (byteAt devices i)
   pub transition : (j : ℕ) → j < transitionsAt b → SoundTransition b (transitionAt b j)
@@ -160,7 +161,7 @@ pub record TableFacts (devices b : List ℕ) : Type 0 where
 
 abbrev scanTests : (devices b : List ℕ) → List Reading
 scanTests devices b =
-    framed b 8 tableVersions TableFrame TableVersion
+    framed One b 8 1 tableVersions TableFrame TableVersion
     ∷ tableCounts b
     ∷ kindRecords devices b
     ∷ transitionRecords (transitionsAt b) b (transitionAt b 0)
@@ -172,7 +173,7 @@ scan-facts devices b s =
     let l : List Reading = scanTests devices b in
     let kind : ℕ → Reading = λ i. kindRecord b (kindAt (versionAt b) i) (byteAt devices i) in
     record {
-      head = framed-facts b 8 tableVersions TableFrame TableVersion (test l s 0);
+      head = framed-facts One b 8 1 tableVersions TableFrame TableVersion (test l s 0);
       counts = counts b (test l s 1);
       kind = λ i h. sound-kind b (kindAt (versionAt b) i) (byteAt devices i) (passed-each kind (kindsAt b) (test l s 2) i h);
       transition = λ j h. transitions-sound (transitionsAt b) b 0 j (test l s 3) (omega arith) (omega arith);

@@ -8,10 +8,11 @@ use mathlib.Core.Bool.{Bool, true}
 use lib.ListN.{length, getD}
 use lib.Dec.{leb, ltb, eqb}
 use borrow.Author.Tests.{leb-true, ltb-true, eqb-true}
-use Rattle.model.specs.Limits.{rowVersions}
-use Rattle.model.specs.Bytes.{byteAt, wordAt, tab}
+use Rattle.model.specs.Bytes.{byteAt, tab}
 use Rattle.model.specs.First.{unless, andThen, firstOf}
-use Rattle.model.specs.Frame.{isVersion, framed, framedRows}
+use Rattle.model.specs.Edition.{sizeBytes, sizeAt, versionOf, versionPlace, countPlace, rowsPlace}
+use Rattle.model.specs.Frame.{isVersion, framed, rowsSize, framedRows}
+use Rattle.model.specs.declared.Edition.{Edition}
 use Rattle.model.specs.declared.Refusal.{Refusal}
 use Rattle.model.specs.declared.Reading.{Reading}
 use Rattle.model.specs.declared.Reading.the-variants.{Sound, Unsound}
@@ -39,44 +40,52 @@ tests (x ∷ l) = unless (x .0) (x .1) ∷ tests l
 
 -- what a frame that passes ensures
 
-abbrev pub frameTests : List ℕ → (least latest : ℕ) → (frame version : Refusal) → List (Bool × Refusal)
-frameTests b least latest f v = (leb least (length b), f) ∷ (eqb (wordAt b 0 + 2) (length b), f) ∷ (isVersion latest (byteAt b 2), v) ∷ []
+abbrev pub frameTests : Edition → List ℕ → (least oldest latest : ℕ) → (frame version : Refusal) → List (Bool × Refusal)
+frameTests edition b least oldest latest f v =
+    (leb least (length b), f)
+    ∷ (eqb (sizeAt edition b 0 + sizeBytes edition) (length b), f)
+    ∷ (isVersion oldest latest (byteAt b (versionPlace edition)), v)
+    ∷ []
 
-pub record Framed (b : List ℕ) (least latest : ℕ) : Type 0 where
+pub record Framed (edition : Edition) (b : List ℕ) (least oldest latest : ℕ) : Type 0 where
   pub frame : least ≤ length b
-  pub framed : wordAt b 0 + 2 ≡ length b
-  pub numbered : 1 ≤ byteAt b 2
-  pub known : byteAt b 2 ≤ latest
+  pub framed : sizeAt edition b 0 + sizeBytes edition ≡ length b
+  pub numbered : oldest ≤ byteAt b (versionPlace edition)
+  pub known : byteAt b (versionPlace edition) ≤ latest
 
-pub framed-facts : (b : List ℕ) (least latest : ℕ) (f v : Refusal) → framed b least latest f v ≡ Sound → Framed b least latest
+pub framed-facts : (edition : Edition) (b : List ℕ) (least oldest latest : ℕ) (f v : Refusal) → framed edition b least oldest latest f v ≡ Sound
+    → Framed edition b least oldest latest
 unfolding framed
-framed-facts b least latest f v e =
-    let l : List Reading = tests (frameTests b least latest f v) in
-    let version : isVersion latest (byteAt b 2) ≡ true = unless-sound (isVersion latest (byteAt b 2)) v (test l e 2) in
+framed-facts edition b least oldest latest f v e =
+    let l : List Reading = tests (frameTests edition b least oldest latest f v) in
+    let n : ℕ = byteAt b (versionPlace edition) in
+    let version : isVersion oldest latest n ≡ true = unless-sound (isVersion oldest latest n) v (test l e 2) in
     record {
       frame = le-test _ _ f (test l e 0);
       framed = eq-test _ _ f (test l e 1);
-      numbered = leb-true 1 (byteAt b 2) (and-left _ _ version);
-      known = leb-true (byteAt b 2) latest (and-right (leb 1 (byteAt b 2)) (leb (byteAt b 2) latest) version);
+      numbered = leb-true oldest n (and-left _ _ version);
+      known = leb-true n latest (and-right (leb oldest n) (leb n latest) version);
     }
 
 -- .. and one with rows of one width
-pub record FramedRows (b : List ℕ) (width limit : ℕ) : Type 0 where
-  pub head : Framed b 5 rowVersions
-  pub version : byteAt b 2 ≡ rowVersions
-  pub count : wordAt b 3 ≤ limit
-  pub sized : wordAt b 0 ≡ 3 + width * wordAt b 3
+pub record FramedRows (edition : Edition) (b : List ℕ) (width limit : ℕ) : Type 0 where
+  pub head : Framed edition b (rowsPlace edition) (versionOf edition) (versionOf edition)
+  pub version : byteAt b (versionPlace edition) ≡ versionOf edition
+  pub count : sizeAt edition b (countPlace edition) ≤ limit
+  pub sized : sizeAt edition b 0 ≡ rowsSize edition width (sizeAt edition b (countPlace edition))
 
-pub rows-facts : (b : List ℕ) (width limit : ℕ) (f v c : Refusal) → framedRows b width limit f v c ≡ Sound → FramedRows b width limit
+pub rows-facts : (edition : Edition) (b : List ℕ) (width limit : ℕ) (f v c : Refusal) → framedRows edition b width limit f v c ≡ Sound → FramedRows edition b width limit
 unfolding framedRows
-rows-facts b width limit f v c e =
+rows-facts edition b width limit f v c e =
     let l : List Reading =
-    framed b 5 rowVersions f v
-    ∷ unless (leb (wordAt b 3) limit) c
-    ∷ unless (eqb (wordAt b 0) (3 + width * wordAt b 3)) c
+    framed edition b (rowsPlace edition) (versionOf edition) (versionOf edition) f v
+    ∷ unless (leb (sizeAt edition b (countPlace edition)) limit) c
+    ∷ unless (eqb (sizeAt edition b 0) (rowsSize edition width (sizeAt edition b (countPlace edition)))) c
     ∷ []
     in
-    let head : Framed b 5 rowVersions = framed-facts b 5 rowVersions f v (test l e 0) in
+    let head : Framed edition b (rowsPlace edition) (versionOf edition) (versionOf edition) =
+    framed-facts edition b (rowsPlace edition) (versionOf edition) (versionOf edition) f v (test l e 0)
+    in
     record {
       head = head;
       version = omega (arith, head .numbered, head .known);
@@ -86,6 +95,10 @@ rows-facts b width limit f v c e =
 
 pub sound-unsound : (r : Refusal) → Sound ≡ Unsound r → ⊥
 sound-unsound r e = let z : _≡_ {A = ℕ} 0 1 = cc in omega arith
+
+pub then-sound : (x : Reading) → andThen x Sound ≡ x
+then-sound Sound = refl
+then-sound (Unsound r) = refl
 
 -- tests one behind the other, by number
 

@@ -9,6 +9,7 @@ use Rattle.model.specs.Kinds.{kindBytes}
 use Rattle.model.specs.Table.{tableParts, tableAnswer, tableBody, tableBytes, writeTable}
 use Rattle.model.specs.Numbers.{Values, values, readingValues, writingValues}
 use Rattle.model.specs.Versions.{SameOtherBytes}
+use Rattle.model.specs.declared.Edition.the-variants.{One}
 use Rattle.model.specs.declared.TableParts.{TableParts}
 use Rattle.model.proofs.Examples.{run, runs, expected, table}
 use Rattle.model.proofs.OtherBytes.{inVersion}
@@ -82,7 +83,7 @@ pub room : List ℕ
 room = replicate 80 7
 
 pub record Answered : Type 0 where
-  pub twelve : runs versionTwo ≡ expected
+  pub twelve : runs One versionTwo ≡ expected (λ witness. witness)
   pub other : SameOtherBytes versionTwo table
   pub read : map (λ c. readingValues (tableAnswer (c .0))) cases ≡ map (λ c. c .1) cases
   pub implied : take 4 (tableParts table .devices) ≡ 0 ∷ 0 ∷ 1 ∷ 0 ∷ []

@@ -6,6 +6,7 @@ use lib.ListN.{length, set}
 use Rattle.model.specs.Bytes.{wordBytes}
 use Rattle.model.specs.Numbers.{Values, values, readingValues}
 use Rattle.model.specs.Table.{tableAnswer}
+use Rattle.model.specs.declared.Edition.the-variants.{One}
 use Rattle.model.proofs.Examples.{run, refused, table, p5}
 
 -- the small monitor with a fourth state, as a vendor's table had one
@@ -53,7 +54,7 @@ cases =
     ∷ []
 
 pub record Answered : Type 0 where
-  pub judged : run vendor p5 10000 ≡ refused (values 17 3 0)
+  pub judged : run One vendor p5 10000 ≡ refused (values 17 3 0)
   pub read : map (λ c. readingValues (tableAnswer (c .0))) cases ≡ map (λ c. c .1) cases
 
 pub unreached : Answered

@@ -4,32 +4,36 @@ use native.Mathlib.Omega.{arith}
 use mathlib.Core.Path.{_≡_, refl, sym, ap, ap₂, subst, _∙_}
 use mathlib.Core.List.{List, [], _∷_, _++_, append-assoc, append-nil}
 use mathlib.Core.Option.{Option, none, some}
-use lib.ListN.{length, getD, getElem?}
-use Rattle.model.specs.Limits.{witnessLimit}
+use lib.ListN.{length, getD, getElem?, length-append}
+use borrow.Author.Tests.{le-leb, eq-eqb}
+use Rattle.model.specs.Limits.{witnessPlaces}
 use Rattle.model.specs.Bytes.{byteAt, wordAt, wordBytes, tab, joined}
-use Rattle.model.specs.Frame.{rowsFrame}
-use Rattle.model.specs.Witness.{Row, misformed, Formed, witnessCountAt, rowAt, rowsAt, badRow, witnessFrame, witnessAnswer, SoundForm, witnessParts, rowBytes, rowsBytes, witnessBytes, rowIn, rowsIn}
+use Rattle.model.specs.Edition.{sizeBytes, sizeAt, versionOf, countPlace, versionPlace, rowsPlace, mostRows}
+use Rattle.model.specs.Frame.{framed, rowsSize, framedRows, rowsFrame}
+use Rattle.model.specs.Witness.{Row, misformed, Formed, witnessCountAt, rowPlace, rowAt, rowsAt, badRow, witnessFrame, witnessAnswer, SoundForm, witnessParts, rowBytes, rowsBytes, witnessBytes, rowIn, rowsIn}
 use Rattle.model.specs.Same.{SameWitness, WitnessZero}
+use Rattle.model.specs.declared.Edition.{Edition}
 use Rattle.model.specs.declared.WitnessParts.{WitnessParts}
 use Rattle.model.specs.declared.Reading.{Reading}
 use Rattle.model.specs.declared.Reading.the-variants.{Sound}
 use Rattle.model.specs.declared.Refusal.the-variants.{WitnessFrame, WitnessVersion, WitnessCount}
 use Rattle.model.proofs.Basics.{length-tab, getElem-getD}
-use Rattle.model.proofs.Tests.{test, FramedRows, rows-facts}
-use Rattle.model.proofs.Places.{AllBytes, Stands, stands-nil, stands-cons, stands-left, stands-right, stands-append, stands-moved, stands-self, stands-whole, word-at, word-back, getD-column, getD-column-past, stands-joined, joined-stands, length-joined, tab-same, tab-getD, stands-headed, headed-count, headed-rows}
+use Rattle.model.proofs.Tests.{test, then-sound, FramedRows, rows-facts}
+use Rattle.model.proofs.Places.{AllBytes, Stands, stands-nil, stands-cons, stands-left, stands-right, stands-append, stands-moved, stands-self, stands-whole, word-at, word-back, getD-column, getD-column-past, stands-joined, joined-stands, length-joined, tab-same, tab-getD}
+use Rattle.model.proofs.EditionLaws.{size-at, size-back, rows-sizeable, frame-length, stands-headed, headed-size, headed-version, headed-count, headed-rows}
 
 -- all that a witness in form ensures of its bytes
-pub record WitnessFacts (b : List ℕ) : Type 0 where
-  pub rows : FramedRows b 5 witnessLimit
-  pub formed : Formed (rowsAt b)
+pub record WitnessFacts (edition : Edition) (b : List ℕ) : Type 0 where
+  pub rows : FramedRows edition b 5 (mostRows edition)
+  pub formed : Formed edition (rowsAt edition b)
 
-pub witness-facts : (b : List ℕ) → SoundForm b → WitnessFacts b
+pub witness-facts : (edition : Edition) (b : List ℕ) → SoundForm edition b → WitnessFacts edition b
 unfolding witnessAnswer witnessFrame
-witness-facts b e =
-    let l : List Reading = witnessFrame b ∷ badRow (misformed none 0 (rowsAt b)) ∷ [] in
+witness-facts edition b e =
+    let l : List Reading = witnessFrame edition b ∷ badRow (misformed edition none 0 (rowsAt edition b)) ∷ [] in
     record {
-      rows = rows-facts b 5 witnessLimit WitnessFrame WitnessVersion WitnessCount (test l e 0);
-      formed = good (misformed none 0 (rowsAt b)) (test l e 1);
+      rows = rows-facts edition b 5 (mostRows edition) WitnessFrame (WitnessVersion (versionPlace edition)) (WitnessCount (countPlace edition)) (test l e 0);
+      formed = good (misformed edition none 0 (rowsAt edition b)) (test l e 1);
     }
   where
     good : (x : Option ℕ) → badRow x ≡ Sound → x ≡ none
@@ -55,18 +59,19 @@ rowsBytes-tab f (suc n) = rowsBytes-snoc (tab f n) (f n) ∙ ap (λ (t : List �
 rows-length : (f : ℕ → Row) (n : ℕ) → length (joined (λ i. rowBytes (f i)) n) ≡ 5 * n
 rows-length f n = length-joined (λ i. rowBytes (f i)) 5 n (λ i h. refl)
 
-witness-tab : (f : ℕ → Row) (n : ℕ) → witnessBytes (tab f n) ≡ rowsFrame 5 n ++ joined (λ i. rowBytes (f i)) n
+witness-tab : (edition : Edition) (f : ℕ → Row) (n : ℕ) → witnessBytes edition (tab f n) ≡ rowsFrame edition 5 n ++ joined (λ i. rowBytes (f i)) n
 unfolding witnessBytes
-witness-tab f n = ap₂ (λ (k : ℕ) (t : List ℕ). rowsFrame 5 k ++ t) (length-tab f n) (rowsBytes-tab f n)
+witness-tab edition f n = ap₂ (λ (k : ℕ) (t : List ℕ). rowsFrame edition 5 k ++ t) (length-tab f n) (rowsBytes-tab f n)
 
 pub rowsBytes-length : (l : List Row) → length (rowsBytes l) ≡ 5 * length l
 unfolding rowsBytes
 rowsBytes-length [] = refl
 rowsBytes-length (r ∷ l) = let again : length (rowsBytes l) ≡ 5 * length l = rowsBytes-length l in omega arith
 
-pub witness-length : (l : List Row) → length (witnessBytes l) ≡ 5 + 5 * length l
+pub witness-length : (edition : Edition) (l : List Row) → length (witnessBytes edition l) ≡ rowsPlace edition + 5 * length l
 unfolding witnessBytes
-witness-length l = omega (arith, rowsBytes-length l)
+witness-length edition l =
+    length-append (rowsFrame edition 5 (length l)) (rowsBytes l) ∙ ap₂ (λ (x y : ℕ). x + y) (frame-length edition 5 (length l)) (rowsBytes-length l)
 
 -- from bytes to rows and back
 
@@ -78,95 +83,124 @@ stands-row b at r p s q t =
     (stands-cons b at (r .mark) (wordBytes (r .time)) p s)
     (stands-cons b (at + 3) (r .kind) (r .transition ∷ []) q (stands-cons b (at + 3 + 1) (r .transition) [] (ap (λ (k : ℕ). getD b k 0) (omega arith) ∙ t) (stands-nil b (at + 3 + 1 + 1))))
 
-row-stands : (b : List ℕ) (i : ℕ) → AllBytes b → Stands b (5 + 5 * i) (rowBytes (rowAt b i))
+row-stands : (edition : Edition) (b : List ℕ) (i : ℕ) → AllBytes b → Stands b (rowPlace edition i) (rowBytes (rowAt edition b i))
 unfolding rowAt
-row-stands b i all =
-    let e : 6 + 5 * i ≡ 5 + 5 * i + 1 = omega arith in
-    stands-row b (5 + 5 * i) (rowAt b i) refl
-    (stands-moved b (6 + 5 * i) (5 + 5 * i + 1) (wordBytes (wordAt b (6 + 5 * i))) e (word-at b (6 + 5 * i) (wordAt b (6 + 5 * i)) all refl))
-    (ap (λ (k : ℕ). getD b k 0) (omega arith)) (ap (λ (k : ℕ). getD b k 0) (omega arith))
+row-stands edition b i all =
+    stands-row b (rowPlace edition i) (rowAt edition b i) refl (word-at b (rowPlace edition i + 1) (wordAt b (rowPlace edition i + 1)) all refl) refl refl
 
 -- written again, the rows of sound bytes are those bytes
-pub witness-again : (b : List ℕ) → AllBytes b → SoundForm b → witnessBytes (rowsAt b) ≡ b
-witness-again b all e =
-    let facts : WitnessFacts b = witness-facts b e in
-    let n : ℕ = witnessCountAt b in
-    let rows : List ℕ = joined (λ i. rowBytes (rowAt b i)) n in
-    witness-tab (rowAt b) n
-    ∙ stands-whole b (rowsFrame 5 n ++ rows) (omega (arith, rows-length (rowAt b) n))
-    (stands-headed b (3 + 5 * n) n rows (word-at b 0 (3 + 5 * n) all (facts .rows .sized)) (facts .rows .version) (word-at b 3 n all refl)
-    (stands-joined (λ i. rowBytes (rowAt b i)) b 5 n
-    (λ i h. stands-moved b (5 + 5 * i) (5 + length (joined (λ i. rowBytes (rowAt b i)) i)) (rowBytes (rowAt b i)) (omega (arith, rows-length (rowAt b) i)) (row-stands b i all))))
+pub witness-again : (edition : Edition) (b : List ℕ) → AllBytes b → SoundForm edition b → witnessBytes edition (rowsAt edition b) ≡ b
+witness-again edition b all e =
+    let rows = witness-facts edition b e .rows in
+    let n : ℕ = witnessCountAt edition b in
+    let bytes : List ℕ = joined (λ i. rowBytes (rowAt edition b i)) n in
+    let head : length (rowsFrame edition 5 n) ≡ rowsPlace edition = frame-length edition 5 n in
+    witness-tab edition (rowAt edition b) n
+    ∙ stands-whole b (rowsFrame edition 5 n ++ bytes)
+    (length-append (rowsFrame edition 5 n) bytes ∙ omega (arith, rows-length (rowAt edition b) n, rows .sized, rows .head .framed))
+    (stands-headed b edition (rowsSize edition 5 n) n bytes (size-at edition b 0 (rowsSize edition 5 n) all (rows .sized)) (rows .version)
+    (size-at edition b (countPlace edition) n all refl)
+    (stands-joined (λ i. rowBytes (rowAt edition b i)) b (rowsPlace edition) n
+    (λ i h. stands-moved b (rowPlace edition i) (rowsPlace edition + length (joined (λ i. rowBytes (rowAt edition b i)) i)) (rowBytes (rowAt edition b i)) (omega (arith, rows-length (rowAt edition b) i))
+    (row-stands edition b i all))))
 
-column : (b : List ℕ) (i : ℕ) → i < witnessCountAt b → rowIn (witnessParts b) i ≡ rowAt b i
+column : (edition : Edition) (b : List ℕ) (i : ℕ) → i < witnessCountAt edition b → rowIn (witnessParts edition b) i ≡ rowAt edition b i
 unfolding witnessParts rowIn rowAt
-column b i h j =
+column edition b i h j =
     record {
-      mark = getD-column witnessLimit (λ i. rowAt b i .mark) (witnessCountAt b) i h j;
-      time = getD-column witnessLimit (λ i. rowAt b i .time) (witnessCountAt b) i h j;
-      kind = getD-column witnessLimit (λ i. rowAt b i .kind) (witnessCountAt b) i h j;
-      transition = getD-column witnessLimit (λ i. rowAt b i .transition) (witnessCountAt b) i h j;
+      mark = getD-column witnessPlaces (λ i. rowAt edition b i .mark) (witnessCountAt edition b) i h j;
+      time = getD-column witnessPlaces (λ i. rowAt edition b i .time) (witnessCountAt edition b) i h j;
+      kind = getD-column witnessPlaces (λ i. rowAt edition b i .kind) (witnessCountAt edition b) i h j;
+      transition = getD-column witnessPlaces (λ i. rowAt edition b i .transition) (witnessCountAt edition b) i h j;
     }
 
-pub witness-rows : (b : List ℕ) → rowsIn (witnessParts b) ≡ rowsAt b
+pub witness-rows : (edition : Edition) (b : List ℕ) → rowsIn (witnessParts edition b) ≡ rowsAt edition b
 unfolding witnessParts
-witness-rows b = tab-same (rowIn (witnessParts b)) (rowAt b) (witnessCountAt b) (column b)
+witness-rows edition b = tab-same (rowIn (witnessParts edition b)) (rowAt edition b) (witnessCountAt edition b) (column edition b)
 
 -- the bytes of rows, read
-module _ (f : ℕ → Row) (n : ℕ) (few : n ≤ witnessLimit) (times : (i : ℕ) → i < n → f i .time < 65536) where
-  written : Stands (witnessBytes (tab f n)) 0 (rowsFrame 5 n ++ joined (λ i. rowBytes (f i)) n)
-  written = subst (λ (l : List ℕ). Stands (witnessBytes (tab f n)) 0 l) (witness-tab f n) (stands-self (witnessBytes (tab f n)))
+module _ (edition : Edition) (f : ℕ → Row) (n : ℕ) (few : n ≤ mostRows edition) (times : (i : ℕ) → i < n → f i .time < 65536) where
+  abbrev bytes : List ℕ
+  bytes = witnessBytes edition (tab f n)
 
-  pub written-count : witnessCountAt (witnessBytes (tab f n)) ≡ n
+  written : Stands bytes 0 (rowsFrame edition 5 n ++ joined (λ i. rowBytes (f i)) n)
+  written = subst (λ (l : List ℕ). Stands bytes 0 l) (witness-tab edition f n) (stands-self bytes)
+
+  pub written-count : witnessCountAt edition bytes ≡ n
   written-count =
-      word-back (witnessBytes (tab f n)) 3 n (omega arith) (headed-count (witnessBytes (tab f n)) (3 + 5 * n) n (joined (λ i. rowBytes (f i)) n) written)
+      size-back edition bytes (countPlace edition) n (rows-sizeable edition n few .0)
+      (headed-count bytes edition (rowsSize edition 5 n) n (joined (λ i. rowBytes (f i)) n) written)
 
-  written-bytes : (i : ℕ) → i < n → Stands (witnessBytes (tab f n)) (5 + 5 * i) (rowBytes (f i))
+  written-bytes : (i : ℕ) → i < n → Stands bytes (rowPlace edition i) (rowBytes (f i))
   written-bytes i h =
-      let b : List ℕ = witnessBytes (tab f n) in
-      let e : 5 + length (joined (λ i. rowBytes (f i)) i) ≡ 5 + 5 * i = omega (arith, rows-length f i) in
-      stands-moved b (5 + length (joined (λ i. rowBytes (f i)) i)) (5 + 5 * i) (rowBytes (f i)) e
-      (joined-stands (λ i. rowBytes (f i)) b 5 n i h (headed-rows b (3 + 5 * n) n (joined (λ i. rowBytes (f i)) n) written))
+      let e : rowsPlace edition + length (joined (λ i. rowBytes (f i)) i) ≡ rowPlace edition i = omega (arith, rows-length f i) in
+      stands-moved bytes (rowsPlace edition + length (joined (λ i. rowBytes (f i)) i)) (rowPlace edition i) (rowBytes (f i)) e
+      (joined-stands (λ i. rowBytes (f i)) bytes (rowsPlace edition) n i h (headed-rows bytes edition (rowsSize edition 5 n) n (joined (λ i. rowBytes (f i)) n) written))
 
-  pub written-row : (i : ℕ) → i < n → rowAt (witnessBytes (tab f n)) i ≡ f i
+  pub written-row : (i : ℕ) → i < n → rowAt edition bytes i ≡ f i
   unfolding rowAt
   written-row i h =
-      let b : List ℕ = witnessBytes (tab f n) in
-      let s : Stands b (5 + 5 * i) (rowBytes (f i)) = written-bytes i h in
-      let at : 5 + 5 * i + 1 ≡ 6 + 5 * i = omega arith in
-      let mark : byteAt b (5 + 5 * i) ≡ f i .mark = ap (λ (k : ℕ). getD b k 0) (omega arith) ∙ s 0 (omega arith) in
-      let time : wordAt b (6 + 5 * i) ≡ f i .time =
-      word-back b (6 + 5 * i) (f i .time) (times i h)
-      (stands-moved b (5 + 5 * i + 1) (6 + 5 * i) (wordBytes (f i .time)) at
-      (stands-right b (5 + 5 * i) (f i .mark ∷ []) (wordBytes (f i .time))
-      (stands-left b (5 + 5 * i) ((f i .mark ∷ []) ++ wordBytes (f i .time)) (f i .kind ∷ f i .transition ∷ []) s)))
+      let at : ℕ = rowPlace edition i in
+      let s : Stands bytes at (rowBytes (f i)) = written-bytes i h in
+      let mark : byteAt bytes at ≡ f i .mark = ap (λ (k : ℕ). getD bytes k 0) (omega arith) ∙ s 0 (omega arith) in
+      let time : wordAt bytes (at + 1) ≡ f i .time =
+      word-back bytes (at + 1) (f i .time) (times i h)
+      (stands-right bytes at (f i .mark ∷ []) (wordBytes (f i .time))
+      (stands-left bytes at ((f i .mark ∷ []) ++ wordBytes (f i .time)) (f i .kind ∷ f i .transition ∷ []) s))
       in
-      let kind : byteAt b (8 + 5 * i) ≡ f i .kind = ap (λ (k : ℕ). getD b k 0) (omega arith) ∙ s 3 (omega arith) in
-      let transition : byteAt b (9 + 5 * i) ≡ f i .transition = ap (λ (k : ℕ). getD b k 0) (omega arith) ∙ s 4 (omega arith) in
+      let kind : byteAt bytes (at + 3) ≡ f i .kind = s 3 (omega arith) in
+      let transition : byteAt bytes (at + 4) ≡ f i .transition = s 4 (omega arith) in
       λ j. record { mark = mark j; time = time j; kind = kind j; transition = transition j }
 
-  pub written-rows : rowsAt (witnessBytes (tab f n)) ≡ tab f n
-  written-rows = ap (λ (k : ℕ). tab (rowAt (witnessBytes (tab f n))) k) written-count ∙ tab-same (rowAt (witnessBytes (tab f n))) f n written-row
+  pub written-rows : rowsAt edition bytes ≡ tab f n
+  written-rows = ap (λ (k : ℕ). tab (rowAt edition bytes) k) written-count ∙ tab-same (rowAt edition bytes) f n written-row
+
+  -- what is written is framed as it should be, so its rows alone decide
+  written-frame : witnessFrame edition bytes ≡ Sound
+  unfolding witnessFrame framedRows framed
+  written-frame =
+      let size : sizeAt edition bytes 0 ≡ rowsSize edition 5 n =
+      size-back edition bytes 0 (rowsSize edition 5 n) (rows-sizeable edition n few .1) (headed-size bytes edition (rowsSize edition 5 n) n (joined (λ i. rowBytes (f i)) n) written)
+      in
+      let version : byteAt bytes (versionPlace edition) ≡ versionOf edition =
+      headed-version bytes edition (rowsSize edition 5 n) n (joined (λ i. rowBytes (f i)) n) written
+      in
+      let long : length bytes ≡ rowsPlace edition + 5 * n = witness-length edition (tab f n) ∙ ap (λ (k : ℕ). rowsPlace edition + 5 * k) (length-tab f n) in
+      rw (
+        size,
+        version,
+        written-count,
+        le-leb (rowsPlace edition) (length bytes) (omega arith),
+        eq-eqb (rowsSize edition 5 n + sizeBytes edition) (length bytes) (omega arith),
+        le-leb (versionOf edition) (versionOf edition) (omega arith),
+        le-leb n (mostRows edition) few,
+        eq-eqb (rowsSize edition 5 n) (rowsSize edition 5 n) refl,
+      )
+
+  pub written-answer : witnessAnswer edition bytes ≡ badRow (misformed edition none 0 (tab f n))
+  unfolding witnessAnswer
+  written-answer = rw (written-frame, written-rows) (then-sound (badRow (misformed edition none 0 (tab f n))))
 
 pub witness-back :
-    (rows : List Row) → length rows ≤ witnessLimit → ((i : ℕ) (r : Row) → getElem? rows i ≡ some r → r .time < 65536) → rowsAt (witnessBytes rows) ≡ rows
-witness-back rows few times =
-    subst (λ (l : List Row). rowsAt (witnessBytes l) ≡ l) (tab-getD blank rows)
-    (written-rows (λ i. getD rows i blank) (length rows) few (λ i h. times i (getD rows i blank) (getElem-getD rows i blank h)))
+    (edition : Edition) (rows : List Row) → length rows ≤ mostRows edition → ((i : ℕ) (r : Row) → getElem? rows i ≡ some r → r .time < 65536)
+    → rowsAt edition (witnessBytes edition rows) ≡ rows
+witness-back edition rows few times =
+    subst (λ (l : List Row). rowsAt edition (witnessBytes edition l) ≡ l) (tab-getD blank rows)
+    (written-rows edition (λ i. getD rows i blank) (length rows) few (λ i h. times i (getD rows i blank) (getElem-getD rows i blank h)))
   where
     blank : Row
     blank = record { mark = 0; time = 0; kind = 0; transition = 0 }
 
 -- what is read of written parts is the same
 pub witness-parts-back :
-    (w : WitnessParts) → w .count ≤ witnessLimit → ((i : ℕ) → i < w .count → byteAt (w .times) i < 65536)
-    → SameWitness (witnessParts (witnessBytes (rowsIn w))) w
+    (edition : Edition) (w : WitnessParts) → w .count ≤ mostRows edition → ((i : ℕ) → i < w .count → byteAt (w .times) i < 65536)
+    → SameWitness (witnessParts edition (witnessBytes edition (rowsIn w))) w
 unfolding rowIn witnessParts
-witness-parts-back w few times =
-    let b : List ℕ = witnessBytes (rowsIn w) in
-    let n : witnessCountAt b ≡ w .count = written-count (rowIn w) (w .count) few times in
-    let row : (i : ℕ) → i < w .count → rowIn (witnessParts b) i ≡ rowIn w i =
-    λ i h. column b i (rw n h) ∙ written-row (rowIn w) (w .count) few times i h
+witness-parts-back edition w few times =
+    let b : List ℕ = witnessBytes edition (rowsIn w) in
+    let n : witnessCountAt edition b ≡ w .count = written-count edition (rowIn w) (w .count) few times in
+    let row : (i : ℕ) → i < w .count → rowIn (witnessParts edition b) i ≡ rowIn w i =
+    λ i h. column edition b i (rw n h) ∙ written-row edition (rowIn w) (w .count) few times i h
     in
     record {
       count = n;
@@ -176,12 +210,12 @@ witness-parts-back w few times =
       transitions = λ i h. ap (λ (r : Row). r .transition) (row i h);
     }
 
-pub witness-zero : (b : List ℕ) → WitnessZero (witnessParts b)
+pub witness-zero : (edition : Edition) (b : List ℕ) → WitnessZero (witnessParts edition b)
 unfolding witnessParts
-witness-zero b =
+witness-zero edition b =
     record {
-      marks = getD-column-past witnessLimit (λ i. rowAt b i .mark) (witnessCountAt b);
-      times = getD-column-past witnessLimit (λ i. rowAt b i .time) (witnessCountAt b);
-      kinds = getD-column-past witnessLimit (λ i. rowAt b i .kind) (witnessCountAt b);
-      transitions = getD-column-past witnessLimit (λ i. rowAt b i .transition) (witnessCountAt b);
+      marks = getD-column-past witnessPlaces (λ i. rowAt edition b i .mark) (witnessCountAt edition b);
+      times = getD-column-past witnessPlaces (λ i. rowAt edition b i .time) (witnessCountAt edition b);
+      kinds = getD-column-past witnessPlaces (λ i. rowAt edition b i .kind) (witnessCountAt edition b);
+      transitions = getD-column-past witnessPlaces (λ i. rowAt edition b i .transition) (witnessCountAt edition b);
     }

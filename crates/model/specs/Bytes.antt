@@ -1,4 +1,4 @@
--- Bytes and numbers: what stands at an offset, two-byte numbers (big-endian), the bits of a mask, and lists made from a function of the index.
+-- Bytes and numbers: what stands at an offset, two-byte and four-byte numbers (big-endian), the bits of a mask, and lists made from a function of the index.
 use Prim.Native.Nat.{ℕ, zero, suc, _+_, _-_, _*_, _/_, _%_, _^_}
 use mathlib.Core.List.{List, [], _∷_, _++_}
 use mathlib.Core.Bool.{Bool}
@@ -15,6 +15,14 @@ wordAt b i = 256 * byteAt b i + byteAt b (i + 1)
 
 abbrev pub wordBytes : ℕ → List ℕ
 wordBytes n = n / 256 % 256 ∷ n % 256 ∷ []
+
+-- a four-byte number
+
+abbrev pub longAt : List ℕ → ℕ → ℕ
+longAt b i = 65536 * wordAt b i + wordAt b (i + 2)
+
+abbrev pub longBytes : ℕ → List ℕ
+longBytes n = n / 16777216 % 256 ∷ n / 65536 % 256 ∷ wordBytes n
 
 -- "Bit 0 of a mask is number 0"
 abbrev pub hasBit : ℕ → ℕ → Bool

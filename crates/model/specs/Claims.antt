@@ -15,6 +15,7 @@ use Rattle.model.specs.Witness.{Row, added, removed, isRemoved}
 use Rattle.model.specs.Order.{Preferred}
 use Rattle.model.specs.Layers.{count}
 use Rattle.model.specs.Validation.{costOf, totalOf, possibleAfter, preferred}
+use Rattle.model.specs.declared.Edition.{Edition}
 use Rattle.model.specs.declared.Situation.{Situation}
 use Rattle.model.specs.declared.Verdict.{Verdict}
 use Rattle.model.specs.declared.Verdict.the-variants.{Accepted, Rejected, Exhausted, Refused}
@@ -104,12 +105,12 @@ pub record Numbered (m : Monitor) : Type 0 where
 -- "exhausted exactly when the cost is above the budget; within budget accepted exactly when some mutation trace of any length, at any positive times, satisfies the
 -- monitor, else rejected; [..] the preferred witness is permitted, has no row after the last recorded time, and comes before every other such one. A budget of T
 -- times N always suffices"
-pub record Judged (m : Monitor) (recording : List Packet) (budget : ℕ) (v : Verdict) : Type 0 where
+pub record Judged (edition : Edition) (m : Monitor) (recording : List Packet) (budget : ℕ) (v : Verdict) : Type 0 where
   pub exhausted : IsExhausted v ↔ (budget < costOf m recording)
   pub accepted : costOf m recording ≤ budget → IsAccepted v ↔ Possible m recording
   pub rejected : costOf m recording ≤ budget → IsRejected v ↔ (Possible m recording → ⊥)
   pub valued : ValuesOf m recording budget v
-  pub witnessed : IsAccepted v → Preferred m recording (preferred m recording)
+  pub witnessed : IsAccepted v → Preferred edition m recording (preferred m recording)
   pub short : length (preferred m recording) ≤ endOf recording
   pub bounded : costOf m recording ≤ endOf recording * size m
   pub distinct : Numbered m

@@ -4,18 +4,19 @@ use mathlib.Core.List.{List, [], _∷_, _++_}
 use mathlib.Core.Bool.{Bool, true, false, cond, _&&_}
 use lib.ListN.{length, take, drop}
 use lib.Dec.{leb, ltb, eqb}
-use Rattle.model.specs.Bytes.{wordAt}
+use Rattle.model.specs.Bytes.{wordAt, longAt}
 use Rattle.model.specs.Numbers.{refusalValues}
 use Rattle.model.specs.Table.{monitorAt}
 use Rattle.model.specs.Recording.{packetsAt}
 use Rattle.model.specs.Witness.{Row, kept, removed}
 use Rattle.model.specs.Validation.{validation, preferred, scratchAfter, roomAfter}
+use Rattle.model.specs.declared.Edition.the-variants.{One}
 use Rattle.model.specs.declared.Verdict.{Verdict}
 use Rattle.model.specs.declared.Verdict.the-variants.{Accepted, Rejected, Exhausted, Refused}
 
 -- "a four-byte budget at the very end"
 abbrev pub budgetIn : List ℕ → ℕ
-budgetIn s = 65536 * wordAt s (length s - 4) + wordAt s (length s - 2)
+budgetIn s = longAt s (length s - 4)
 
 -- what stands before the budget
 abbrev pub filesIn : List ℕ → List ℕ
@@ -91,10 +92,10 @@ verdictLines (Rejected cost instant) witness = line rejectedWord cost instant
 verdictLines (Exhausted budget instant) witness = line exhaustedWord budget instant
 verdictLines (Refused r) witness = line refusedWord (refusalValues r .number) (refusalValues r .second)
 
--- the lines for a table and a recording, judged with a scratch and a witness room of these lengths
+-- the lines for a table and a recording, judged with a scratch and a witness room of these lengths: "the program keeps edition 1 and its room" (R-5)
 unfoldable pub judgedLines : (scratchLength roomLength : ℕ) → (table recording : List ℕ) → ℕ → List ℕ
 judgedLines scratchLength roomLength table recording budget =
-    verdictLines (validation table recording budget scratchLength roomLength) (preferred (monitorAt table) (packetsAt recording))
+    verdictLines (validation One table recording budget scratchLength roomLength) (preferred (monitorAt table) (packetsAt recording))
 
 -- "A program reads at most 8,192 bytes"; "Fewer than 4 bytes prints `refused 5 0`, more than 8,192 `refused 6 0`"
 unfoldable pub linesFor : (scratchLength roomLength : ℕ) → List ℕ → List ℕ
@@ -116,10 +117,10 @@ abbrev pub judgeable : List ℕ → Bool
 judgeable s = leb 4 (length s) && leb (length s) 8192
 
 unfoldable pub scratchFor : List ℕ → (scratch room : List ℕ) → List ℕ
-scratchFor s scratch room = cond (judgeable s) (scratchAfter (tableIn s) (recordingIn s) (budgetIn s) scratch room) scratch
+scratchFor s scratch room = cond (judgeable s) (scratchAfter One (tableIn s) (recordingIn s) (budgetIn s) scratch room) scratch
 
 unfoldable pub roomFor : List ℕ → (scratch room : List ℕ) → List ℕ
-roomFor s scratch room = cond (judgeable s) (roomAfter (tableIn s) (recordingIn s) (budgetIn s) scratch room) room
+roomFor s scratch room = cond (judgeable s) (roomAfter One (tableIn s) (recordingIn s) (budgetIn s) scratch room) room
 
 -- lines in a lent text: as far as they fit, the rest untouched
 abbrev pub inText : List ℕ → List ℕ → List ℕ

@@ -11,6 +11,7 @@ use Rattle.model.specs.Kinds.{versionAt, kindAt, kindRecord}
 use Rattle.model.specs.Table.{tableCounts}
 use Rattle.model.specs.Numbers.{Values, values}
 use Rattle.model.specs.declared.TableParts.{TableParts}
+use Rattle.model.specs.declared.Edition.the-variants.{One}
 use Rattle.model.specs.declared.Reading.the-variants.{Sound}
 use Rattle.model.specs.declared.Refusal.the-variants.{TableFrame, TableVersion}
 
@@ -27,7 +28,7 @@ pub record SoundDevices (t : TableParts) : Type 0 where
 -- the kinds having these devices, no number applies to length, version, counts and the kinds before number i
 abbrev pub SoundBefore : (devices b : List ℕ) → ℕ → Type 0
 SoundBefore devices b i =
-    (framed b 8 tableVersions TableFrame TableVersion ≡ Sound)
+    (framed One b 8 1 tableVersions TableFrame TableVersion ≡ Sound)
     × (tableCounts b ≡ Sound)
     × ((k : ℕ) → k < i → kindRecord b (kindAt (versionAt b) k) (byteAt devices k) ≡ Sound)
 

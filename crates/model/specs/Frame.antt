@@ -1,37 +1,43 @@
--- "Each file: a two-byte length of all that follows it, big-endian, then a version byte". A recording and a witness have the number of their rows next.
+-- "Each file: a two-byte length of all that follows it, big-endian, then a version byte". A recording and a witness have the number of their rows next. In edition 2
+-- of a witness length and number are longer (document 02, R-5); tables and recordings have the frame of edition 1.
 use Prim.Native.Nat.{ℕ, _+_, _*_}
 use mathlib.Core.List.{List, [], _∷_, _++_}
 use mathlib.Core.Bool.{Bool, _&&_}
 use lib.ListN.{length}
 use lib.Dec.{leb, eqb}
-use Rattle.model.specs.Limits.{rowVersions}
-use Rattle.model.specs.Bytes.{byteAt, wordAt, wordBytes}
+use Rattle.model.specs.Bytes.{byteAt}
 use Rattle.model.specs.First.{unless, firstOf}
+use Rattle.model.specs.Edition.{sizeBytes, sizeAt, sizeIn, versionOf, versionPlace, countPlace, rowsPlace}
+use Rattle.model.specs.declared.Edition.{Edition}
 use Rattle.model.specs.declared.Refusal.{Refusal}
 use Rattle.model.specs.declared.Reading.{Reading}
 
--- versions are numbered from 1 to the latest
-abbrev pub isVersion : (latest version : ℕ) → Bool
-isVersion latest version = leb 1 version && leb version latest
+-- one of the versions from the oldest to the latest
+abbrev pub isVersion : (oldest latest version : ℕ) → Bool
+isVersion oldest latest version = leb oldest version && leb version latest
 
--- at least so many bytes, a length that matches, a version up to the latest
-unfoldable pub framed : List ℕ → (least latest : ℕ) → (frame version : Refusal) → Reading
-framed b least latest frame version =
+-- at least so many bytes, a length that matches, a version from the oldest to the latest
+unfoldable pub framed : Edition → List ℕ → (least oldest latest : ℕ) → (frame version : Refusal) → Reading
+framed edition b least oldest latest frame version =
     firstOf
     (unless (leb least (length b)) frame
-    ∷ unless (eqb (wordAt b 0 + 2) (length b)) frame
-    ∷ unless (isVersion latest (byteAt b 2)) version
+    ∷ unless (eqb (sizeAt edition b 0 + sizeBytes edition) (length b)) frame
+    ∷ unless (isVersion oldest latest (byteAt b (versionPlace edition))) version
     ∷ [])
 
--- the same, then at most so many rows of one width, and no byte more
-unfoldable pub framedRows : List ℕ → (width limit : ℕ) → (frame version count : Refusal) → Reading
-framedRows b width limit frame version count =
+-- the length of what follows it: the count, the version, and so many rows of one width
+abbrev pub rowsSize : Edition → (width count : ℕ) → ℕ
+rowsSize edition width count = sizeBytes edition + 1 + width * count
+
+-- the edition's version, then at most so many rows of one width, and no byte more
+unfoldable pub framedRows : Edition → List ℕ → (width limit : ℕ) → (frame version count : Refusal) → Reading
+framedRows edition b width limit frame version count =
     firstOf
-    (framed b 5 rowVersions frame version
-    ∷ unless (leb (wordAt b 3) limit) count
-    ∷ unless (eqb (wordAt b 0) (3 + width * wordAt b 3)) count
+    (framed edition b (rowsPlace edition) (versionOf edition) (versionOf edition) frame version
+    ∷ unless (leb (sizeAt edition b (countPlace edition)) limit) count
+    ∷ unless (eqb (sizeAt edition b 0) (rowsSize edition width (sizeAt edition b (countPlace edition)))) count
     ∷ [])
 
 -- what stands before so many rows of one width
-abbrev pub rowsFrame : (width count : ℕ) → List ℕ
-rowsFrame width count = wordBytes (3 + width * count) ++ (rowVersions ∷ []) ++ wordBytes count
+abbrev pub rowsFrame : Edition → (width count : ℕ) → List ℕ
+rowsFrame edition width count = sizeIn edition (rowsSize edition width count) ++ (versionOf edition ∷ []) ++ sizeIn edition count

@@ -1,6 +1,7 @@
 pub mod Limits
 pub mod Bytes
 pub mod First
+pub mod Edition
 pub mod Frame
 pub mod Guard
 pub mod Monitor

@@ -1,13 +1,9 @@
--- The limits that document 01 and R-6 of document 02 set, each once.
+-- The limits that document 01 and document 02's R-5 and R-6 set, each once; those of a witness are its edition's.
 use Prim.Native.Nat.{ℕ}
 
--- the latest version: a table has version 1 or 2 (R-6), a recording and a witness version 1
-
+-- the latest version of a table, which has version 1 or 2 (R-6)
 abbrev pub tableVersions : ℕ
 tableVersions = 2
-
-abbrev pub rowVersions : ℕ
-rowVersions = 1
 
 -- "number of states (1 to 16), variables (0 to 4), clocks (0 to 2), kinds (1 to 32), transitions (0 to 64)"
 
@@ -46,10 +42,10 @@ sizeLimit = 65536
 abbrev pub rowLimit : ℕ
 rowLimit = 512
 
--- a row's "time (1 to 4,096)", in a recording and in a witness
+-- a recorded row's time: "Raise the last time to 65,535 ticks in recordings" (R-5)
 abbrev pub timeLimit : ℕ
-timeLimit = 4096
+timeLimit = 65535
 
--- a witness's "count (0 to 4,608)"
-abbrev pub witnessLimit : ℕ
-witnessLimit = 4608
+-- so many places each column has in a witness's parts, of either edition
+abbrev pub witnessPlaces : ℕ
+witnessPlaces = 65535

@@ -37,8 +37,8 @@ refusalValues (Scratch wanted) = values 30 wanted 0
 refusalValues (WitnessRoom wanted) = values 31 wanted 0
 refusalValues (WriteRoom wanted) = values 33 wanted 0
 refusalValues WitnessFrame = values 40 0 0
-refusalValues WitnessVersion = values 41 2 0
-refusalValues WitnessCount = values 42 3 0
+refusalValues (WitnessVersion offset) = values 41 offset 0
+refusalValues (WitnessCount offset) = values 42 offset 0
 refusalValues (WitnessRow row) = values 43 row 0
 
 -- "Reading sound bytes gives 0, 0 and 0"

@@ -9,6 +9,7 @@ use Rattle.model.specs.Trace.{Packet}
 use Rattle.model.specs.Recording.{endOf}
 use Rattle.model.specs.Witness.{Row, kept, added}
 use Rattle.model.specs.Rules.{Permits}
+use Rattle.model.specs.declared.Edition.{Edition}
 
 -- the rows of one instant
 unfoldable pub rowsOn : ℕ → List Row → List Row
@@ -48,7 +49,7 @@ abbrev pub EndsBy : ℕ → List Row → Type 0
 EndsBy last rows = (r : Row) → List·Memᴰ r rows → r .time ≤ last
 
 -- "The preferred witness is the permitted one with no row after T that comes before every other such one"
-pub record Preferred (m : Monitor) (recording : List Packet) (w : List Row) : Type 0 where
-  pub permitted : Permits m recording w
+pub record Preferred (edition : Edition) (m : Monitor) (recording : List Packet) (w : List Row) : Type 0 where
+  pub permitted : Permits edition m recording w
   pub ends : EndsBy (endOf recording) w
-  pub first : (v : List Row) → Permits m recording v → EndsBy (endOf recording) v → (v ≡ w → ⊥) → Before w v
+  pub first : (v : List Row) → Permits edition m recording v → EndsBy (endOf recording) v → (v ≡ w → ⊥) → Before w v

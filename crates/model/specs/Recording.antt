@@ -15,11 +15,12 @@ use Rattle.model.specs.Trace.{Packet}
 use Rattle.model.specs.Table.{tableAnswer, kindsAt, monitorAt}
 use Rattle.model.specs.declared.RecordingParts.{RecordingParts}
 use Rattle.model.specs.declared.RecordingReading.{RecordingReading}
+use Rattle.model.specs.declared.Edition.the-variants.{One}
 use Rattle.model.specs.declared.Reading.{Reading}
 use Rattle.model.specs.declared.Reading.the-variants.{Sound}
 use Rattle.model.specs.declared.Refusal.the-variants.{RecordingFrame, RecordingVersion, RecordingCount, RecordingRange, RecordingOrder}
 
--- "two-byte count n (0 to 512), then n rows of two-byte time (1 to 4,096) and kind"
+-- "two-byte count n (0 to 512), then n rows of two-byte time (1 to 4,096)", to 65,535 since R-5, "and kind"
 abbrev pub countAt : List ℕ → ℕ
 countAt b = wordAt b 3
 
@@ -51,7 +52,7 @@ recordedRows (suc n) table b i = firstOf (recordedRow table b i ∷ recordedRows
 
 -- 20, 21 and 22
 unfoldable pub recordingFrame : List ℕ → Reading
-recordingFrame b = framedRows b 3 rowLimit RecordingFrame RecordingVersion RecordingCount
+recordingFrame b = framedRows One b 3 rowLimit RecordingFrame RecordingVersion RecordingCount
 
 -- 20 to 24, the recording's own numbers
 unfoldable pub recordingScan : List ℕ → List ℕ → Reading
@@ -100,7 +101,7 @@ abbrev pub recordedBytes : (times kinds : List ℕ) → ℕ → List ℕ
 recordedBytes times kinds i = wordBytes (getD times i 0) ++ (getD kinds i 0 ∷ [])
 
 unfoldable pub recordingBytes : RecordingParts → List ℕ
-recordingBytes r = rowsFrame 3 (r .count) ++ joined (recordedBytes (r .times) (r .kinds)) (r .count)
+recordingBytes r = rowsFrame One 3 (r .count) ++ joined (recordedBytes (r .times) (r .kinds)) (r .count)
 
 -- writing: the table's numbers, then 22 for a count outside its limits
 unfoldable pub recordingEarly : List ℕ → (count : ℕ) → Reading

@@ -1,4 +1,4 @@
--- The witness against a table and a recording: the rules for its rows, the checker's answer, and which witnesses are permitted.
+-- The witness, of either edition, against a table and a recording: the rules for its rows, the checker's answer, and which witnesses are permitted.
 use Prim.Native.Nat.{ℕ, suc, _+_, _-_, _≤_}
 use mathlib.Core.Path.{_≡_}
 use mathlib.Core.List.{List, [], _∷_}
@@ -6,13 +6,14 @@ use mathlib.Core.Bool.{Bool, true, false, cond, not, _&&_}
 use mathlib.Core.Option.{Option, none, some, Option·map}
 use lib.ListN.{length}
 use lib.Dec.{leb, eqb}
-use Rattle.model.specs.Limits.{witnessLimit}
+use Rattle.model.specs.Edition.{mostRows}
 use Rattle.model.specs.First.{firstOf}
 use Rattle.model.specs.Monitor.{Monitor, Config, start, wait, fires, toUnit, airtime}
 use Rattle.model.specs.Trace.{Packet}
 use Rattle.model.specs.Table.{monitorAt}
 use Rattle.model.specs.Recording.{recordingAnswer, packetsAt}
 use Rattle.model.specs.Witness.{Row, kept, isRemoved, inPlace, rowsAt, badRow, witnessFrame}
+use Rattle.model.specs.declared.Edition.{Edition}
 use Rattle.model.specs.declared.Reading.{Reading}
 use Rattle.model.specs.declared.Reading.the-variants.{Sound, Unsound}
 use Rattle.model.specs.declared.Checking.{Checking}
@@ -74,21 +75,21 @@ unfoldable pub adds : Monitor → Progress → Row → Option Progress
 adds m p r = cond (noneAt (p .left) (r .time)) (sends m p r (p .left)) none
 
 -- the next row: its form; it "finds the air free", a removed row too (R-3); and the rule for its mark. None where a rule is broken
-unfoldable pub account : Monitor → Progress → Row → Option Progress
-account m p r =
-    cond (inPlace (p .before) r && noneBefore (p .left) (r .time) && leb (p .free) (r .time))
+unfoldable pub account : Edition → Monitor → Progress → Row → Option Progress
+account edition m p r =
+    cond (inPlace edition (p .before) r && noneBefore (p .left) (r .time) && leb (p .free) (r .time))
     (cond (eqb (r .mark) kept) (keeps m p r) (cond (isRemoved r) (removes m p r) (adds m p r)))
     none
 
 -- "first witness row that breaks a rule above; none does, but recorded rows are unaccounted for at the end": the row's number; the row count
-unfoldable pub broken : Monitor → Progress → ℕ → List Row → Option ℕ
-broken m p i [] = elim (p .left) [ [] ↦ none | q ∷ qs ↦ some i ]
-broken m p i (r ∷ rs) = elim (account m p r) [ none ↦ some i | some q ↦ broken m q (suc i) rs ]
+unfoldable pub broken : Edition → Monitor → Progress → ℕ → List Row → Option ℕ
+broken edition m p i [] = elim (p .left) [ [] ↦ none | q ∷ qs ↦ some i ]
+broken edition m p i (r ∷ rs) = elim (account edition m p r) [ none ↦ some i | some q ↦ broken edition m q (suc i) rs ]
 
 -- "A witness is permitted if, against the table and the recording, none of 40 to 43 applies"
-pub record Permits (m : Monitor) (recording : List Packet) (rows : List Row) : Type 0 where
-  pub fits : length rows ≤ witnessLimit
-  pub unbroken : broken m (begin recording) 0 rows ≡ none
+pub record Permits (edition : Edition) (m : Monitor) (recording : List Packet) (rows : List Row) : Type 0 where
+  pub fits : length rows ≤ mostRows edition
+  pub unbroken : broken edition m (begin recording) 0 rows ≡ none
 
 -- the checker's answer: table, recording, then 40 to 43
 
@@ -96,12 +97,12 @@ unfoldable pub changes : List Row → ℕ
 changes [] = 0
 changes (r ∷ rs) = cond (eqb (r .mark) kept) 0 1 + changes rs
 
-unfoldable pub checkRefusal : List ℕ → List ℕ → List ℕ → Reading
-checkRefusal table recording witness =
+unfoldable pub checkRefusal : Edition → List ℕ → List ℕ → List ℕ → Reading
+checkRefusal edition table recording witness =
     firstOf
     (recordingAnswer table recording
-    ∷ witnessFrame witness
-    ∷ badRow (broken (monitorAt table) (begin (packetsAt recording)) 0 (rowsAt witness))
+    ∷ witnessFrame edition witness
+    ∷ badRow (broken edition (monitorAt table) (begin (packetsAt recording)) 0 (rowsAt edition witness))
     ∷ [])
 
 -- "on acceptance answers 0 with the number of removed and added rows, and the number of rows"
@@ -109,5 +110,5 @@ abbrev pub checked : Reading → List Row → Checking
 checked Sound rows = Permitted (changes rows) (length rows)
 checked (Unsound r) rows = Unchecked r
 
-unfoldable pub checkAnswer : List ℕ → List ℕ → List ℕ → Checking
-checkAnswer table recording witness = checked (checkRefusal table recording witness) (rowsAt witness)
+unfoldable pub checkAnswer : Edition → List ℕ → List ℕ → List ℕ → Checking
+checkAnswer edition table recording witness = checked (checkRefusal edition table recording witness) (rowsAt edition witness)

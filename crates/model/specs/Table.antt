@@ -17,6 +17,7 @@ use Rattle.model.specs.Size.{size}
 use Rattle.model.specs.Reach.{statesAnswer}
 use Rattle.model.specs.declared.TableParts.{TableParts}
 use Rattle.model.specs.declared.TableReading.{TableReading}
+use Rattle.model.specs.declared.Edition.the-variants.{One}
 use Rattle.model.specs.declared.Reading.{Reading}
 use Rattle.model.specs.declared.Reading.the-variants.{Sound}
 use Rattle.model.specs.declared.Refusal.the-variants.{TableFrame, TableVersion, TableCount, TableLength, TableField, TableGuard, TableSize}
@@ -202,7 +203,7 @@ noTable =
 unfoldable pub scanWith : (devices : List ℕ) → List ℕ → Reading
 scanWith devices b =
     firstOf
-    (framed b 8 tableVersions TableFrame TableVersion
+    (framed One b 8 1 tableVersions TableFrame TableVersion
     ∷ tableCounts b
     ∷ kindRecords devices b
     ∷ transitionRecords (transitionsAt b) b (transitionAt b 0)

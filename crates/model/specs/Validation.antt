@@ -1,4 +1,5 @@
--- Validation: the verdict, and what scratch and room hold afterwards, for any bytes and any lengths.
+-- Validation: the verdict, and what scratch and room hold afterwards, for any bytes and any lengths. The edition of the witness, which the caller names, decides 31
+-- and the bytes in the room, and nothing else.
 use Prim.Native.Nat.{ℕ, suc, _+_, _*_}
 use mathlib.Core.Path.{_≡_}
 use mathlib.Core.List.{List, [], _∷_, _++_}
@@ -7,6 +8,7 @@ use mathlib.Core.Option.{Option, none, some}
 use lib.ListN.{length, drop, replicate}
 use lib.Dec.{leb, ltb}
 use Rattle.model.specs.First.{unless, firstOf}
+use Rattle.model.specs.Edition.{rowsPlace, latestTime}
 use Rattle.model.specs.Room.{over}
 use Rattle.model.specs.Monitor.{Monitor}
 use Rattle.model.specs.Trace.{Packet}
@@ -16,6 +18,7 @@ use Rattle.model.specs.Recording.{recordingAnswer, packetsAt, endOf}
 use Rattle.model.specs.Witness.{Row, kept, removed, added, noTransition, marked, witnessBytes}
 use Rattle.model.specs.Situation.{Move, keep, rest, add, moveOf, moveLimit, recordedAt, triggerOf, stepNumber, firstNumber}
 use Rattle.model.specs.Layers as L
+use Rattle.model.specs.declared.Edition.{Edition}
 use Rattle.model.specs.declared.Reading.{Reading}
 use Rattle.model.specs.declared.Reading.the-variants.{Sound, Unsound}
 use Rattle.model.specs.declared.Verdict.{Verdict}
@@ -84,26 +87,27 @@ verdict m recording budget =
           ]
     ]
 
--- "scratch below (T+1) x S", "witness room below 5 + 5(T+n)"
+-- "scratch below (T+1) x S", "witness room below 5 + 5(T+n)", in edition 2 "room 9 + 5(T+n)"
 
 abbrev pub scratchWanted : List ℕ → List ℕ → ℕ
 scratchWanted table recording = (endOf (packetsAt recording) + 1) * setBytes (size (monitorAt table))
 
-abbrev pub roomWanted : List ℕ → ℕ
-roomWanted recording = 5 + 5 * (endOf (packetsAt recording) + length (packetsAt recording))
+abbrev pub roomWanted : Edition → List ℕ → ℕ
+roomWanted edition recording = rowsPlace edition + 5 * (endOf (packetsAt recording) + length (packetsAt recording))
 
--- table, recording, 30, 31
-unfoldable pub refusal : (table recording : List ℕ) → (scratchLength roomLength : ℕ) → Reading
-refusal table recording scratchLength roomLength =
+-- table, recording, 30, 31. "Edition 1 keeps its limits and is written only if T is at most 4,096; otherwise 31 is given with 0 however large the room"
+unfoldable pub refusal : Edition → (table recording : List ℕ) → (scratchLength roomLength : ℕ) → Reading
+refusal edition table recording scratchLength roomLength =
     firstOf
     (recordingAnswer table recording
     ∷ unless (leb (scratchWanted table recording) scratchLength) (Scratch (scratchWanted table recording))
-    ∷ unless (leb (roomWanted recording) roomLength) (WitnessRoom (roomWanted recording))
+    ∷ unless (leb (endOf (packetsAt recording)) (latestTime edition)) (WitnessRoom 0)
+    ∷ unless (leb (roomWanted edition recording) roomLength) (WitnessRoom (roomWanted edition recording))
     ∷ [])
 
-unfoldable pub validation : (table recording : List ℕ) → (budget scratchLength roomLength : ℕ) → Verdict
-validation table recording budget scratchLength roomLength =
-    elim (refusal table recording scratchLength roomLength)
+unfoldable pub validation : Edition → (table recording : List ℕ) → (budget scratchLength roomLength : ℕ) → Verdict
+validation edition table recording budget scratchLength roomLength =
+    elim (refusal edition table recording scratchLength roomLength)
     [ Sound ↦ verdict (monitorAt table) (packetsAt recording) budget | Unsound r ↦ Refused r ]
 
 -- "After 0, 1 or 2 the wanted part of the scratch is zero and the rest untouched"; "After a refusal every lent byte is untouched"
@@ -120,10 +124,11 @@ roomBy (Rejected c i) witness room = room
 roomBy (Exhausted b i) witness room = room
 roomBy (Refused r) witness room = room
 
-unfoldable pub scratchAfter : (table recording : List ℕ) → (budget : ℕ) → (scratch room : List ℕ) → List ℕ
-scratchAfter table recording budget scratch room =
-    scratchBy (validation table recording budget (length scratch) (length room)) (scratchWanted table recording) scratch
+unfoldable pub scratchAfter : Edition → (table recording : List ℕ) → (budget : ℕ) → (scratch room : List ℕ) → List ℕ
+scratchAfter edition table recording budget scratch room =
+    scratchBy (validation edition table recording budget (length scratch) (length room)) (scratchWanted table recording) scratch
 
-unfoldable pub roomAfter : (table recording : List ℕ) → (budget : ℕ) → (scratch room : List ℕ) → List ℕ
-roomAfter table recording budget scratch room =
-    roomBy (validation table recording budget (length scratch) (length room)) (witnessBytes (preferred (monitorAt table) (packetsAt recording))) room
+unfoldable pub roomAfter : Edition → (table recording : List ℕ) → (budget : ℕ) → (scratch room : List ℕ) → List ℕ
+roomAfter edition table recording budget scratch room =
+    roomBy (validation edition table recording budget (length scratch) (length room))
+    (witnessBytes edition (preferred (monitorAt table) (packetsAt recording))) room

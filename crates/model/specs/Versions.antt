@@ -7,6 +7,7 @@ use Rattle.model.specs.Kinds.{versionAt, kindAt}
 use Rattle.model.specs.Table.{kindsAt, transitionAt}
 use Rattle.model.specs.Validation.{validation, scratchAfter, roomAfter}
 use Rattle.model.specs.Rules.{checkAnswer}
+use Rattle.model.specs.declared.Edition.{Edition}
 
 -- the same bytes but for length, version and devices: the counts, direction and airtime of each kind, and all from the first transition on
 pub record SameOtherBytes (b c : List ℕ) : Type 0 where
@@ -14,9 +15,9 @@ pub record SameOtherBytes (b c : List ℕ) : Type 0 where
   pub kinds : (i : ℕ) → i < kindsAt b → take 2 (drop (kindAt (versionAt b) i) b) ≡ take 2 (drop (kindAt (versionAt c) i) c)
   pub transitions : drop (transitionAt b 0) b ≡ drop (transitionAt c 0) c
 
--- whatever the recording, budget, scratch and room, and whatever the witness
+-- whatever the edition, recording, budget, scratch and room, and whatever the witness
 pub record SameAnswers (b c : List ℕ) : Type 0 where
-  pub verdict : (recording : List ℕ) (budget scratchLength roomLength : ℕ) → validation b recording budget scratchLength roomLength ≡ validation c recording budget scratchLength roomLength
-  pub scratch : (recording : List ℕ) (budget : ℕ) (scratch room : List ℕ) → scratchAfter b recording budget scratch room ≡ scratchAfter c recording budget scratch room
-  pub room : (recording : List ℕ) (budget : ℕ) (scratch room : List ℕ) → roomAfter b recording budget scratch room ≡ roomAfter c recording budget scratch room
-  pub checking : (recording witness : List ℕ) → checkAnswer b recording witness ≡ checkAnswer c recording witness
+  pub verdict : (edition : Edition) (recording : List ℕ) (budget scratchLength roomLength : ℕ) → validation edition b recording budget scratchLength roomLength ≡ validation edition c recording budget scratchLength roomLength
+  pub scratch : (edition : Edition) (recording : List ℕ) (budget : ℕ) (scratch room : List ℕ) → scratchAfter edition b recording budget scratch room ≡ scratchAfter edition c recording budget scratch room
+  pub room : (edition : Edition) (recording : List ℕ) (budget : ℕ) (scratch room : List ℕ) → roomAfter edition b recording budget scratch room ≡ roomAfter edition c recording budget scratch room
+  pub checking : (edition : Edition) (recording witness : List ℕ) → checkAnswer edition b recording witness ≡ checkAnswer edition c recording witness

@@ -1,11 +1,9 @@
 // The values that cross from one crate to the next: the parts of a table, a recording and a witness, a situation, and the answers.
 // Their meaning is in specs/: what bytes give which parts, and which number of document 01 each answer stands for.
-// The constants are document 01's limits and codes (specs/Limits, Witness, Situation).
+// The constants are document 01's limits and codes (specs/Limits, Witness, Situation); those of a witness's editions are in `frame`.
 
-// the latest version of a table, and of a recording and a witness
+// the latest version of a table
 pub const TABLE_VERSIONS: u8 = 2;
-
-pub const ROW_VERSIONS: u8 = 1;
 
 pub const STATE_LIMIT: u8 = 16;
 
@@ -25,12 +23,11 @@ pub const DEVICE_LIMIT: u8 = 15;
 pub const GUARD_LIMIT: usize = 32;
 
 pub const SIZE_LIMIT: u64 = 65536;
-// rows of a recording, and the latest time of a row there and in a witness
+// rows of a recording, whose times may be any u16 from 1 up
 pub const ROW_LIMIT: usize = 512;
 
-pub const TIME_LIMIT: u16 = 4096;
-
-pub const WITNESS_LIMIT: usize = 4608;
+// the places of each column of a witness's parts, for either edition
+pub const WITNESS_PLACES: usize = 65535;
 
 // marks of a witness's rows, and the transition number of a removed one
 pub const KEPT: u8 = 0;
@@ -77,11 +74,17 @@ pub struct RecordingParts {
 }
 
 pub struct WitnessParts {
-    pub count: u16,
-    pub marks: [u8; WITNESS_LIMIT],
-    pub times: [u16; WITNESS_LIMIT],
-    pub kinds: [u8; WITNESS_LIMIT],
-    pub transitions: [u8; WITNESS_LIMIT],
+    pub count: u32,
+    pub marks: [u8; WITNESS_PLACES],
+    pub times: [u16; WITNESS_PLACES],
+    pub kinds: [u8; WITNESS_PLACES],
+    pub transitions: [u8; WITNESS_PLACES],
+}
+
+// The editions of a witness (R-5), of which a caller names one.
+pub enum Edition {
+    One,
+    Two,
 }
 
 // Where a monitor is: state, variables as a mask, what each clock reads. A clock that the table does not have is never read.
@@ -119,8 +122,8 @@ pub enum Refusal {
     WitnessRoom { wanted: u64 },
     WriteRoom { wanted: u64 },
     WitnessFrame,
-    WitnessVersion,
-    WitnessCount,
+    WitnessVersion { offset: u64 },
+    WitnessCount { offset: u64 },
     WitnessRow { row: u64 },
 }
 

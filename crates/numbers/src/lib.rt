@@ -47,8 +47,8 @@ pub fn refusal_numbers(refusal: Refusal) -> Answer
         Refusal::WitnessRoom { wanted } => numbered(31, wanted, 0),
         Refusal::WriteRoom { wanted } => numbered(33, wanted, 0),
         Refusal::WitnessFrame => numbered(40, 0, 0),
-        Refusal::WitnessVersion => numbered(41, 2, 0),
-        Refusal::WitnessCount => numbered(42, 3, 0),
+        Refusal::WitnessVersion { offset } => numbered(41, offset, 0),
+        Refusal::WitnessCount { offset } => numbered(42, offset, 0),
         Refusal::WitnessRow { row } => numbered(43, row, 0),
     }
 }

@@ -1,16 +1,13 @@
 -- What is written reads back to the same parts.
 use Prim.Native.Nat.{ℕ, zero, suc, _-_, _*_, _<_, _≤_}
-use denote.Array.{each}
-use denote.Shadow.{shadow}
-use denote.Struct.Field.{u16-field}
-use mir.Val.{Val}
 use native.Mathlib.Omega.{arith}
 use mathlib.Core.Path.{_≡_, refl, sym, ap, ap₂, subst, _∙_}
 use mathlib.Core.List.{List, [], _∷_, map}
 use mathlib.Core.Bool.{cond}
 use lib.ListN.{length, take}
 use lib.Dec.{leb}
-use Rattle.model.specs.Limits.{transitionLimit, guardLimit, rowLimit, witnessLimit}
+use Rattle.model.specs.Limits.{transitionLimit, guardLimit, rowLimit}
+use Rattle.model.specs.Edition.{countPlace, mostRows}
 use Rattle.model.specs.Answers.{Writes}
 use Rattle.model.specs.Bytes.{byteAt}
 use Rattle.model.specs.First.{unless, isSound}
@@ -20,6 +17,8 @@ use Rattle.model.specs.Room.{Lent, write}
 use Rattle.model.specs.Table.{scanWith, answerWith, tableAnswer, tableBytes, tableParts, noTable, readTable, tableWritable, writeTable}
 use Rattle.model.specs.Recording.{recordingAnswer, recordingBytes, recordingParts, noRecording, readRecording, recordingEarly, recordingWritable, writeRecording}
 use Rattle.model.specs.Witness.{witnessFrame, witnessAnswer, witnessBytes, witnessParts, noWitness, readWitness, rowsIn, witnessWritable, writeWitness}
+use Rattle.model.specs.declared.Edition.{Edition}
+use Rattle.model.specs.declared.Edition.the-variants.{One}
 use Rattle.model.specs.declared.TableParts.{TableParts}
 use Rattle.model.specs.declared.TableReading.{TableReading}
 use Rattle.model.specs.declared.RecordingParts.{RecordingParts}
@@ -54,19 +53,12 @@ module _ (w : Writing) (roomThen : List ℕ) (n : ℕ) where
   unfolding writeRecording
   recording-fits table r room = fits (recordingWritable table r) (recordingBytes r) room
 
-  pub witness-fits : (v : WitnessParts) (room : List ℕ) → Writes (writeWitness v room) w roomThen → w ≡ Written n → n ≤ length roomThen
+  pub witness-fits : (edition : Edition) (v : WitnessParts) (room : List ℕ) → Writes (writeWitness edition v room) w roomThen → w ≡ Written n → n ≤ length roomThen
   unfolding writeWitness
-  witness-fits v room = fits (witnessWritable v) (witnessBytes (rowsIn v)) room
+  witness-fits edition v room = fits (witnessWritable edition v) (witnessBytes edition (rowsIn v)) room
 
 less-nothing : (n : ℕ) → n - 0 ≡ n
 less-nothing n = omega arith
-
--- the numbers of an array of u16 are below 65,536
-pub all-below : (xs : List ℕ) (us : List Val) → shadow (each ℕ (u16-field .row .own) (map (λ x. x) xs) us) → (i : ℕ) → byteAt xs i < 65536
-all-below [] us s i = omega arith
-all-below (x ∷ xs) [] s i = absurd s
-all-below (x ∷ xs) (u ∷ us) s zero = omega (arith, s .0)
-all-below (x ∷ xs) (u ∷ us) s (suc i) = all-below xs us (s .1) i
 
 -- no bytes are refused, with parts that are all 0
 
@@ -78,7 +70,7 @@ pub no-recording-read : readRecording [] [] .parts ≡ noRecording
 unfolding readRecording recordingAnswer tableAnswer answerWith scanWith framed
 no-recording-read = refl
 
-pub no-witness-read : readWitness [] .parts ≡ noWitness
+pub no-witness-read : readWitness One [] .parts ≡ noWitness
 unfolding readWitness witnessAnswer witnessFrame framedRows framed
 no-witness-read = refl
 
@@ -131,24 +123,24 @@ recording-kept table r times room n done x read =
       beyond = subst RecordingZero (sym parts) (recording-zero (recordingBytes r));
     }
 
-pub witness-kept : (v : WitnessParts) → ((i : ℕ) → i < v .count → byteAt (v .times) i < 65536) → (room : List ℕ) (n : ℕ)
-    → writeWitness v room .answer ≡ Written n → (x : WitnessReading) → x ≡ readWitness (take n (writeWitness v room .room)) → WitnessKept v x
+pub witness-kept : (edition : Edition) (v : WitnessParts) → ((i : ℕ) → i < v .count → byteAt (v .times) i < 65536) → (room : List ℕ) (n : ℕ)
+    → writeWitness edition v room .answer ≡ Written n → (x : WitnessReading) → x ≡ readWitness edition (take n (writeWitness edition v room .room)) → WitnessKept v x
 unfolding writeWitness readWitness witnessWritable
-witness-kept v times room n done x read =
-    let bytes : List ℕ = witnessBytes (rowsIn v) in
-    let (writable, stands, _) = written (witnessWritable v) bytes room n done in
-    let all : List Reading = unless (leb (v .count) witnessLimit) WitnessCount ∷ witnessAnswer bytes ∷ [] in
-    let few : v .count ≤ witnessLimit = le-test _ _ WitnessCount (test all writable 0) in
-    let sound : witnessAnswer bytes ≡ Sound = test all writable 1 in
-    let same : x ≡ readWitness bytes = read ∙ ap readWitness stands in
-    let parts : x .parts ≡ witnessParts bytes =
-    ap (λ (y : WitnessReading). y .parts) same ∙ ap (λ (a : Reading). cond (isSound a) (witnessParts bytes) noWitness) sound
+witness-kept edition v times room n done x read =
+    let bytes : List ℕ = witnessBytes edition (rowsIn v) in
+    let (writable, stands, _) = written (witnessWritable edition v) bytes room n done in
+    let all : List Reading = unless (leb (v .count) (mostRows edition)) (WitnessCount (countPlace edition)) ∷ witnessAnswer edition bytes ∷ [] in
+    let few : v .count ≤ mostRows edition = le-test _ _ (WitnessCount (countPlace edition)) (test all writable 0) in
+    let sound : witnessAnswer edition bytes ≡ Sound = test all writable 1 in
+    let same : x ≡ readWitness edition bytes = read ∙ ap (readWitness edition) stands in
+    let parts : x .parts ≡ witnessParts edition bytes =
+    ap (λ (y : WitnessReading). y .parts) same ∙ ap (λ (a : Reading). cond (isSound a) (witnessParts edition bytes) noWitness) sound
     in
     record {
       sound = ap (λ (y : WitnessReading). y .answer) same ∙ sound;
       numbers = ap readingValues (ap (λ (y : WitnessReading). y .answer) same ∙ sound);
-      same = subst (λ (p : WitnessParts). SameWitness p v) (sym parts) (witness-parts-back v few times);
-      beyond = subst WitnessZero (sym parts) (witness-zero bytes);
+      same = subst (λ (p : WitnessParts). SameWitness p v) (sym parts) (witness-parts-back edition v few times);
+      beyond = subst WitnessZero (sym parts) (witness-zero edition bytes);
     }
 
 -- the functions' ways out
@@ -177,13 +169,13 @@ module _ (table : List ℕ) (r : RecordingParts) (room roomThen : List ℕ) (w :
   recording-unwritten why e (a, p) =
       not-written (writeRecording table r room) roomThen w g _ _ x (RecordingKept r x) why e (λ i. record { answer = a i; parts = p i })
 
-module _ (v : WitnessParts) (room roomThen : List ℕ) (w : Writing) (g : Writes (writeWitness v room) w roomThen) (x : WitnessReading) where
-  pub witness-read : ((i : ℕ) → i < v .count → byteAt (v .times) i < 65536) → (n : ℕ) → w ≡ Written n → x ≡ readWitness (take (n - 0) roomThen) → ReadsBack (writeWitness v room) roomThen (witnessBack (writeWitness v room)) x (WitnessKept v x)
+module _ (edition : Edition) (v : WitnessParts) (room roomThen : List ℕ) (w : Writing) (g : Writes (writeWitness edition v room) w roomThen) (x : WitnessReading) where
+  pub witness-read : ((i : ℕ) → i < v .count → byteAt (v .times) i < 65536) → (n : ℕ) → w ≡ Written n → x ≡ readWitness edition (take (n - 0) roomThen) → ReadsBack (writeWitness edition v room) roomThen (witnessBack edition (writeWitness edition v room)) x (WitnessKept v x)
   witness-read times n done read =
-      let back : x ≡ readWitness (take n (writeWitness v room .room)) = read ∙ ap₂ (λ (j : ℕ) (b : List ℕ). readWitness (take j b)) (less-nothing n) (g .lent) in
-      read-back (writeWitness v room) roomThen w g _ _ x (WitnessKept v x) n done back (witness-kept v times room n (sym (g .answered) ∙ done) x back)
+      let back : x ≡ readWitness edition (take n (writeWitness edition v room .room)) = read ∙ ap₂ (λ (j : ℕ) (b : List ℕ). readWitness edition (take j b)) (less-nothing n) (g .lent) in
+      read-back (writeWitness edition v room) roomThen w g _ _ x (WitnessKept v x) n done back (witness-kept edition v times room n (sym (g .answered) ∙ done) x back)
 
   pub witness-unwritten : (why : Refusal) → w ≡ Unwritten why → (x .answer ≡ Unsound why) × (x .parts ≡ noWitness)
-      → ReadsBack (writeWitness v room) roomThen (witnessBack (writeWitness v room)) x (WitnessKept v x)
+      → ReadsBack (writeWitness edition v room) roomThen (witnessBack edition (writeWitness edition v room)) x (WitnessKept v x)
   witness-unwritten why e (a, p) =
-      not-written (writeWitness v room) roomThen w g _ _ x (WitnessKept v x) why e (λ i. record { answer = a i; parts = p i })
+      not-written (writeWitness edition v room) roomThen w g _ _ x (WitnessKept v x) why e (λ i. record { answer = a i; parts = p i })

@@ -9,6 +9,7 @@ use Rattle.model.specs.Table.{readTable, noTable}
 use Rattle.model.specs.Recording.{readRecording, noRecording}
 use Rattle.model.specs.Witness.{readWitness, noWitness}
 use Rattle.model.specs.Same.{SameTable, TableZero, SameRecording, RecordingZero, SameWitness, WitnessZero}
+use Rattle.model.specs.declared.Edition.{Edition}
 use Rattle.model.specs.declared.TableParts.{TableParts}
 use Rattle.model.specs.declared.TableReading.{TableReading}
 use Rattle.model.specs.declared.RecordingParts.{RecordingParts}
@@ -34,8 +35,8 @@ abbrev pub recordingBack : List ℕ → Lent → RecordingReading
 recordingBack table given =
     backBy (λ n. readRecording table (take n (given .room))) (λ why. record { answer = Unsound why; parts = noRecording }) (given .answer)
 
-abbrev pub witnessBack : Lent → WitnessReading
-witnessBack given = backBy (λ n. readWitness (take n (given .room))) (λ why. record { answer = Unsound why; parts = noWitness }) (given .answer)
+abbrev pub witnessBack : Edition → Lent → WitnessReading
+witnessBack edition given = backBy (λ n. readWitness edition (take n (given .room))) (λ why. record { answer = Unsound why; parts = noWitness }) (given .answer)
 
 -- sound, with the numbers 0, 0 and 0, the same parts, and 0 beyond them
 

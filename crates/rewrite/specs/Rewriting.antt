@@ -7,6 +7,7 @@ use Rattle.model.specs.Room.{Lent, write}
 use Rattle.model.specs.Table.{tableAnswer, tableParts, writeTable}
 use Rattle.model.specs.Recording.{recordingAnswer, recordingParts, writeRecording}
 use Rattle.model.specs.Witness.{witnessAnswer, witnessParts, writeWitness}
+use Rattle.model.specs.declared.Edition.{Edition}
 use Rattle.model.specs.declared.Reading.{Reading}
 use Rattle.model.specs.declared.Reading.the-variants.{Sound, Unsound}
 use Rattle.model.specs.declared.Writing.{Writing}
@@ -23,8 +24,8 @@ rewriteTable b room = again (tableAnswer b) (writeTable (tableParts b) room) roo
 unfoldable pub rewriteRecording : List ℕ → List ℕ → List ℕ → Lent
 rewriteRecording table b room = again (recordingAnswer table b) (writeRecording table (recordingParts b) room) room
 
-unfoldable pub rewriteWitness : List ℕ → List ℕ → Lent
-rewriteWitness b room = again (witnessAnswer b) (writeWitness (witnessParts b) room) room
+unfoldable pub rewriteWitness : Edition → List ℕ → List ℕ → Lent
+rewriteWitness edition b room = again (witnessAnswer edition b) (writeWitness edition (witnessParts edition b) room) room
 
 -- an answer and a room are the definition's; and of sound bytes, the same bytes, where they fit
 pub record Rewrites (answer : Reading) (b room roomThen : List ℕ) (given : Lent) (r : Writing) : Type 0 where

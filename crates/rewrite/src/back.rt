@@ -3,6 +3,7 @@ use codec::recording::read_recording;
 use codec::recording::write_recording;
 use codec::table::read_table;
 use codec::table::write_table;
+use model::Edition;
 use model::Reading;
 use model::RecordingParts;
 use model::RecordingReading;
@@ -72,20 +73,20 @@ fn refused_witness(why: Refusal) -> WitnessReading
     ensures { λ x. ⌜ (x .answer ≡ Unsound why) × (x .parts ≡ noWitness) ⌝ }
 {
     let none = [0u8; 0];
-    let reading = read_witness(&none);
+    let reading = read_witness(Edition::One, &none);
     let parts = reading.parts;
     let answer = Reading::Unsound(why);
     WitnessReading { answer, parts }
 }
 
-pub fn witness_back(w: WitnessParts, room: &mut [u8]) -> WitnessReading
-    ensures { λ x. ⌜ ReadsBack (writeWitness w (now (room .entry))) (now (room .exit)) (witnessBack (writeWitness w (now (room .entry)))) x (WitnessKept w x) ⌝ }
+pub fn witness_back(edition: Edition, w: WitnessParts, room: &mut [u8]) -> WitnessReading
+    ensures { λ x. ⌜ ReadsBack (writeWitness edition w (now (room .entry))) (now (room .exit)) (witnessBack edition (writeWitness edition w (now (room .entry)))) x (WitnessKept w x) ⌝ }
 {
-    let written = write_witness(w, room);
+    let written = write_witness(edition, w, room);
     match written {
         Writing::Written { bytes } => {
             let n = bytes as usize;
-            read_witness(&room[0..n])
+            read_witness(edition, &room[0..n])
         }
         Writing::Unwritten(why) => refused_witness(why),
     }

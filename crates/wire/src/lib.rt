@@ -2,7 +2,7 @@
 ghost use mathlib.Core.Path.{_≡_};
 ghost use Prim.Native.Nat.{_<_};
 ghost use lib.ListN.{getD};
-ghost use Rattle.model.specs.Bytes.{byteAt, wordAt};
+ghost use Rattle.model.specs.Bytes.{byteAt, wordAt, longAt};
 ghost use Rattle.wire.specs.Placed.{placed};
 
 pub fn byte(s: &[u8], at: usize) -> u8
@@ -19,6 +19,19 @@ pub fn word(s: &[u8], at: usize) -> u16
         let high = byte(s, at) as u16;
         let low = byte(s, at + 1) as u16;
         256 * high + low
+    } else {
+        0
+    }
+}
+
+// The four-byte number at an offset, big-endian.
+pub fn long(s: &[u8], at: usize) -> u32
+    ensures { λ r. ⌜ (r ≡ longAt (now (s .entry)) at) × (r < 4294967296) ⌝ }
+{
+    if at < s.len() {
+        let high = word(s, at) as u32;
+        let low = word(s, at + 2) as u32;
+        65536 * high + low
     } else {
         0
     }

@@ -1,8 +1,10 @@
 -- Rows of a witness as the code has them: by value, from one of them on, in bytes and in columns.
 use Prim.Native.Nat.{ℕ, zero, suc, _+_, _*_}
 use mathlib.Core.List.{List, [], _∷_}
+use mathlib.Core.Bool.{cond}
 use mathlib.Core.Option.{Option, none, some}
 use lib.ListN.{getD}
+use lib.Dec.{eqb}
 use Rattle.model.specs.Bytes.{byteAt, wordAt}
 use Rattle.model.specs.Witness.{Row}
 use Rattle.witness.specs.declared.Entry.{Entry}
@@ -15,17 +17,17 @@ unfoldable pub rowsFrom : (ℕ → Row) → ℕ → ℕ → List Row
 rowsFrom f zero i = []
 rowsFrom f (suc m) i = f i ∷ rowsFrom f m (suc i)
 
--- the row before row i, if there is one
-unfoldable pub rowBefore : (ℕ → Row) → ℕ → Option Row
-rowBefore f zero = none
-rowBefore f (suc i) = some (f i)
+-- the row before, where there is one: times are from 1 up
+abbrev pub beforeOf : Entry → Option Row
+beforeOf e = cond (eqb (e .time) 0) none (some (rowOf e))
 
 -- the byte that stands in row i where start is in row 0
 abbrev pub columnAt : List ℕ → ℕ → ℕ → ℕ
 columnAt b start i = byteAt b (start + 5 * i)
 
-abbrev pub timeAt : List ℕ → ℕ → ℕ
-timeAt b i = wordAt b (6 + 5 * i)
+-- .. and the two-byte number
+abbrev pub timeAt : List ℕ → ℕ → ℕ → ℕ
+timeAt b start i = wordAt b (start + 5 * i)
 
 -- row i by its columns
 abbrev pub rowAmong : (marks times kinds transitions : List ℕ) → ℕ → Row

@@ -1,17 +1,21 @@
-// Witnesses: read and written by their form alone, without a table or a recording. Each public function takes any input.
+// Witnesses, of either edition: read and written by their form alone, without a table or a recording. Each public function takes any input.
 use frame::column::bytes_column;
 use frame::column::words_column;
-use frame::frame_bytes;
-use frame::put;
+use frame::edition::latest_time;
+use frame::edition::most_rows;
+use frame::edition::rows_place;
+use frame::edition::size_at;
+use frame::edition::size_bytes;
+use frame::put_frame;
 use frame::rows_framed;
 use frame::sound;
 use model::ADDED;
+use model::Edition;
 use model::NO_TRANSITION;
 use model::REMOVED;
 use model::Reading;
 use model::Refusal;
-use model::TIME_LIMIT;
-use model::WITNESS_LIMIT;
+use model::WITNESS_PLACES;
 use model::WitnessParts;
 use model::WitnessReading;
 use model::Writing;
@@ -24,15 +28,13 @@ ghost use mathlib.Core.Path.{_≡_};
 ghost use mathlib.Core.Option.{none};
 ghost use lib.ListN.{length};
 ghost use Rattle.model.specs.Answers.{Reads, Writes};
-ghost use Rattle.model.specs.Limits.{witnessLimit};
-ghost use Rattle.model.specs.Bytes.{wordAt, tab, padded};
+ghost use Rattle.model.specs.Limits.{witnessPlaces};
+ghost use Rattle.model.specs.Edition.{rowsPlace};
+ghost use Rattle.model.specs.Bytes.{tab, padded};
 ghost use Rattle.model.specs.Room.{over};
-ghost use Rattle.model.specs.Witness.{inForm, follows, inPlace, misformed, badRow, rowAt, witnessFrame, witnessAnswer, noWitness, witnessParts, readWitness, rowBytes, witnessBytes, writeWitness};
+ghost use Rattle.model.specs.Witness.{inForm, inPlace, misformed, badRow, witnessCountAt, rowPlace, rowAt, witnessFrame, witnessAnswer, noWitness, witnessParts, readWitness, rowBytes, witnessBytes, writeWitness};
 ghost use Rattle.wire.specs.Placed.{placed};
-ghost use Rattle.witness.specs.Rows.{rowOf, rowBefore, columnAt, timeAt, rowAmong};
-
-// The most rows.
-const LIMIT: u16 = WITNESS_LIMIT as u16;
+ghost use Rattle.witness.specs.Rows.{rowOf, beforeOf, columnAt, timeAt, rowAmong};
 
 // A row of a witness.
 pub struct Entry {
@@ -43,34 +45,45 @@ pub struct Entry {
 }
 
 // 40, 41 and 42.
-pub fn witness_frame(b: &[u8]) -> Reading
-    ensures { λ r. ⌜ r ≡ witnessFrame (now (b .entry)) ⌝ }
+pub fn witness_frame(edition: Edition, b: &[u8]) -> Reading
+    ensures { λ r. ⌜ r ≡ witnessFrame edition (now (b .entry)) ⌝ }
 {
+    let version = size_bytes(edition) as u64;
+    let limit = most_rows(edition);
     rows_framed(
+        edition,
         b,
         5,
-        LIMIT,
+        limit,
         Refusal::WitnessFrame,
-        Refusal::WitnessVersion,
-        Refusal::WitnessCount,
+        Refusal::WitnessVersion { offset: version },
+        Refusal::WitnessCount {
+            offset: version + 1,
+        },
     )
 }
 
-pub fn row_at(b: &[u8], i: u16) -> Entry
-    ensures { λ r. ⌜ rowOf r ≡ rowAt (now (b .entry)) i ⌝ }
+pub fn count_at(edition: Edition, b: &[u8]) -> u32
+    ensures { λ r. ⌜ (r ≡ witnessCountAt edition (now (b .entry))) × (r < 4294967296) ⌝ }
 {
-    let from = 5 * i as usize;
+    size_at(edition, b, size_bytes(edition) + 1)
+}
+
+pub fn row_at(edition: Edition, b: &[u8], i: u32) -> Entry
+    ensures { λ r. ⌜ rowOf r ≡ rowAt edition (now (b .entry)) i ⌝ }
+{
+    let from = rows_place(edition) + 5 * i as usize;
     Entry {
-        mark: byte(b, 5 + from),
-        time: word(b, 6 + from),
-        kind: byte(b, 8 + from),
-        transition: byte(b, 9 + from),
+        mark: byte(b, from),
+        time: word(b, from + 1),
+        kind: byte(b, from + 3),
+        transition: byte(b, from + 4),
     }
 }
 
 // A row by itself.
-pub fn in_form(e: Entry) -> bool
-    ensures { λ t. ⌜ t ≡ inForm (rowOf e) ⌝ }
+fn in_form(edition: Edition, e: Entry) -> bool
+    ensures { λ t. ⌜ t ≡ inForm edition (rowOf e) ⌝ }
 {
     if ADDED < e.mark {
         return false;
@@ -78,7 +91,7 @@ pub fn in_form(e: Entry) -> bool
     if e.time < 1 {
         return false;
     }
-    if TIME_LIMIT < e.time {
+    if latest_time(edition) < e.time {
         return false;
     }
     if e.mark != REMOVED {
@@ -87,80 +100,89 @@ pub fn in_form(e: Entry) -> bool
     e.transition == NO_TRANSITION
 }
 
-// A row behind the one before it: times rise strictly.
-pub fn in_order(before: Entry, e: Entry) -> bool
-    ensures { λ t. ⌜ t ≡ follows (rowOf before) (rowOf e) ⌝ }
+// A row by itself and behind the row before it, if there is one: one of time 0 is none. Times rise strictly.
+pub fn in_place(edition: Edition, before: Entry, e: Entry) -> bool
+    ensures { λ t. ⌜ t ≡ inPlace edition (beforeOf before) (rowOf e) ⌝ }
 {
+    if !in_form(edition, e) {
+        return false;
+    }
+    if before.time == 0 {
+        return true;
+    }
     before.time < e.time
 }
 
-// Row i by itself and behind the row before it.
-fn in_place(b: &[u8], i: u16) -> bool
-    ensures { λ t. ⌜ t ≡ inPlace (rowBefore (rowAt (now (b .entry))) i) (rowAt (now (b .entry)) i) ⌝ }
+// No row: what stands before the first one.
+pub fn no_row() -> Entry
+    ensures { λ r. ⌜ beforeOf r ≡ none ⌝ }
 {
-    let row = row_at(b, i);
-    if i == 0 {
-        return in_form(row);
+    Entry {
+        mark: 0,
+        time: 0,
+        kind: 0,
+        transition: 0,
     }
-    if in_form(row) {
-        return in_order(row_at(b, i - 1), row);
-    }
-    false
 }
 
 // 43 for the first row that breaks the form.
-fn rows_answer(b: &[u8], count: u16) -> Reading
-    ensures { λ r. ⌜ r ≡ badRow (misformed none 0 (tab (rowAt (now (b .entry))) count)) ⌝ }
+fn rows_answer(edition: Edition, b: &[u8], count: u32) -> Reading
+    ensures { λ r. ⌜ r ≡ badRow (misformed edition none 0 (tab (rowAt edition (now (b .entry))) count)) ⌝ }
 {
+    let mut before = no_row();
     let mut i = 0;
     while i < count {
-        if !in_place(b, i) {
+        let row = row_at(edition, b, i);
+        if !in_place(edition, before, row) {
             return Reading::Unsound(Refusal::WitnessRow { row: i as u64 });
         }
+        before = row;
         i += 1;
     }
     Reading::Sound
 }
 
 // The form alone, 40 to 43: tests every row and fills no array.
-pub fn witness_answer(b: &[u8]) -> Reading
-    ensures { λ r. ⌜ r ≡ witnessAnswer (now (b .entry)) ⌝ }
+pub fn witness_answer(edition: Edition, b: &[u8]) -> Reading
+    ensures { λ r. ⌜ r ≡ witnessAnswer edition (now (b .entry)) ⌝ }
 {
-    let frame = witness_frame(b);
+    let frame = witness_frame(edition, b);
     if sound(frame) {
-        return rows_answer(b, word(b, 3));
+        return rows_answer(edition, b, count_at(edition, b));
     }
     frame
 }
 
 // The byte of each row that stands at start in row 0.
-fn column(b: &[u8], start: u8, count: u16) -> [u8; WITNESS_LIMIT]
-    requires { ⌜ count ≤ witnessLimit ⌝ }
-    ensures { λ r. ⌜ r ≡ padded witnessLimit (tab (columnAt (now (b .entry)) start) count) ⌝ }
+fn column(b: &[u8], start: u8, count: u32) -> [u8; WITNESS_PLACES]
+    requires { ⌜ count ≤ witnessPlaces ⌝ }
+    ensures { λ r. ⌜ r ≡ padded witnessPlaces (tab (columnAt (now (b .entry)) start) count) ⌝ }
 {
-    let mut column = [0u8; WITNESS_LIMIT];
+    let mut column = [0u8; WITNESS_PLACES];
     bytes_column(b, start, 5, count, &mut column);
     column
 }
 
-fn time_column(b: &[u8], count: u16) -> [u16; WITNESS_LIMIT]
-    requires { ⌜ count ≤ witnessLimit ⌝ }
-    ensures { λ r. ⌜ r ≡ padded witnessLimit (tab (timeAt (now (b .entry))) count) ⌝ }
+// The time of each row, which stands at start in row 0.
+fn time_column(b: &[u8], start: u8, count: u32) -> [u16; WITNESS_PLACES]
+    requires { ⌜ count ≤ witnessPlaces ⌝ }
+    ensures { λ r. ⌜ r ≡ padded witnessPlaces (tab (timeAt (now (b .entry)) start) count) ⌝ }
 {
-    let mut column = [0u16; WITNESS_LIMIT];
-    words_column(b, 6, 5, count, &mut column);
+    let mut column = [0u16; WITNESS_PLACES];
+    words_column(b, start, 5, count, &mut column);
     column
 }
 
-fn parts_at(b: &[u8]) -> WitnessParts
-    requires { ⌜ wordAt (now b) 3 ≤ witnessLimit ⌝ }
-    ensures { λ r. ⌜ r ≡ witnessParts (now (b .entry)) ⌝ }
+fn parts_at(edition: Edition, b: &[u8]) -> WitnessParts
+    requires { ⌜ witnessCountAt edition (now b) ≤ witnessPlaces ⌝ }
+    ensures { λ r. ⌜ r ≡ witnessParts edition (now (b .entry)) ⌝ }
 {
-    let count = word(b, 3);
-    let marks = column(b, 5, count);
-    let times = time_column(b, count);
-    let kinds = column(b, 8, count);
-    let transitions = column(b, 9, count);
+    let count = count_at(edition, b);
+    let start = rows_place(edition) as u8;
+    let marks = column(b, start, count);
+    let times = time_column(b, start + 1, count);
+    let kinds = column(b, start + 3, count);
+    let transitions = column(b, start + 4, count);
     WitnessParts {
         count,
         marks,
@@ -175,20 +197,20 @@ fn no_parts() -> WitnessParts
 {
     WitnessParts {
         count: 0,
-        marks: [0u8; WITNESS_LIMIT],
-        times: [0u16; WITNESS_LIMIT],
-        kinds: [0u8; WITNESS_LIMIT],
-        transitions: [0u8; WITNESS_LIMIT],
+        marks: [0u8; WITNESS_PLACES],
+        times: [0u16; WITNESS_PLACES],
+        kinds: [0u8; WITNESS_PLACES],
+        transitions: [0u8; WITNESS_PLACES],
     }
 }
 
-pub fn read_witness(b: &[u8]) -> WitnessReading
-    ensures { λ r. ⌜ r ≡ readWitness (now (b .entry)) ⌝ }
-    ensures { λ r. ⌜ Reads (witnessAnswer (now (b .entry))) (witnessParts (now (b .entry))) noWitness (r .answer) (r .parts) ⌝ }
+pub fn read_witness(edition: Edition, b: &[u8]) -> WitnessReading
+    ensures { λ r. ⌜ r ≡ readWitness edition (now (b .entry)) ⌝ }
+    ensures { λ r. ⌜ Reads (witnessAnswer edition (now (b .entry))) (witnessParts edition (now (b .entry))) noWitness (r .answer) (r .parts) ⌝ }
 {
-    let answer = witness_answer(b);
+    let answer = witness_answer(edition, b);
     if sound(answer) {
-        let parts = parts_at(b);
+        let parts = parts_at(edition, b);
         return WitnessReading { answer, parts };
     }
     let parts = no_parts();
@@ -225,58 +247,95 @@ fn row_among<'a>(
     }
 }
 
-fn put_row<'a>(
+// 43 for the first row of the columns that breaks the form.
+fn columns_answer<'a>(
+    edition: Edition,
     marks: &'a [u8],
     times: &'a [u16],
     kinds: &'a [u8],
     transitions: &'a [u8],
-    i: usize,
+    count: u32,
+) -> Reading
+    ensures { λ r. ⌜ r ≡ badRow (misformed edition none 0 (tab (rowAmong (now (marks .entry)) (now (times .entry)) (now (kinds .entry)) (now (transitions .entry))) count)) ⌝ }
+{
+    let mut before = no_row();
+    let mut i = 0;
+    while i < count {
+        let row = row_among(marks, times, kinds, transitions, i as usize);
+        if !in_place(edition, before, row) {
+            return Reading::Unsound(Refusal::WitnessRow { row: i as u64 });
+        }
+        before = row;
+        i += 1;
+    }
+    Reading::Sound
+}
+
+fn put_row<'a>(
+    edition: Edition,
+    marks: &'a [u8],
+    times: &'a [u16],
+    kinds: &'a [u8],
+    transitions: &'a [u8],
+    i: u32,
     out: &mut [u8],
 )
-    requires { ⌜ i < witnessLimit ⌝ }
-    ensures { λ _. ⌜ now (out .exit) ≡ placed (rowBytes (rowAmong (now (marks .entry)) (now (times .entry)) (now (kinds .entry)) (now (transitions .entry)) i)) (5 + 5 * i) (now (out .entry)) ⌝ }
+    ensures { λ _. ⌜ now (out .exit) ≡ placed (rowBytes (rowAmong (now (marks .entry)) (now (times .entry)) (now (kinds .entry)) (now (transitions .entry)) i)) (rowPlace edition i) (now (out .entry)) ⌝ }
 {
-    let row = row_bytes(row_among(marks, times, kinds, transitions, i));
-    place(&row, out, 5 + 5 * i);
+    let row = row_bytes(row_among(marks, times, kinds, transitions, i as usize));
+    place(&row, out, rows_place(edition) + 5 * i as usize);
 }
 
 fn encode<'a>(
+    edition: Edition,
     marks: &'a [u8],
     times: &'a [u16],
     kinds: &'a [u8],
     transitions: &'a [u8],
-    count: usize,
+    count: u32,
     out: &mut [u8],
 )
-    requires { ⌜ (count ≤ witnessLimit) × (5 + 5 * count ≤ length (now out)) ⌝ }
-    ensures { λ _. ⌜ now (out .exit) ≡ over (witnessBytes (tab (rowAmong (now (marks .entry)) (now (times .entry)) (now (kinds .entry)) (now (transitions .entry))) count)) (now (out .entry)) ⌝ }
+    requires { ⌜ rowsPlace edition + 5 * count ≤ length (now out) ⌝ }
+    ensures { λ _. ⌜ now (out .exit) ≡ over (witnessBytes edition (tab (rowAmong (now (marks .entry)) (now (times .entry)) (now (kinds .entry)) (now (transitions .entry))) count)) (now (out .entry)) ⌝ }
 {
-    let frame = frame_bytes(5, count as u16);
-    place(&frame, out, 0);
+    put_frame(edition, 5, count, out);
     let mut i = 0;
     while i < count {
-        put_row(marks, times, kinds, transitions, i, out);
+        put_row(edition, marks, times, kinds, transitions, i, out);
         i += 1;
     }
 }
 
-pub fn write_witness(w: WitnessParts, room: &mut [u8]) -> Writing
-    ensures { λ r. ⌜ Writes (writeWitness w (now (room .entry))) r (now (room .exit)) ⌝ }
+// The rows are tested before the first byte is written: a refusal leaves the room as it was.
+pub fn write_witness(edition: Edition, w: WitnessParts, room: &mut [u8]) -> Writing
+    ensures { λ r. ⌜ Writes (writeWitness edition w (now (room .entry))) r (now (room .exit)) ⌝ }
 {
-    if LIMIT < w.count {
-        return Writing::Unwritten(Refusal::WitnessCount);
+    let count = w.count;
+    if most_rows(edition) < count {
+        return Writing::Unwritten(Refusal::WitnessCount {
+            offset: size_bytes(edition) as u64 + 1,
+        });
     }
-    let count = w.count as usize;
-    // made apart: a refusal leaves the room as it was
-    let mut bytes = [0u8; 5 + 5 * WITNESS_LIMIT];
+    let rows = columns_answer(edition, &w.marks, &w.times, &w.kinds, &w.transitions, count);
+    if let Reading::Unsound(why) = rows {
+        return Writing::Unwritten(why);
+    }
+    let wanted = rows_place(edition) + 5 * count as usize;
+    if room.len() < wanted {
+        return Writing::Unwritten(Refusal::WriteRoom {
+            wanted: wanted as u64,
+        });
+    }
     encode(
+        edition,
         &w.marks,
         &w.times,
         &w.kinds,
         &w.transitions,
         count,
-        &mut bytes,
+        room,
     );
-    let encoded = &bytes[0..5 + 5 * count];
-    put(witness_answer(encoded), encoded, room)
+    Writing::Written {
+        bytes: wanted as u64,
+    }
 }

@@ -3,14 +3,21 @@
 use super::monitor::Monitor;
 use super::trace::{is_packet_trace, Trace};
 use crate::answer::Answer;
+use crate::edition::Edition;
 use crate::recording::Recording;
 use crate::table::Table;
 use crate::witness::{Row, Witness, ADDED, KEPT, NO_TRANSITION, REMOVED};
 
 /// What the checker should answer for parts that are sound but for the witness's rows.
-pub fn expected_check(table: &Table, recording: &Recording, witness: &Witness) -> Answer {
+pub fn expected_check(
+    edition: Edition,
+    table: &Table,
+    recording: &Recording,
+    witness: &Witness,
+) -> Answer {
     let rows = &witness.rows;
-    let broken = (0..rows.len()).find(|number| breaks(table, recording, &rows[..=*number]));
+    let broken =
+        (0..rows.len()).find(|number| breaks(edition, table, recording, &rows[..=*number]));
     if let Some(number) = broken {
         return Answer::new(43, number as u64, 0);
     }
@@ -22,20 +29,21 @@ pub fn expected_check(table: &Table, recording: &Recording, witness: &Witness) -
 }
 
 /// Whether the last of these rows breaks a rule, when none before it does.
-fn breaks(table: &Table, recording: &Recording, rows: &[Row]) -> bool {
+fn breaks(edition: Edition, table: &Table, recording: &Recording, rows: &[Row]) -> bool {
     let Some((row, before)) = rows.split_last() else {
         return false;
     };
-    breaks_form(row, before)
+    breaks_form(edition, row, before)
         || breaks_account(table, recording, row, before)
         || !is_packet_trace(table, &entries(rows))
         || (row.mark != REMOVED && breaks_run(table, row, before))
 }
 
-fn breaks_form(row: &Row, before: &[Row]) -> bool {
+fn breaks_form(edition: Edition, row: &Row, before: &[Row]) -> bool {
+    let last = if edition == Edition::One { 4_096 } else { 65_535 };
     row.mark > 2
         || row.time < 1
-        || row.time > 4_096
+        || row.time > last
         || (row.mark == REMOVED && row.transition != NO_TRANSITION)
         || before.iter().any(|it| it.time >= row.time)
 }

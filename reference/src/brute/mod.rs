@@ -5,6 +5,7 @@
 mod checker;
 mod devices;
 mod enumerate;
+mod long;
 mod monitor;
 mod permitted;
 mod preference;
@@ -15,6 +16,7 @@ mod works;
 pub use checker::expected_check;
 pub use devices::{first_bad_kind, kinds_refused, kinds_told, with_devices, without_devices};
 pub use enumerate::{first_dead_instant, ruled_out, witnesses};
+pub use long::{judge_long, Judged};
 pub use monitor::Monitor;
 pub use permitted::permitted_by_checker;
 pub use preference::preference;

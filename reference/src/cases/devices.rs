@@ -5,7 +5,7 @@ use std::collections::BTreeMap;
 
 use crate::answer::Answer;
 use crate::call::Call;
-use crate::frame::length_matches;
+use crate::frame::{length_matches, LENGTH_BYTES};
 use crate::parts::TableParts;
 use crate::table::{kind_offset, Kind};
 
@@ -37,7 +37,7 @@ impl Tally {
             | Call::RewriteTable { bytes: table, .. } => table,
             Call::RewriteWitness { .. } => return,
         };
-        if bytes.len() < kind_offset(1, 0) || !length_matches(bytes) {
+        if bytes.len() < kind_offset(1, 0) || !length_matches(bytes, LENGTH_BYTES) {
             return;
         }
         let (version, count) = (bytes[2], usize::from(bytes[6]));

@@ -3,7 +3,8 @@
 //! A file of parts has the layout of what is written, but for two things: where the length would
 //! stand is how many records are given (of a table one byte for the kinds and one for the
 //! transitions), and where the version would stand the filler, which every place holds that no
-//! record gives. Of a table the version of its parts stands behind the five counts, at 8, and then
+//! record gives. A witness has the layout of edition 1 in either edition, but for a count of four
+//! bytes at 3, and its rows from 7 on. Of a table the version of its parts stands behind the five counts, at 8, and then
 //! come direction, airtime and device of each kind that is given, whatever the version. A table's
 //! transitions are two further files: seven fields each, and the 32 places of each guard. A
 //! recording's table is the file before it.
@@ -16,7 +17,7 @@ pub fn files(parts: &Parts) -> Vec<Vec<u8>> {
     match parts {
         Parts::Table(parts) => table(parts),
         Parts::Recording(table, parts) => vec![table.clone(), recording(parts)],
-        Parts::Witness(parts) => vec![witness(parts)],
+        Parts::Witness(_, parts) => vec![witness(parts)],
     }
 }
 
@@ -32,7 +33,7 @@ fn table(parts: &TableParts) -> Vec<Vec<u8>> {
 }
 
 fn recording(parts: &RecordingParts) -> Vec<u8> {
-    let mut bytes = head(parts.rows.len(), parts.filler, parts.count);
+    let mut bytes = head(parts.rows.len(), parts.filler, &parts.count.to_be_bytes());
     for row in &parts.rows {
         bytes.extend(row.time.to_be_bytes());
         bytes.push(row.kind);
@@ -41,7 +42,7 @@ fn recording(parts: &RecordingParts) -> Vec<u8> {
 }
 
 fn witness(parts: &WitnessParts) -> Vec<u8> {
-    let mut bytes = head(parts.rows.len(), parts.filler, parts.count);
+    let mut bytes = head(parts.rows.len(), parts.filler, &parts.count.to_be_bytes());
     for row in &parts.rows {
         let [high, low] = row.time.to_be_bytes();
         bytes.extend([row.mark, high, low, row.kind, row.transition]);
@@ -49,8 +50,6 @@ fn witness(parts: &WitnessParts) -> Vec<u8> {
     bytes
 }
 
-fn head(given: usize, filler: u8, count: u16) -> Vec<u8> {
-    let [given_high, given_low] = (given as u16).to_be_bytes();
-    let [count_high, count_low] = count.to_be_bytes();
-    vec![given_high, given_low, filler, count_high, count_low]
+fn head(given: usize, filler: u8, count: &[u8]) -> Vec<u8> {
+    [&(given as u16).to_be_bytes()[..], &[filler], count].concat()
 }

@@ -2,13 +2,15 @@
 //!
 //! A case is a head of 25 bytes and the files behind it. The head: what is called (0 validate,
 //! 1 check, 2 rewrite table, 3 rewrite recording, 4 rewrite witness, 5 the desk, 6 write table,
-//! 7 write recording, 8 write witness, 9 to 11 the same and reading back), then six four-byte
-//! numbers, big-endian: budget, length of the scratch, length of the room, and the lengths of the
+//! 7 write recording, 8 write witness, 9 to 11 the same and reading back, and in edition 2
+//! 12 validate, 13 check, 14 rewrite witness, 15 write witness, 16 the same and reading back; all
+//! before are in edition 1), then six four-byte numbers, big-endian: budget, length of the scratch, length of the room, and the lengths of the
 //! first, second and third file. Before a call byte i of scratch and room is (7 i + 1) modulo 256.
 //! The answer is a line: number, second value, third value, and a sum over every number of the
 //! parts that were read back and every byte of scratch and then room after the call. A case of the
 //! desk answers its own lines. `given` says how files give parts.
 
+mod batch;
 mod devices;
 mod given;
 
@@ -20,8 +22,10 @@ use std::io::{self, Write};
 use crate::answer::Answer;
 use crate::call::{Call, ORDINARY};
 use crate::desk;
+use crate::edition::Edition;
 use crate::generate::{calls, writings, Rng};
 use crate::limits;
+use crate::longer::handovers;
 use crate::narrowed::NARROWED;
 use crate::papers::{recording, PAPERS, SMALL_MONITOR, SMALL_MONITOR_2};
 use crate::reaching;
@@ -30,14 +34,17 @@ use crate::situation::Space;
 use crate::table;
 use crate::writing::{Parts, Writing};
 
-/// As many random calls as this, of which few are long.
+/// As many random calls as this, of which few have long files or are lent much.
 const CALLS: usize = 8_200;
 const LONG: usize = 3_000;
-const MOST_LONG: usize = 60;
-/// What the batch program lends at most.
-const MOST_SCRATCH: usize = 65_536;
-const MOST_ROOM: usize = 24_000;
-const MOST_FILE: usize = 70_000;
+const MOST_LONG: usize = 25;
+const LONGEST: usize = 70_000;
+const MUCH_LENT: usize = 20_000;
+const MOST_LENT_MUCH: usize = 260;
+/// What the batch program takes at most: all files of a case together, and what it lends.
+pub const MOST_IN_FILES: usize = 400_000;
+pub const MOST_SCRATCH: usize = 400_000;
+pub const MOST_ROOM: usize = 331_000;
 /// Every number of the paper's list comes at least so often.
 const LEAST: usize = 20;
 const NUMBERS: [u64; 23] =
@@ -78,15 +85,27 @@ fn often(numbers: &Numbers, list: &[u64]) -> bool {
     list.iter().all(|number| numbers.get(number).is_some_and(|times| *times >= LEAST))
 }
 
-fn fits(call: &Call) -> bool {
-    call.inputs().iter().all(|(name, bytes)| {
-        bytes.len()
-            <= match *name {
-                "scratch" => MOST_SCRATCH,
-                "room" => MOST_ROOM,
-                _ => MOST_FILE,
-            }
-    })
+/// How many random calls with long files there were, and how many that were lent much.
+#[derive(Default)]
+struct Large {
+    long: usize,
+    lent_much: usize,
+}
+
+impl Large {
+    /// Whether the batch program takes this call, and there are not yet too many like it.
+    fn takes(&mut self, call: &Call) -> bool {
+        let ((scratch, room), files) = batch::split(call);
+        let size: usize = files.iter().map(|file| file.len()).sum();
+        let fits = size <= LONGEST && scratch <= MOST_SCRATCH && room <= MOST_ROOM;
+        let (long, much) = (size > LONG, scratch + room > MUCH_LENT);
+        let few = (!long || self.long < MOST_LONG) && (!much || self.lent_much < MOST_LENT_MUCH);
+        if fits && few {
+            self.long += usize::from(long);
+            self.lent_much += usize::from(much);
+        }
+        fits && few
+    }
 }
 
 impl Cases {
@@ -99,10 +118,17 @@ impl Cases {
         for it in NARROWED {
             let (table, recording) = (it.table(), it.recording());
             self.validate(table.clone(), recording.clone(), 10_000)?;
-            self.call(Call::Check { table, recording, witness: it.witness.to_vec() })?;
+            let (edition, witness) = (Edition::One, it.witness.to_vec());
+            self.call(Call::Check { edition, table, recording, witness })?;
         }
         for it in reaching::tables() {
             self.desk_files(&it.bytes, &recording(&limits::HEARD), 10_000)?;
+        }
+        // Those for which the desk has no witness, or one of few lines.
+        for it in handovers() {
+            if it.is_late() || it.witness.rows.len() < 10 {
+                self.desk_files(&it.table, &it.recording(), u32::MAX)?;
+            }
         }
         for input in [vec![], vec![0; 3], vec![0; 4], vec![1; 8_192], vec![1; 8_193]] {
             self.desk(&input)?;
@@ -110,15 +136,17 @@ impl Cases {
         for call in limits::calls() {
             self.call(call)?;
         }
+        self.random_calls(seed)
+    }
+
+    fn random_calls(&mut self, seed: u64) -> io::Result<()> {
         let mut rng = Rng::new(seed);
-        let (mut made, mut long) = (0, 0);
+        let (mut made, mut large) = (0, Large::default());
         while made < CALLS || !self.enough_called() {
             for call in calls(&mut rng) {
-                let size: usize = call.inputs().iter().map(|(_, bytes)| bytes.len()).sum();
-                if !fits(&call) || (size > LONG && long == MOST_LONG) {
+                if !large.takes(&call) {
                     continue;
                 }
-                long += usize::from(size > LONG);
                 made += 1;
                 self.desk_of(&call, made)?;
                 self.call(call)?;
@@ -154,23 +182,16 @@ impl Cases {
     /// Through the desk too, and with enough lent for the recordings of the papers.
     fn validate(&mut self, table: Vec<u8>, recording: Vec<u8>, budget: u32) -> io::Result<()> {
         self.desk_files(&table, &recording, budget)?;
-        let (scratch, room) = (vec![0; 100], vec![0; 90]);
-        self.call(Call::Validate { table, recording, budget, scratch, room })
+        let (edition, scratch, room) = (Edition::One, vec![0; 100], vec![0; 90]);
+        self.call(Call::Validate { edition, table, recording, budget, scratch, room })
     }
 
     /// The call with the pattern in what it lends, and its answer.
     fn call(&mut self, call: Call) -> io::Result<()> {
-        let (kind, budget, call) = patterned(call);
-        let mut lent = (0, 0);
-        let mut files: Vec<&[u8]> = Vec::new();
-        for (name, bytes) in call.inputs() {
-            match name {
-                "scratch" => lent.0 = bytes.len(),
-                "room" => lent.1 = bytes.len(),
-                _ => files.push(bytes),
-            }
-        }
-        head(&mut self.input, kind, budget, lent, &files)?;
+        let call = batch::patterned(call);
+        let (lent, files) = batch::split(&call);
+        let (kind, budget) = (batch::number_of_call(&call), batch::budget(&call));
+        batch::head(&mut self.input, kind, budget, lent, &files)?;
         let outcome = call.run(&ORDINARY);
         *self.from_files.entry(outcome.answer.number).or_default() += 1;
         self.note_last_word(&call, outcome.answer);
@@ -187,16 +208,11 @@ impl Cases {
     }
 
     fn write(&mut self, writing: &Writing) -> io::Result<()> {
-        let kind = match writing.parts {
-            Parts::Table(_) => 6,
-            Parts::Recording(..) => 7,
-            Parts::Witness(_) => 8,
-        };
-        let kind = if writing.back { kind + 3 } else { kind };
+        let kind = batch::number_of_writing(writing);
         let files = given::files(&writing.parts);
         let files: Vec<&[u8]> = files.iter().map(Vec::as_slice).collect();
-        head(&mut self.input, kind, 0, (0, writing.room), &files)?;
-        let mut room = pattern(writing.room);
+        batch::head(&mut self.input, kind, 0, (0, writing.room), &files)?;
+        let mut room = batch::pattern(writing.room);
         let (answer, numbers) = writing.run(&mut room);
         let tally = if writing.back { &mut self.from_back } else { &mut self.from_writing };
         *tally.entry(answer.number).or_default() += 1;
@@ -214,12 +230,12 @@ impl Cases {
         if answer.number == 17 {
             *self.unreached_states.entry(answer.second).or_default() += 1;
         }
-        let sum = bytes.fold(1, |sum, byte| add(sum, *byte));
+        let sum = bytes.fold(1, |sum, byte| batch::add(sum, *byte));
         writeln!(self.output, "{} {} {} {sum}", answer.number, answer.second, answer.third)
     }
 
     fn desk(&mut self, input: &[u8]) -> io::Result<()> {
-        head(&mut self.input, 5, 0, (0, 0), &[input])?;
+        batch::head(&mut self.input, batch::DESK, 0, (0, 0), &[input])?;
         self.output.write_all(desk::report(input).as_bytes())
     }
 
@@ -238,48 +254,4 @@ impl Cases {
             _ => Ok(()),
         }
     }
-}
-
-/// The sum goes by place, so that bytes that change places change it.
-fn add(sum: u64, byte: u8) -> u64 {
-    (sum * 257 + u64::from(byte) + 1) % 1_000_003
-}
-
-fn pattern(length: usize) -> Vec<u8> {
-    (0..length).map(|place| ((7 * place + 1) % 256) as u8).collect()
-}
-
-fn patterned(call: Call) -> (u8, u32, Call) {
-    let again = |bytes: Vec<u8>| pattern(bytes.len());
-    match call {
-        Call::Validate { table, recording, budget, scratch, room } => {
-            let (scratch, room) = (again(scratch), again(room));
-            (0, budget, Call::Validate { table, recording, budget, scratch, room })
-        }
-        Call::Check { .. } => (1, 0, call),
-        Call::RewriteTable { bytes, room } => {
-            (2, 0, Call::RewriteTable { bytes, room: again(room) })
-        }
-        Call::RewriteRecording { table, bytes, room } => {
-            (3, 0, Call::RewriteRecording { table, bytes, room: again(room) })
-        }
-        Call::RewriteWitness { bytes, room } => {
-            (4, 0, Call::RewriteWitness { bytes, room: again(room) })
-        }
-    }
-}
-
-fn head(
-    input: &mut Vec<u8>,
-    kind: u8,
-    budget: u32,
-    lent: (usize, usize),
-    files: &[&[u8]],
-) -> io::Result<()> {
-    input.push(kind);
-    let length = |place: usize| files.get(place).map_or(0, |file| file.len());
-    for number in [budget as usize, lent.0, lent.1, length(0), length(1), length(2)] {
-        input.write_all(&(number as u32).to_be_bytes())?;
-    }
-    files.iter().try_for_each(|file| input.write_all(file))
 }

@@ -4,16 +4,18 @@ use super::buffers::{dirty, length_near};
 use super::crossed::busy_air;
 use super::encode::{encode_recording, encode_table, encode_witness};
 use super::learn::learn;
+use super::long::{late_time, long_handover, narrow_table};
 use super::recordings::{any_rows, overheard, spoil_rows};
 use super::rng::Rng;
-use super::spoil::{any_bytes, spoil_bytes};
+use super::spoil::{any_bytes, spoil_bytes, spoil_witness_bytes};
 use super::spoil_tables::{spoil_devices, spoil_layout, spoil_table};
 use super::tables::{any_table, sound_table, Shape};
 use super::unreached_states::unreached_states;
 use super::witnesses::{guessed, spoil_witness};
 use crate::answer::Answer;
 use crate::call::Call;
-use crate::recording::{Recording, LAST_TIME};
+use crate::edition::Edition;
+use crate::recording::Recording;
 use crate::situation::Space;
 use crate::table::Table;
 use crate::witness::Witness;
@@ -21,6 +23,8 @@ use crate::witness::Witness;
 /// Situations times instants that a random validation may look at: as a rule, and at times.
 const USUAL_WORK: usize = 60_000;
 const RARE_WORK: usize = 2_000_000;
+/// No recording is longer than this but for those that are meant to be.
+const USUAL_LAST_TIME: usize = 4_096;
 
 /// A sound table and recording as parts, and the bytes made of them, which may be spoilt.
 struct Base {
@@ -28,6 +32,8 @@ struct Base {
     recording: Recording,
     /// A witness that would be permitted if removed packets took no air.
     crossed: Option<Witness>,
+    /// Of the witnesses that are asked for and given.
+    edition: Edition,
     table_bytes: Vec<u8>,
     recording_bytes: Vec<u8>,
 }
@@ -49,24 +55,31 @@ fn wild_calls(rng: &mut Rng) -> Vec<Call> {
     let table = encode_table(&sound_table(rng, &Shape::TINY));
     let recording = encode_recording(&Recording::default());
     let wild = any_bytes(rng);
+    let edition = rng.pick(&Edition::BOTH);
     let room = dirty(rng, 50);
     vec![
         Call::RewriteTable { bytes: wild.clone(), room: room.clone() },
         Call::RewriteRecording { table: table.clone(), bytes: wild.clone(), room: room.clone() },
-        Call::RewriteWitness { bytes: wild.clone(), room: room.clone() },
-        Call::Check { table: table.clone(), recording, witness: wild.clone() },
-        Call::Validate { table, recording: wild, budget: 9, scratch: room.clone(), room },
+        Call::RewriteWitness { edition, bytes: wild.clone(), room: room.clone() },
+        Call::Check { edition, table: table.clone(), recording, witness: wild.clone() },
+        Call::Validate { edition, table, recording: wild, budget: 9, scratch: room.clone(), room },
     ]
 }
 
 fn base(rng: &mut Rng) -> Base {
-    let (table, recording, crossed) = match rng.one_in(3) {
-        true => {
+    let (table, recording, crossed) = match rng.below(36) {
+        0..=11 => {
             let last = if rng.one_in(8) { rng.between(5, 300) } else { rng.between(5, 40) };
             let (table, recording, witness) = busy_air(rng, last as u16);
             (table, recording, Some(witness))
         }
-        false => {
+        12 => {
+            let last = late_time(rng);
+            let table = narrow_table(rng, last, RARE_WORK);
+            let recording = long_handover(rng, &table, last);
+            (table, recording, None)
+        }
+        _ => {
             let (table, recording) = any(rng);
             (table, recording, None)
         }
@@ -77,6 +90,7 @@ fn base(rng: &mut Rng) -> Base {
         table,
         recording,
         crossed,
+        edition: rng.pick(&Edition::BOTH),
     };
     if rng.one_in(3) {
         spoil(rng, &mut base);
@@ -108,7 +122,7 @@ fn last_time(rng: &mut Rng, table: &Table) -> u16 {
         1..=50 => RARE_WORK,
         _ => USUAL_WORK,
     };
-    let most = (work / situations).clamp(2, usize::from(LAST_TIME));
+    let most = (work / situations).clamp(2, USUAL_LAST_TIME);
     let last = match rng.below(10) {
         0 => most,
         1 => rng.between(0, most),
@@ -140,7 +154,7 @@ fn spoil(rng: &mut Rng, base: &mut Base) {
 /// Adds validations with budgets around the cost and rooms around what is wanted, and gives
 /// the preferred witness if there is one.
 fn validations(rng: &mut Rng, base: &Base, calls: &mut Vec<Call>) -> Option<Vec<u8>> {
-    let learnt = learn(&base.table_bytes, &base.recording_bytes);
+    let learnt = learn(base.edition, &base.table_bytes, &base.recording_bytes);
     let costly = learnt.scratch > 1_000_000;
     let budgets = budgets(rng, learnt.answer, if costly { 1 } else { 4 });
     for (place, budget) in budgets.into_iter().enumerate() {
@@ -151,7 +165,8 @@ fn validations(rng: &mut Rng, base: &Base, calls: &mut Vec<Call>) -> Option<Vec<
             dirty(rng, length)
         });
         let (table, recording) = (base.table_bytes.clone(), base.recording_bytes.clone());
-        calls.push(Call::Validate { table, recording, budget, scratch, room });
+        let edition = base.edition;
+        calls.push(Call::Validate { edition, table, recording, budget, scratch, room });
     }
     learnt.preferred
 }
@@ -175,31 +190,43 @@ fn budgets(rng: &mut Rng, learnt: Answer, most: usize) -> Vec<u32> {
 }
 
 fn checks(rng: &mut Rng, base: &Base, preferred: Option<Vec<u8>>, calls: &mut Vec<Call>) {
+    let edition = base.edition;
     let guess = guessed(rng, &base.table, &base.recording);
     let spoilt = spoil_witness(rng, &guess);
-    let told = [Some(guess), Some(spoilt), base.crossed.clone()];
-    let mut witnesses: Vec<Vec<u8>> = told.iter().flatten().map(encode_witness).collect();
+    let mut told = vec![guess, spoilt];
+    told.extend(base.crossed.clone());
+    let mut witnesses = Vec::new();
     if let Some(preferred) = preferred {
-        witnesses.push(spoil_bytes(rng, &preferred));
-        if let Ok(parts) = crate::witness::read(&preferred) {
-            witnesses.push(encode_witness(&spoil_witness(rng, &parts)));
+        witnesses.push(spoil_witness_bytes(rng, edition, &preferred));
+        if let Ok(parts) = crate::witness::read(edition, &preferred) {
+            told.push(spoil_witness(rng, &parts));
         }
         witnesses.push(preferred);
     }
+    if rng.one_in(6) {
+        told.push(Witness::default());
+    }
+    witnesses.extend(told.iter().map(|it| encode_witness(told_in(rng, edition), it)));
     match rng.below(6) {
         0 => witnesses.push(any_bytes(rng)),
-        1 => witnesses.push(encode_witness(&Witness::default())),
-        2 => witnesses.push(base.recording_bytes.clone()),
+        1 => witnesses.push(base.recording_bytes.clone()),
         _ => {}
     }
     for witness in witnesses {
         let room_length = length_near(rng, witness.len());
-        calls.push(Call::RewriteWitness { bytes: witness.clone(), room: dirty(rng, room_length) });
-        calls.push(Call::Check {
-            table: base.table_bytes.clone(),
-            recording: base.recording_bytes.clone(),
-            witness,
-        });
+        let room = dirty(rng, room_length);
+        calls.push(Call::RewriteWitness { edition, bytes: witness.clone(), room });
+        let (table, recording) = (base.table_bytes.clone(), base.recording_bytes.clone());
+        calls.push(Call::Check { edition, table, recording, witness });
+    }
+}
+
+/// The edition, or at times the other one.
+fn told_in(rng: &mut Rng, edition: Edition) -> Edition {
+    if rng.one_in(6) {
+        rng.pick(&Edition::BOTH)
+    } else {
+        edition
     }
 }
 

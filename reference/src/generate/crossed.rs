@@ -5,12 +5,15 @@ use super::learn::learn;
 use super::recordings::{hear, overheard};
 use super::rng::Rng;
 use super::tables::protocol;
+use crate::edition::Edition;
 use crate::recording::{Heard, Recording, LAST_TIME};
 use crate::table::Table;
 use crate::witness::{read, Row, Witness, ADDED, NO_TRANSITION, REMOVED};
 
 /// At most so many places are tried for a packet across a row.
 const TRIES: usize = 6;
+/// Either would do: the rows are the same.
+const EDITION: Edition = Edition::Two;
 
 /// A table, a recording up to this time or earlier, and a witness that would be permitted if
 /// removed packets took no air. Without some of those packets it was the preferred one.
@@ -18,8 +21,8 @@ pub fn busy_air(rng: &mut Rng, last: u16) -> (Table, Recording, Witness) {
     loop {
         let table = protocol(rng);
         let recording = overheard(rng, &table, last);
-        let learnt = learn(&encode_table(&table), &encode_recording(&recording));
-        let preferred = learnt.preferred.map(|bytes| read(&bytes).expect("it is in form"));
+        let learnt = learn(EDITION, &encode_table(&table), &encode_recording(&recording));
+        let preferred = learnt.preferred.map(|bytes| read(EDITION, &bytes).expect("in form"));
         let across = preferred.and_then(|it| cross(rng, &table, &recording, &it));
         if let Some((recording, witness)) = across {
             return (table, recording, witness);

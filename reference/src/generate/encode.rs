@@ -2,6 +2,7 @@
 //! Numbers too large for their bytes lose their upper part. Version 1 has no place for devices;
 //! any other that is not known gets the layout of version 2.
 
+use crate::edition::Edition;
 use crate::recording::Recording;
 use crate::table::Table;
 use crate::witness::Witness;
@@ -34,17 +35,23 @@ pub fn encode_recording(recording: &Recording) -> Vec<u8> {
     with_length(body)
 }
 
-pub fn encode_witness(witness: &Witness) -> Vec<u8> {
-    let mut body = vec![1];
-    body.extend((witness.rows.len() as u16).to_be_bytes());
+pub fn encode_witness(edition: Edition, witness: &Witness) -> Vec<u8> {
+    let count = witness.rows.len();
+    let mut body = match edition {
+        Edition::One => vec![1],
+        // Four bytes for the count, of which two come here.
+        Edition::Two => vec![2, (count >> 24) as u8, (count >> 16) as u8],
+    };
+    body.extend((count as u16).to_be_bytes());
     for row in &witness.rows {
         body.extend([row.mark, (row.time >> 8) as u8, row.time as u8, row.kind, row.transition]);
     }
-    with_length(body)
+    match edition {
+        Edition::One => with_length(body),
+        Edition::Two => [&(body.len() as u32).to_be_bytes(), &body[..]].concat(),
+    }
 }
 
 fn with_length(body: Vec<u8>) -> Vec<u8> {
-    let mut bytes = (body.len() as u16).to_be_bytes().to_vec();
-    bytes.extend(body);
-    bytes
+    [&(body.len() as u16).to_be_bytes(), &body[..]].concat()
 }

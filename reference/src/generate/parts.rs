@@ -10,10 +10,11 @@ use super::spoil_tables::{spoil_devices, spoil_layout, spoil_table};
 use super::tables::{any_table, sound_table, Shape};
 use super::unreached_states::unreached_states;
 use super::witnesses::{guessed, spoil_witness};
+use crate::edition::Edition;
 use crate::parts::{Placed, RowParts, TableParts, GUARD_PLACES};
 use crate::recording::{self, Heard};
 use crate::table::{Kind, Table, COUNT_LIMITS};
-use crate::witness::{self, Row};
+use crate::witness::Row;
 use crate::writing::{Parts, Writing};
 
 /// No more rows than this are given of more; the filler stands for the rest.
@@ -107,7 +108,8 @@ fn recording_parts(rng: &mut Rng, table: &Table, heard: &recording::Recording) -
         true => heard.rows.clone(),
         false => spoil_rows(rng, table, heard).rows,
     };
-    Parts::Recording(bytes, row_parts(rng, rows, recording::FILE.most_rows, any_heard))
+    let most = recording::FILE.most_rows as u16;
+    Parts::Recording(bytes, row_parts(rng, rows, &[most, most + 1, 65_535], any_heard))
 }
 
 /// In form as often as not; at times rows share a time.
@@ -118,7 +120,11 @@ fn witness_parts(rng: &mut Rng, table: &Table, heard: &recording::Recording) -> 
         1 => spoil_witness(rng, &guess),
         _ => guess,
     };
-    Parts::Witness(row_parts(rng, told.rows, witness::FILE.most_rows, any_row))
+    let edition = rng.pick(&Edition::BOTH);
+    let most = edition.file().most_rows as u32;
+    // Beyond the limits of either edition, or with nothing in their lower halves.
+    let counts = [most, most + 1, 4_609, 65_535, 65_536, 70_000, 1 << 24, u32::MAX];
+    Parts::Witness(edition, row_parts(rng, told.rows, &counts, any_row))
 }
 
 fn any_heard(rng: &mut Rng) -> Heard {
@@ -130,13 +136,13 @@ fn any_row(rng: &mut Rng) -> Row {
     Row { mark: rng.byte(), time, kind: rng.byte(), transition: rng.byte() }
 }
 
-/// The rows, or fewer, or others behind them; and their count, or another.
-fn row_parts<R>(
+/// The rows, or fewer, or others behind them; and their count, or another, or one of these.
+fn row_parts<R, Count: Copy + From<u16>>(
     rng: &mut Rng,
     mut rows: Vec<R>,
-    most: usize,
+    counts: &[Count],
     any: impl Fn(&mut Rng) -> R,
-) -> RowParts<R> {
+) -> RowParts<R, Count> {
     let count = rows.len();
     rows.truncate(MOST_GIVEN);
     match rng.below(4) {
@@ -144,10 +150,12 @@ fn row_parts<R>(
         1 => rows.extend((0..rng.between(1, 5)).map(|_| any(rng))),
         _ => {}
     }
-    let count = match rng.below(8) {
-        0 => rng.pick(&[0, count.saturating_sub(1), count + 1, most, most + 1, 65_535]),
-        1 => rng.below(65_536),
-        _ => count,
+    let near = [0, count.saturating_sub(1), count + 1];
+    let count = match rng.below(16) {
+        0 => Count::from(rng.pick(&near) as u16),
+        1 => rng.pick(counts),
+        2 | 3 => Count::from(rng.draw() as u16),
+        _ => Count::from(count as u16),
     };
-    RowParts { count: count as u16, filler: filler(rng), rows }
+    RowParts { count, filler: filler(rng), rows }
 }

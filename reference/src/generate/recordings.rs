@@ -1,5 +1,6 @@
 //! Random recordings of a table's packets.
 
+use super::long::EDGES;
 use super::rng::Rng;
 use crate::brute::Monitor;
 use crate::recording::{overlaps, Heard, Recording, FILE, LAST_TIME};
@@ -9,15 +10,21 @@ use crate::table::Table;
 /// some that the unit missed are heard; now and then there is one that nobody can have sent,
 /// so that a rejection comes late. Sound always.
 pub fn overheard(rng: &mut Rng, table: &Table, last: u16) -> Recording {
+    overheard_from(rng, table, 1, last)
+}
+
+/// The same of a monitor that sends nothing before the first time.
+pub fn overheard_from(rng: &mut Rng, table: &Table, first: u16, last: u16) -> Recording {
     let mut recording = Recording::default();
     let loss = rng.between(2, 6);
-    for packet in some_run(rng, table, last) {
+    for packet in some_run(rng, table, first, last) {
         if !rng.one_in(loss) {
             hear(&mut recording, table, packet);
         }
     }
-    let odd_time = if rng.one_in(3) { rng.between(1, 1 + usize::from(last)) } else { 0 };
-    for time in 1..=last {
+    let (low, high) = (usize::from(first), usize::from(last) + 1);
+    let odd_time = if rng.one_in(3) { rng.between(low, high) } else { 0 };
+    for time in first..=last {
         let kind = rng.below(table.kinds.len()) as u8;
         if usize::from(time) == odd_time || (table.to_unit(kind) && rng.one_in(12)) {
             hear(&mut recording, table, Heard { time, kind });
@@ -28,17 +35,18 @@ pub fn overheard(rng: &mut Rng, table: &Table, last: u16) -> Recording {
 
 /// The packets of a monitor that keeps to its table. It waits now and then, but not so long that
 /// nothing can follow.
-fn some_run(rng: &mut Rng, table: &Table, last: u16) -> Vec<Heard> {
+fn some_run(rng: &mut Rng, table: &Table, first: u16, last: u16) -> Vec<Heard> {
     let mut sent: Vec<Heard> = Vec::new();
     let mut monitor = Monitor::start();
     let pace = rng.between(1, 4);
-    for time in 1..=last {
+    for time in first..=last {
         let taken = sent.last().is_some_and(|it| overlaps(table, *it, Heard { time, kind: 0 }));
-        let can_wait = |rng: &mut Rng| some_firing(rng, table, &monitor, time + 1).is_some();
+        let can_wait =
+            |rng: &mut Rng| some_firing(rng, table, &monitor, u32::from(time) + 1).is_some();
         if taken || (!rng.one_in(pace) && can_wait(rng)) {
             continue;
         }
-        if let Some((kind, after)) = some_firing(rng, table, &monitor, time) {
+        if let Some((kind, after)) = some_firing(rng, table, &monitor, time.into()) {
             monitor = after;
             sent.push(Heard { time, kind });
         }
@@ -46,13 +54,13 @@ fn some_run(rng: &mut Rng, table: &Table, last: u16) -> Vec<Heard> {
     sent
 }
 
-fn some_firing(rng: &mut Rng, table: &Table, it: &Monitor, time: u16) -> Option<(u8, Monitor)> {
+fn some_firing(rng: &mut Rng, table: &Table, it: &Monitor, time: u32) -> Option<(u8, Monitor)> {
     let count = table.transitions.len();
     let first = rng.below(count);
     (0..count).find_map(|step| {
         let number = (first + step) % count;
         let kind = table.transitions[number].kind;
-        let after = it.fire(table, number as u8, (u32::from(time), kind))?;
+        let after = it.fire(table, number as u8, (time, kind))?;
         Some((kind, after))
     })
 }
@@ -99,7 +107,7 @@ pub fn spoil_rows(rng: &mut Rng, table: &Table, recording: &Recording) -> Record
                 spoilt.rows[number].time = after as u16;
             }
             3 if count >= 1 => {
-                spoilt.rows[number].time = rng.pick(&[0, 1, LAST_TIME, LAST_TIME + 1, 65_535]);
+                spoilt.rows[number].time = rng.pick(&EDGES);
             }
             4 if count >= 1 => {
                 let kinds = table.kinds.len() as u8;

@@ -3,6 +3,7 @@
 use super::encode::encode_table;
 use super::rng::Rng;
 use super::spoil::match_length;
+use crate::frame::LENGTH_BYTES;
 use crate::table::{kind_offset, Kind, Table, Transition};
 
 /// The two known ones, their neighbours, and the last byte.
@@ -93,7 +94,7 @@ pub fn spoil_layout(rng: &mut Rng, table: &Table) -> Vec<u8> {
             bytes.truncate(end - rng.pick(&[0, 1, 1, 1, 2]));
         }
     }
-    match_length(&mut bytes);
+    match_length(&mut bytes, LENGTH_BYTES);
     bytes
 }
 

@@ -1,10 +1,12 @@
 //! Random witnesses of a recording.
 
+use super::long::EDGES;
 use super::rng::Rng;
 use crate::brute::Monitor;
+use crate::edition::Edition;
 use crate::recording::{overlaps, Heard, Recording, LAST_TIME};
 use crate::table::Table;
-use crate::witness::{Row, Witness, ADDED, FILE, KEPT, NO_TRANSITION, REMOVED};
+use crate::witness::{Row, Witness, ADDED, KEPT, NO_TRANSITION, REMOVED};
 
 /// A guess made row by row, and a few rows after T: permitted unless it runs into a row
 /// that can neither be kept nor removed; then it removes that row all the same.
@@ -13,7 +15,8 @@ pub fn guessed(rng: &mut Rng, table: &Table, recording: &Recording) -> Witness {
     let instants = recording.instants();
     let beyond = if rng.one_in(3) { rng.below(6) } else { 0 };
     let last = (instants.len() + beyond).min(usize::from(LAST_TIME));
-    let eagerness = rng.between(1, 6);
+    // A long one has few added rows as a rule.
+    let eagerness = if last < 1_000 || rng.one_in(6) { rng.between(1, 6) } else { last / 4 };
     for time in 1..=last as u16 {
         let heard = instants.get(usize::from(time) - 1).copied().flatten();
         let mut firings = guess.firings(time);
@@ -97,11 +100,14 @@ pub fn spoil_witness(rng: &mut Rng, witness: &Witness) -> Witness {
 
 fn lengthen(rng: &mut Rng, witness: &mut Witness) {
     if rng.one_in(4) {
-        let count = rng.pick(&[FILE.most_rows - 1, FILE.most_rows, FILE.most_rows + 1]);
+        // So many rows of edition 2 take a third of a megabyte.
+        let edition = if rng.one_in(20) { Edition::Two } else { Edition::One };
+        let most = edition.file().most_rows;
+        let count = rng.pick(&[most - 1, most, most + 1]);
         witness.rows.resize(count, Row { mark: ADDED, time: 1, kind: 0, transition: 0 });
         return;
     }
-    let time = rng.pick(&[0, 1, LAST_TIME, LAST_TIME + 1]);
+    let time = rng.pick(&EDGES);
     let transition = rng.pick(&[0, 1, NO_TRANSITION]);
     let mark = rng.below(4) as u8;
     witness.rows.push(Row { mark, time, kind: rng.below(3) as u8, transition });
@@ -116,7 +122,7 @@ fn spoil_row(rng: &mut Rng, witness: &mut Witness) {
         0 => witness.rows[number].mark = rng.pick(&[KEPT, REMOVED, ADDED, 3, 255]),
         1 => witness.rows[number].time = row.time.wrapping_add(1),
         2 => witness.rows[number].time = row.time.wrapping_sub(1),
-        3 => witness.rows[number].time = rng.pick(&[0, 1, LAST_TIME, LAST_TIME + 1, 65_535]),
+        3 => witness.rows[number].time = rng.pick(&EDGES),
         4 => witness.rows[number].kind = rng.pick(&[0, 1, 2, 255]),
         5 => witness.rows[number].transition = rng.pick(&[0, 1, 63, 64, 254, NO_TRANSITION]),
         6 => witness.rows.swap(number, other),

@@ -3,6 +3,7 @@
 use super::{judged, validation, ROOM};
 use crate::call::Call;
 use crate::devices::{each_device, parts, tables, Given, Told};
+use crate::edition::Edition;
 use crate::papers::{recording, Paper, ACK_DEVICE_2, PAPERS, SMALL_MONITOR_2};
 use crate::writing::{Parts, Writing};
 
@@ -19,7 +20,7 @@ pub fn calls() -> Vec<Call> {
     calls
 }
 
-/// Recordings and witnesses have no version 2.
+/// Recordings have no version 2, nor have witnesses of edition 1.
 fn other_files(paper: &Paper) -> Vec<Call> {
     let in_2 = |bytes: &[u8]| [&bytes[..2], &[2], &bytes[3..]].concat();
     let (table, recording) = (|| SMALL_MONITOR_2.to_vec(), paper.recording());
@@ -31,8 +32,9 @@ fn other_files(paper: &Paper) -> Vec<Call> {
     }];
     if paper.answer.number == 0 {
         let witness = in_2(paper.witness);
-        calls.push(Call::RewriteWitness { bytes: witness.clone(), room });
-        calls.push(Call::Check { table: table(), recording, witness });
+        let edition = Edition::One;
+        calls.push(Call::RewriteWitness { edition, bytes: witness.clone(), room });
+        calls.push(Call::Check { edition, table: table(), recording, witness });
     }
     calls
 }
@@ -49,7 +51,10 @@ fn calls_of((it, turn): (&Told, usize)) -> Vec<Call> {
     }
     let call = match turn % 5 {
         0 => validation(&it.bytes, &heard, 9),
-        1 => Call::Check { table: table(), recording: heard, witness: vec![] },
+        1 => {
+            let edition = Edition::BOTH[turn / 5 % 2];
+            Call::Check { edition, table: table(), recording: heard, witness: vec![] }
+        }
         2 => Call::RewriteRecording { table: table(), bytes: heard, room: vec![0; ROOM] },
         _ => rewrite(ROOM),
     };

@@ -1,6 +1,7 @@
 //! Calls at the limits of the paper, and one beyond each.
 
 mod devices;
+mod longer;
 mod parts;
 mod states;
 
@@ -9,6 +10,7 @@ pub use states::HEARD;
 
 use crate::answer::Answer;
 use crate::call::{Call, ORDINARY};
+use crate::edition::Edition;
 use crate::generate::encode_table;
 use crate::narrowed::ACK_AIRTIME;
 use crate::papers::{recording, small_monitor_with, ACK, DATA, RETRY, SMALL_MONITOR};
@@ -97,6 +99,7 @@ pub fn calls() -> Vec<Call> {
     }
     calls.extend(states::calls());
     calls.extend(devices::calls());
+    calls.extend(longer::calls());
     let one = recording(&[(1, DATA)]);
     for table in changed_tables() {
         calls.push(validation(&table, &one, 10_000));
@@ -112,8 +115,10 @@ pub fn calls() -> Vec<Call> {
     calls
 }
 
+/// In edition 1.
 fn validation(table: &[u8], recording: &[u8], budget: u32) -> Call {
     Call::Validate {
+        edition: Edition::One,
         table: table.to_vec(),
         recording: recording.to_vec(),
         budget,
@@ -136,13 +141,14 @@ fn judged(calls: &mut Vec<Call>, table: &[u8], recording: &[u8]) {
     }
     if number == 0 {
         let witness = outcome.room[..5 + 5 * rows as usize].to_vec();
-        let (table, recording) = (table.to_vec(), recording.to_vec());
-        calls.push(Call::RewriteWitness { bytes: witness.clone(), room: vec![0; ROOM] });
-        calls.push(Call::Check { table, recording, witness });
+        let (edition, table, recording) = (Edition::One, table.to_vec(), recording.to_vec());
+        let room = vec![0; ROOM];
+        calls.push(Call::RewriteWitness { edition, bytes: witness.clone(), room });
+        calls.push(Call::Check { edition, table, recording, witness });
     }
 }
 
-/// Times and row counts at their limits and one beyond.
+/// Times and row counts at their limits and one beyond, and times around the last of edition 1.
 fn recordings() -> Vec<Vec<(u16, u8)>> {
     let every = |rows: u16, pace: u16, kind: u8| (1..=rows).map(|n| (n * pace, kind)).collect();
     vec![

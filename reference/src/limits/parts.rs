@@ -1,6 +1,7 @@
 //! Parts at the limits of the paper, and one beyond each, to be written.
 
-use super::{devices, sized, states, ROOM, SIZES};
+use super::{devices, longer, sized, states, ROOM, SIZES};
+use crate::edition::Edition;
 use crate::generate::encode_table;
 use crate::papers::{small_monitor_with, ACK, DATA, SMALL_MONITOR};
 use crate::parts::{RecordingParts, RowParts, TableParts, WitnessParts, GUARD_PLACES};
@@ -34,6 +35,7 @@ pub fn writings() -> Vec<Writing> {
         writings.push(Writing { parts, back: true, room: wanted });
     }
     writings.extend(devices::writings());
+    writings.extend(longer::writings());
     writings
 }
 
@@ -46,7 +48,7 @@ fn short_parts() -> Vec<Parts> {
         for table in unsound_tables() {
             all.push(against(&table, rows(513, &[]), filler));
         }
-        all.extend(witnesses().into_iter().map(|it| Parts::Witness(RowParts { filler, ..it })));
+        all.extend(witnesses().into_iter().map(|it| in_1(RowParts { filler, ..it })));
     }
     all
 }
@@ -57,9 +59,14 @@ fn long_parts() -> [Parts; 5] {
         Parts::Table(TableParts::of(&full_table(1))),
         Parts::Table(TableParts::of(&full_table(2))),
         against(&SMALL_MONITOR, full_recording(), 0),
-        Parts::Witness(full_witness(4_096)),
-        Parts::Witness(full_witness(4_608)),
+        in_1(full_witness(4_096)),
+        in_1(full_witness(4_608)),
     ]
+}
+
+/// The witnesses here are of edition 1; `longer` has the others.
+fn in_1(parts: WitnessParts) -> Parts {
+    Parts::Witness(Edition::One, parts)
 }
 
 fn against(table: &[u8], parts: RecordingParts, filler: u8) -> Parts {
@@ -176,7 +183,7 @@ fn unsound_tables() -> Vec<Vec<u8>> {
     [vec![]].into_iter().chain(changed).chain([over, unreached]).collect()
 }
 
-fn rows<R: Copy>(count: u16, rows: &[R]) -> RowParts<R> {
+fn rows<R: Copy, Count>(count: Count, rows: &[R]) -> RowParts<R, Count> {
     RowParts { count, filler: 0, rows: rows.to_vec() }
 }
 
@@ -257,5 +264,5 @@ fn full_witness(count: u16) -> WitnessParts {
         0 => row(REMOVED, number.min(4_096), 0, NO_TRANSITION),
         _ => row(ADDED, number.min(4_096), 1, 63),
     };
-    rows(count, &(1..=count).map(at).collect::<Vec<_>>())
+    rows(count.into(), &(1..=count).map(at).collect::<Vec<_>>())
 }

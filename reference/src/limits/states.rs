@@ -2,6 +2,7 @@
 
 use super::{judged, validation, ROOM};
 use crate::call::Call;
+use crate::edition::Edition;
 use crate::papers::recording;
 use crate::parts::TableParts;
 use crate::reaching::{tables, Reaching};
@@ -22,14 +23,15 @@ fn calls_of(it: &Reaching) -> Vec<Call> {
     let table = || it.bytes.clone();
     judged(&mut calls, &it.bytes, &heard);
     calls.push(validation(&it.bytes, &unsound, 0));
-    let nothing_lent = |recording: &[u8]| Call::Validate {
+    let nothing_lent = |recording: &[u8], edition: Edition| Call::Validate {
+        edition,
         table: table(),
         recording: recording.to_vec(),
         budget: 0,
         scratch: vec![],
         room: vec![],
     };
-    calls.extend([nothing_lent(&heard), nothing_lent(&[])]);
+    calls.extend([nothing_lent(&heard, Edition::One), nothing_lent(&[], Edition::Two)]);
     for room in [it.bytes.len() - 1, it.bytes.len()] {
         calls.push(Call::RewriteTable { bytes: table(), room: vec![0; room] });
     }
@@ -37,8 +39,10 @@ fn calls_of(it: &Reaching) -> Vec<Call> {
         let room = vec![0; room];
         calls.push(Call::RewriteRecording { table: table(), bytes: bytes.clone(), room });
     }
-    for (recording, witness) in [(&heard, vec![]), (&unsound, vec![0, 3, 1, 0, 0])] {
-        calls.push(Call::Check { table: table(), recording: recording.clone(), witness });
+    let witnesses = [vec![], vec![0, 3, 1, 0, 0]];
+    for ((edition, recording), witness) in Edition::BOTH.iter().zip([heard, unsound]).zip(witnesses)
+    {
+        calls.push(Call::Check { edition: *edition, table: table(), recording, witness });
     }
     calls
 }

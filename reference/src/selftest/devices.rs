@@ -7,6 +7,7 @@ use crate::back::table_back;
 use crate::brute::{kinds_refused, kinds_told, with_devices, without_devices};
 use crate::call::{Call, ORDINARY};
 use crate::compare::hex;
+use crate::edition::Edition;
 use crate::generate::{
     any_bytes, any_rows, dirty, encode_recording, encode_table, encode_witness, guessed,
     length_near, overheard, sound_table, spoil_bytes, spoil_devices, spoil_layout, spoil_rows,
@@ -135,13 +136,15 @@ fn calls(rng: &mut Rng, table: &Table, recording: &[u8]) -> Vec<Call> {
         let room_length = rng.pick(&[300, 300, 20]);
         let (scratch, room) = (dirty(rng, scratch_length), dirty(rng, room_length));
         let recording = recording.to_vec();
-        calls.push(Call::Validate { table: vec![], recording, budget, scratch, room });
+        let edition = rng.pick(&Edition::BOTH);
+        calls.push(Call::Validate { edition, table: vec![], recording, budget, scratch, room });
     }
     if let Ok(heard) = crate::recording::read_against(table, recording) {
         let guess = guessed(rng, table, &heard);
         for witness in [spoil_witness(rng, &guess), guess] {
-            let (recording, witness) = (recording.to_vec(), encode_witness(&witness));
-            calls.push(Call::Check { table: vec![], recording, witness });
+            let edition = rng.pick(&Edition::BOTH);
+            let (recording, witness) = (recording.to_vec(), encode_witness(edition, &witness));
+            calls.push(Call::Check { edition, table: vec![], recording, witness });
         }
     }
     let room_length = length_near(rng, recording.len());

@@ -5,10 +5,11 @@ use super::{same, Counts};
 use crate::answer::{Answer, Refusal};
 use crate::brute::kinds_refused;
 use crate::compare::hex;
+use crate::edition::Edition;
 use crate::generate::{
     any_bytes, cross, dirty, encode_recording, encode_table, encode_witness, guessed, length_near,
     overheard, sound_table, spoil_bytes, spoil_devices, spoil_rows, spoil_table, spoil_witness,
-    unreached_states, Rng, Shape,
+    spoil_witness_bytes, unreached_states, Rng, Shape,
 };
 use crate::rewrite::{rewrite_recording, rewrite_table, rewrite_witness};
 use crate::{recording, table, witness};
@@ -24,8 +25,10 @@ pub fn test(rng: &mut Rng, counts: &mut Counts) -> Result<(), String> {
     let read = recording::read(&table_bytes, &heard_bytes).map(|it| it.1);
     same("sound recording", read, Ok(heard.clone()))?;
     let guess = guessed(rng, &sound, &heard);
-    let guess_bytes = encode_witness(&guess);
-    same("witness in form", witness::read(&guess_bytes), Ok(guess.clone()))?;
+    let guess_bytes = Edition::BOTH.map(|edition| encode_witness(edition, &guess));
+    for (edition, bytes) in Edition::BOTH.into_iter().zip(&guess_bytes) {
+        same("witness in form", witness::read(edition, bytes), Ok(guess.clone()))?;
+    }
 
     let spoilt =
         [spoil_table(rng, &sound), unreached_states(rng, &sound), spoil_devices(rng, &sound)];
@@ -39,14 +42,16 @@ pub fn test(rng: &mut Rng, counts: &mut Counts) -> Result<(), String> {
     if let Some((_, crossed)) = cross(rng, &sound, &heard, &guess) {
         witnesses(rng, &crossed)?;
     }
-    for file in [&table_bytes, &heard_bytes, &guess_bytes] {
+    let [guess_bytes_1, guess_bytes_2] = &guess_bytes;
+    let spoilt = spoil_witness_bytes(rng, Edition::Two, guess_bytes_2);
+    for file in [&table_bytes, &heard_bytes, guess_bytes_1, guess_bytes_2, &spoilt] {
         let spoilt = spoil_bytes(rng, file);
         bytes(rng, &table_bytes, file)?;
         bytes(rng, &table_bytes, &spoilt)?;
     }
     let any = any_bytes(rng);
     bytes(rng, &table_bytes, &any)?;
-    counts.files += 18;
+    counts.files += 26;
     Ok(())
 }
 
@@ -96,21 +101,33 @@ fn recordings(rng: &mut Rng, table: &[u8], parts: &recording::Recording) -> Resu
 }
 
 fn witnesses(rng: &mut Rng, parts: &witness::Witness) -> Result<(), String> {
-    let bytes = encode_witness(parts);
-    let read = witness::read(&bytes).map(|_| ());
-    written(rng, read, &bytes, |room| witness::write(parts, room))
-        .map_err(|it| format!("write witness {parts:?}: {it}"))
+    for edition in Edition::BOTH {
+        let bytes = encode_witness(edition, parts);
+        // Two bytes cannot say the length of more rows, so they cannot be had as bytes.
+        let too_many = edition == Edition::One && parts.rows.len() > 13_106;
+        let read = if too_many { Err(Refusal::new(42, 3)) } else { read_form(edition, &bytes) };
+        written(rng, read, &bytes, |room| witness::write(edition, parts, room))
+            .map_err(|it| format!("write witness {edition:?} {parts:?}: {it}"))?;
+    }
+    Ok(())
+}
+
+fn read_form(edition: Edition, bytes: &[u8]) -> Result<(), Refusal> {
+    witness::read(edition, bytes).map(|_| ())
 }
 
 /// Any bytes, taken for each of the three files in turn.
 fn bytes(rng: &mut Rng, table: &[u8], bytes: &[u8]) -> Result<(), String> {
-    let all = |rng: &mut Rng| {
+    let all = |rng: &mut Rng| -> Result<(), String> {
         let read = table::read(bytes).map(|_| ());
         written(rng, read, bytes, |room| rewrite_table(bytes, room))?;
         let read = recording::read(table, bytes).map(|_| ());
         written(rng, read, bytes, |room| rewrite_recording(table, bytes, room))?;
-        let read = witness::read(bytes).map(|_| ());
-        written(rng, read, bytes, |room| rewrite_witness(bytes, room))
+        for edition in Edition::BOTH {
+            let read = read_form(edition, bytes);
+            written(rng, read, bytes, |room| rewrite_witness(edition, bytes, room))?;
+        }
+        Ok(())
     };
     all(rng).map_err(|it| format!("rewrite: {it}\ntable: {}\nbytes: {}", hex(table), hex(bytes)))
 }

@@ -5,12 +5,17 @@ mod against_brute;
 mod checks;
 mod devices;
 mod files;
+mod long;
 mod papers;
 mod states;
+mod truth;
 
 use std::time::{Duration, Instant};
 
 use crate::generate::Rng;
+
+/// A long handover takes long.
+const ROUNDS_TO_LONG: usize = 2;
 
 /// What was looked at.
 #[derive(Default)]
@@ -39,6 +44,12 @@ pub struct Counts {
     pub kinds_not_written: u64,
     /// Calls that answered the same for a table in either version.
     pub both_versions: u64,
+    /// Long handovers judged, of these the ones past edition 1's last time and the accepted ones,
+    /// and those with too many monitors.
+    pub long: u64,
+    pub long_in_2_alone: u64,
+    pub long_accepted: u64,
+    pub long_left: u64,
 }
 
 /// Runs until the time is up; an error says what differed.
@@ -53,6 +64,9 @@ pub fn selftest(time: Duration, seed: u64) -> Result<Counts, String> {
         files::test(&mut rng, &mut counts)?;
         states::test(&mut rng, &mut counts)?;
         devices::test(&mut rng, &mut counts)?;
+        if rng.one_in(ROUNDS_TO_LONG) {
+            long::test(&mut rng, &mut counts)?;
+        }
     }
     Ok(counts)
 }
@@ -71,6 +85,7 @@ impl Counts {
              tables' reach against brute force: {} ({} with unreached states)\n\
              tables' kinds against the list of all: {} read ({} refused), {} written ({} refused)\n\
              calls with a table in either version: {}\n\
+             long handovers against real monitors: {} ({} past 4,096, {} accepted, {} left as too many)\n\
              no difference\n",
             self.papers,
             self.inputs,
@@ -90,7 +105,11 @@ impl Counts {
             self.kinds_refused,
             self.kinds_written,
             self.kinds_not_written,
-            self.both_versions
+            self.both_versions,
+            self.long,
+            self.long_in_2_alone,
+            self.long_accepted,
+            self.long_left
         )
     }
 }

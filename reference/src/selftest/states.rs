@@ -1,11 +1,12 @@
 //! Tables whose records are in order: N and the states that can be reached, against the definitions.
 
-use super::against_brute::situations;
+use super::truth::situations;
 use super::{same, Counts};
 use crate::answer::{Answer, Refusal};
 use crate::brute::lowest_unreached;
 use crate::check::check_witness;
 use crate::compare::hex;
+use crate::edition::Edition;
 use crate::generate::{any_table, encode_table, unreached_states, Rng, Shape};
 use crate::rewrite::{rewrite_recording, rewrite_table};
 use crate::situation::MOST_SITUATIONS;
@@ -44,6 +45,9 @@ fn test_one(table: &Table, bytes: &[u8], expected: Option<Refusal>) -> Result<()
     same("rewrite", rewrite_table(bytes, &mut []), no_room)?;
     let no_recording = or(Answer::new(20, 0, 0));
     same("recording", rewrite_recording(bytes, &[], &mut []), no_recording)?;
-    same("validate", validate(bytes, &[], 0, &mut [], &mut []), no_recording)?;
-    same("check", check_witness(bytes, &[], &[]), no_recording)
+    for edition in Edition::BOTH {
+        same("validate", validate(edition, bytes, &[], 0, &mut [], &mut []), no_recording)?;
+        same("check", check_witness(edition, bytes, &[], &[]), no_recording)?;
+    }
+    Ok(())
 }

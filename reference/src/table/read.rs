@@ -3,7 +3,7 @@
 use super::layout::{FIRST_COUNT, FIRST_RECORD, TRANSITION_BYTES};
 use super::{kind_offset, rules, Kind, Table, Transition};
 use crate::answer::Refusal;
-use crate::frame::length_matches;
+use crate::frame::{length_matches, LENGTH_BYTES};
 
 pub fn read(bytes: &[u8]) -> Result<Table, Refusal> {
     let table = read_records(bytes)?;
@@ -13,7 +13,7 @@ pub fn read(bytes: &[u8]) -> Result<Table, Refusal> {
 
 /// Frame, counts and records in order; N and the states that can be reached are not judged.
 pub fn read_records(bytes: &[u8]) -> Result<Table, Refusal> {
-    if bytes.len() < FIRST_RECORD || !length_matches(bytes) {
+    if bytes.len() < FIRST_RECORD || !length_matches(bytes, LENGTH_BYTES) {
         return Err(Refusal::new(10, 0));
     }
     let version = bytes[2];

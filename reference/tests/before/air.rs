@@ -6,6 +6,7 @@ use lutarosa_reference::answer::Answer;
 use lutarosa_reference::brute::Monitor;
 use lutarosa_reference::call::{Engine, ORDINARY};
 use lutarosa_reference::check::check_witness;
+use lutarosa_reference::edition::Edition;
 use lutarosa_reference::moves::{Fired, Moves};
 use lutarosa_reference::recording::{self, Heard, Recording};
 use lutarosa_reference::rewrite::rewrite_witness as rewrite_witness_now;
@@ -31,11 +32,13 @@ macro_rules! engine {
         const RULE: &Rule =
             &Rule { shares_instant: $shares_instant, needs_air: $needs_air, takes_air: $takes_air };
         Engine {
-            validate: |table, recording, budget, scratch, room| {
-                validate(RULE, (table, recording), budget, scratch, room)
+            validate: |edition, table, recording, budget, scratch, room| {
+                validate(RULE, edition, (table, recording), budget, scratch, room)
             },
-            check: |table, recording, witness| check(RULE, table, recording, witness),
-            rewrite_witness: |bytes, room| rewrite_witness(RULE, bytes, room),
+            check: |edition, table, recording, witness| {
+                check(RULE, edition, table, recording, witness)
+            },
+            rewrite_witness: |edition, bytes, room| rewrite_witness(RULE, edition, bytes, room),
             ..ORDINARY
         }
     }};
@@ -49,12 +52,13 @@ pub const TAKES_NO_AIR: Engine = engine!(false, true, false);
 /// Refusals and what becomes of the scratch are as now; a budget of 0 asks for no more.
 fn validate(
     rule: &Rule,
+    edition: Edition,
     (table, recording): (&[u8], &[u8]),
     budget: u32,
     scratch: &mut [u8],
     room: &mut [u8],
 ) -> Answer {
-    let refused_or_empty = validate_now(table, recording, 0, scratch, room);
+    let refused_or_empty = validate_now(edition, table, recording, 0, scratch, room);
     if refused_or_empty.number != 2 {
         return refused_or_empty;
     }
@@ -64,7 +68,7 @@ fn validate(
     match (Search { rule, table: &table, space: &space, moves }).run(&recording, budget) {
         Err(verdict) => verdict,
         Ok((cost, found)) => {
-            let bytes = bytes_of(&found);
+            let bytes = bytes_of(edition, &found);
             room[..bytes.len()].copy_from_slice(&bytes);
             Answer::new(0, cost, found.rows.len() as u64)
         }
@@ -166,17 +170,17 @@ impl Search<'_> {
 }
 
 /// What is permitted now is permitted by each of these rules too.
-fn check(rule: &Rule, table: &[u8], recording: &[u8], witness: &[u8]) -> Answer {
-    let now = check_witness(table, recording, witness);
+fn check(rule: &Rule, edition: Edition, table: &[u8], recording: &[u8], witness: &[u8]) -> Answer {
+    let now = check_witness(edition, table, recording, witness);
     if now.number != 43 {
         return now;
     }
     let (table, recording) = recording::read(table, recording).expect("43 comes after it");
-    let rows = witness::read_rows(witness).expect("43 comes after it").rows;
+    let rows = witness::read_rows(edition, witness).expect("43 comes after it").rows;
     let mut follower =
         Follower { rule, table: &table, left: &recording.rows, monitor: Monitor::start(), air: 0 };
     for (number, row) in rows.iter().enumerate() {
-        if !may_stand(rule, &rows[..number], row) || follower.follow(row).is_none() {
+        if !may_stand(rule, edition, &rows[..number], row) || follower.follow(row).is_none() {
             return Answer::new(43, number as u64, 0);
         }
     }
@@ -224,21 +228,22 @@ impl Follower<'_> {
 
 /// The form: where an instant is shared, it is by a removed row and then an added one of another
 /// kind.
-fn may_stand(rule: &Rule, before: &[Row], row: &Row) -> bool {
+fn may_stand(rule: &Rule, edition: Edition, before: &[Row], row: &Row) -> bool {
     let may_follow = |it: &Row| {
         let replaces = it.mark == REMOVED && row.mark == ADDED && it.kind != row.kind;
         row.time > it.time || (rule.shares_instant && row.time == it.time && replaces)
     };
-    in_form(None, row) && before.last().is_none_or(may_follow)
+    in_form(edition, None, row) && before.last().is_none_or(may_follow)
 }
 
-fn rewrite_witness(rule: &Rule, bytes: &[u8], room: &mut [u8]) -> Answer {
-    let now = rewrite_witness_now(bytes, room);
+fn rewrite_witness(rule: &Rule, edition: Edition, bytes: &[u8], room: &mut [u8]) -> Answer {
+    let now = rewrite_witness_now(edition, bytes, room);
     if now.number != 43 {
         return now;
     }
-    let rows = witness::read_rows(bytes).expect("43 comes after it").rows;
-    let broken = (0..rows.len()).find(|number| !may_stand(rule, &rows[..*number], &rows[*number]));
+    let rows = witness::read_rows(edition, bytes).expect("43 comes after it").rows;
+    let stands = |number: &usize| may_stand(rule, edition, &rows[..*number], &rows[*number]);
+    let broken = (0..rows.len()).find(|number| !stands(number));
     match (broken, room.get_mut(..bytes.len())) {
         (Some(number), _) => Answer::new(43, number as u64, 0),
         (None, None) => Answer::new(33, bytes.len() as u64, 0),

@@ -3,6 +3,7 @@
 use lutarosa_reference::answer::{settle, Answer, Refusal};
 use lutarosa_reference::call::{Engine, ORDINARY};
 use lutarosa_reference::check::check_read;
+use lutarosa_reference::edition::Edition;
 use lutarosa_reference::frame::put;
 use lutarosa_reference::parts::TableParts;
 use lutarosa_reference::recording::{read_against, Recording};
@@ -63,15 +64,15 @@ macro_rules! other {
     ($name:expr, $told:expr, { $($change:tt)* }) => {{
         const RULE: Rule = Rule { $($change)* ..NOW };
         let engine = Engine {
-            validate: |table, recording, budget, scratch, room| {
+            validate: |edition, table, recording, budget, scratch, room| {
                 let read = read_both(&RULE, table, recording);
                 settle(read.and_then(|(table, heard)| {
-                    validate_read(&table, &heard, budget, scratch, room)
+                    validate_read(edition, &table, &heard, budget, scratch, room)
                 }))
             },
-            check: |table, recording, witness| {
+            check: |edition, table, recording, witness| {
                 let read = read_both(&RULE, table, recording);
-                settle(read.and_then(|(table, heard)| check_read(&table, &heard, witness)))
+                settle(read.and_then(|(table, heard)| check_read(edition, &table, &heard, witness)))
             },
             rewrite_table: |bytes, room| {
                 settle(read(&RULE, bytes).and_then(|table| write(&RULE, &table, room)))
@@ -173,21 +174,34 @@ pub const OTHERS: [Other; 37] = [
     other!("kinds behind those that count are tried", PARTS, { tries_beyond: true, }),
     other!("refused parts keep their version", PARTS, { leaves: |version| version, }),
     Other { name: "recordings of version 2", rule: NOW, engine: RECORDINGS, told: FILES },
-    Other { name: "witnesses of version 2", rule: NOW, engine: WITNESSES, told: FILES },
+    Other {
+        name: "witnesses of edition 1 with version 2",
+        rule: NOW,
+        engine: WITNESSES,
+        told: FILES,
+    },
 ];
 
 const RECORDINGS: Engine = Engine {
-    validate: |table, recording, budget, scratch, room| {
-        (ORDINARY.validate)(table, &in_1(recording), budget, scratch, room)
+    validate: |edition, table, recording, budget, scratch, room| {
+        (ORDINARY.validate)(edition, table, &in_1(recording), budget, scratch, room)
     },
-    check: |table, recording, witness| (ORDINARY.check)(table, &in_1(recording), witness),
+    check: |edition, table, recording, witness| {
+        (ORDINARY.check)(edition, table, &in_1(recording), witness)
+    },
     rewrite_recording: |table, bytes, room| (ORDINARY.rewrite_recording)(table, &in_1(bytes), room),
     ..ORDINARY
 };
 
 const WITNESSES: Engine = Engine {
-    check: |table, recording, witness| (ORDINARY.check)(table, recording, &in_1(witness)),
-    rewrite_witness: |bytes, room| (ORDINARY.rewrite_witness)(&in_1(bytes), room),
+    check: |edition, table, recording, witness| match edition {
+        Edition::One => (ORDINARY.check)(edition, table, recording, &in_1(witness)),
+        Edition::Two => (ORDINARY.check)(edition, table, recording, witness),
+    },
+    rewrite_witness: |edition, bytes, room| match edition {
+        Edition::One => (ORDINARY.rewrite_witness)(edition, &in_1(bytes), room),
+        Edition::Two => (ORDINARY.rewrite_witness)(edition, bytes, room),
+    },
     ..ORDINARY
 };
 

@@ -5,4 +5,5 @@
 
 pub mod air;
 pub mod devices;
+pub mod editions;
 pub mod states;

@@ -25,15 +25,15 @@ macro_rules! rule {
     ($name:expr, $judge:expr) => {{
         const JUDGE: Judge = $judge;
         let engine = Engine {
-            validate: |table, recording, budget, scratch, room| {
+            validate: |edition, table, recording, budget, scratch, room| {
                 let read = read_both(JUDGE, table, recording);
                 settle(read.and_then(|(table, heard)| {
-                    validate_read(&table, &heard, budget, scratch, room)
+                    validate_read(edition, &table, &heard, budget, scratch, room)
                 }))
             },
-            check: |table, recording, witness| {
+            check: |edition, table, recording, witness| {
                 let read = read_both(JUDGE, table, recording);
-                settle(read.and_then(|(table, heard)| check_read(&table, &heard, witness)))
+                settle(read.and_then(|(table, heard)| check_read(edition, &table, &heard, witness)))
             },
             rewrite_table: |bytes, room| rewrite(read(JUDGE, bytes).map(|_| ()), bytes, room),
             rewrite_recording: |table, bytes, room| {

@@ -4,10 +4,12 @@
 
 use std::sync::LazyLock;
 
-use lutarosa_reference::call::Call;
+use lutarosa_reference::call::{Call, Outcome, ORDINARY};
 use lutarosa_reference::cases::cases;
-use lutarosa_reference::parts::{Placed, TableParts};
+use lutarosa_reference::edition::Edition;
+use lutarosa_reference::parts::{Placed, TableParts, WitnessParts};
 use lutarosa_reference::table::Kind;
+use lutarosa_reference::witness::Row;
 use lutarosa_reference::writing::{Parts, Writing};
 
 #[derive(Default)]
@@ -15,9 +17,28 @@ pub struct Recorded {
     pub calls: Vec<Call>,
     /// Of tables, alone or with reading back.
     pub writings: Vec<Writing>,
+    /// The same of witnesses.
+    pub witnesses: Vec<Writing>,
+    /// What goes through the desk, table, recording and budget.
+    pub desk: Vec<Vec<u8>>,
+    /// Of every case: the bytes of its files, its scratch and its room.
+    pub sizes: Vec<[usize; 3]>,
 }
 
+/// What is lent to most calls; long handovers are lent more.
+const USUALLY_LENT: usize = 30_000;
+
 impl Recorded {
+    /// The calls and their outcomes.
+    pub fn outcomes(&self) -> impl Iterator<Item = (&Call, &Outcome)> {
+        self.calls.iter().zip(OUTCOMES.iter())
+    }
+
+    /// Those that are no long handovers, for rules that say nothing of them.
+    pub fn usual(&self) -> impl Iterator<Item = (&Call, &Outcome)> {
+        self.outcomes().filter(|(_, it)| it.scratch.len() + it.room.len() <= USUALLY_LENT)
+    }
+
     pub fn tables(&self) -> impl Iterator<Item = &TableParts> {
         self.writings.iter().filter_map(|it| match &it.parts {
             Parts::Table(parts) => Some(parts),
@@ -28,6 +49,9 @@ impl Recorded {
 
 pub static RECORDED: LazyLock<Recorded> =
     LazyLock::new(|| recorded(&cases(1).expect("writing to memory").input));
+
+pub static OUTCOMES: LazyLock<Vec<Outcome>> =
+    LazyLock::new(|| RECORDED.calls.iter().map(|it| it.run(&ORDINARY)).collect());
 
 fn recorded(batch: &[u8]) -> Recorded {
     let mut recorded = Recorded::default();
@@ -43,26 +67,61 @@ fn recorded(batch: &[u8]) -> Recorded {
             rest = after;
             file.to_vec()
         });
-        if let 6 | 9 = head[0] {
-            let parts = Parts::Table(table(&files));
-            recorded.writings.push(Writing { parts, back: head[0] == 9, room: number(2) as usize });
-            continue;
-        }
-        let [table, second, witness] = files;
-        let [scratch, room] = [1, 2].map(|place| vec![0; number(place) as usize]);
-        recorded.calls.extend(match head[0] {
-            0 => {
-                let budget = number(0);
-                Some(Call::Validate { table, recording: second, budget, scratch, room })
-            }
-            1 => Some(Call::Check { table, recording: second, witness }),
-            2 => Some(Call::RewriteTable { bytes: table, room }),
-            3 => Some(Call::RewriteRecording { table, bytes: second, room }),
-            4 => Some(Call::RewriteWitness { bytes: table, room }),
-            _ => None,
-        });
+        let lent = [1, 2].map(|place| number(place) as usize);
+        recorded.sizes.push([files.iter().map(Vec::len).sum(), lent[0], lent[1]]);
+        recorded.add(head[0], number(0), lent, files);
     }
     recorded
+}
+
+/// The edition of a call with this number.
+fn edition(number: u8) -> Edition {
+    if number < 12 {
+        Edition::One
+    } else {
+        Edition::Two
+    }
+}
+
+impl Recorded {
+    fn add(&mut self, number: u8, budget: u32, lent: [usize; 2], files: [Vec<u8>; 3]) {
+        let edition = edition(number);
+        let writing = |parts, back| Writing { parts, back, room: lent[1] };
+        match number {
+            5 => return self.desk.extend(files.into_iter().take(1)),
+            6 | 9 => return self.writings.push(writing(Parts::Table(table(&files)), number == 9)),
+            7 | 10 => return,
+            8 | 11 | 15 | 16 => {
+                let parts = Parts::Witness(edition, witness(&files[0]));
+                return self.witnesses.push(writing(parts, matches!(number, 11 | 16)));
+            }
+            _ => {}
+        }
+        let [table, second, witness] = files;
+        let [scratch, room] = lent.map(|length| vec![0; length]);
+        self.calls.push(match number {
+            0 | 12 => Call::Validate { edition, table, recording: second, budget, scratch, room },
+            1 | 13 => Call::Check { edition, table, recording: second, witness },
+            2 => Call::RewriteTable { bytes: table, room },
+            3 => Call::RewriteRecording { table, bytes: second, room },
+            _ => Call::RewriteWitness { edition, bytes: table, room },
+        });
+    }
+}
+
+fn witness(file: &[u8]) -> WitnessParts {
+    let (head, rows) = file.split_at(7);
+    let row = |it: &[u8]| Row {
+        mark: it[0],
+        time: u16::from_be_bytes([it[1], it[2]]),
+        kind: it[3],
+        transition: it[4],
+    };
+    WitnessParts {
+        count: u32::from_be_bytes(head[3..].try_into().expect("four bytes")),
+        filler: head[2],
+        rows: rows.chunks_exact(5).map(row).collect(),
+    }
 }
 
 fn table([first, fields, guards]: &[Vec<u8>; 3]) -> TableParts {

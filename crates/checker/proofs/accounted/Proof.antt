@@ -22,7 +22,7 @@ returns c =
     let a = c .before .before .before .before .before .before .before .args in
     let ps = packetsAt (a .recording .now) in
     stepped-as ps (c .refused .ensures ps)
-    (not-accounted (monitorFrom (a .table .now) (a .offsets .now)) ps (a .s) (a .e)
+    (not-accounted (a .edition) (monitorFrom (a .table .now) (a .offsets .now)) ps (a .s) (a .e)
     false (noneBefore (drop (a .s .next) ps) (a .e .time)) (leb (a .s .free) (a .e .time))
     (sym (c .before .before .in-place .ensures) ∙ not-true _ (c .before .if1 .taken)) refl refl refl)
 
@@ -37,10 +37,13 @@ returns-2 c =
     let a = c .before .before .before .before .before .before .before .before .before .args in
     let ps = packetsAt (a .recording .now) in
     stepped-as ps (c .refused2 .ensures ps)
-    (not-accounted (monitorFrom (a .table .now) (a .offsets .now)) ps (a .s) (a .e)
+    (not-accounted (a .edition) (monitorFrom (a .table .now) (a .offsets .now)) ps (a .s) (a .e)
     true false (leb (a .s .free) (a .e .time))
     (sym (c .before .before .before .before .in-place .ensures) ∙ not-false _ (c .before .before .before .if1 .left))
     (sym (c .before .before .none-before .ensures) ∙ not-true _ (c .before .if2 .taken)) refl refl)
+
+cast-if3 : tie.Need-cast-if3
+cast-if3 c = search needs
 
 refused-requires-3 : tie.Need-refused-requires-3
 refused-requires-3 c κs = search needs
@@ -50,7 +53,7 @@ returns-3 c =
     let a = c .before .before .before .before .before .before .before .before .before .before .before .before .args in
     let ps = packetsAt (a .recording .now) in
     stepped-as ps (c .refused3 .ensures ps)
-    (not-accounted (monitorFrom (a .table .now) (a .offsets .now)) ps (a .s) (a .e)
+    (not-accounted (a .edition) (monitorFrom (a .table .now) (a .offsets .now)) ps (a .s) (a .e)
     true true false
     (sym (c .before .before .before .before .before .before .before .in-place .ensures) ∙ not-false _ (c .before .before .before .before .before .before .if1 .left))
     (sym (c .before .before .before .before .before .none-before .ensures) ∙ not-false _ (c .before .before .before .before .if2 .left))
@@ -59,14 +62,14 @@ returns-3 c =
 keep-row-requires : tie.Need-keep-row-requires
 keep-row-requires c κs =
     let a = c .before .before .before .before .before .before .before .before .before .before .before .before .before .args in
-    ready-row (a .s) (a .e) (c .before .before .before .before .before .before .before .before .before .before .before .before .before .pre) (sym (c .before .before .before .before .before .before .before .before .in-place .ensures) ∙ not-false _ (c .before .before .before .before .before .before .before .if1 .left))
+    ready-row (a .edition) (a .s) (a .e) (c .before .before .before .before .before .before .before .before .before .before .before .before .before .pre) (sym (c .before .before .before .before .before .before .before .before .in-place .ensures) ∙ not-false _ (c .before .before .before .before .before .before .before .if1 .left))
 
 returns-4 : tie.Need-returns-4
 returns-4 c =
     let a = c .before .before .before .before .before .before .before .before .before .before .before .before .before .before .args in
     let ps = packetsAt (a .recording .now) in
     stepped-as ps (c .keep-row .ensures)
-    (account-kept (monitorFrom (a .table .now) (a .offsets .now)) ps (a .s) (a .e)
+    (account-kept (a .edition) (monitorFrom (a .table .now) (a .offsets .now)) ps (a .s) (a .e)
     (sym (c .before .before .before .before .before .before .before .before .before .in-place .ensures) ∙ not-false _ (c .before .before .before .before .before .before .before .before .if1 .left))
     (sym (c .before .before .before .before .before .before .before .none-before .ensures) ∙ not-false _ (c .before .before .before .before .before .before .if2 .left))
     (c .before .before .before .if3 .left) (c .before .if4 .taken))
@@ -74,14 +77,14 @@ returns-4 c =
 remove-row-requires : tie.Need-remove-row-requires
 remove-row-requires c κs =
     let a = c .before .before .before .before .before .before .before .before .before .before .before .before .before .before .before .args in
-    ready-row (a .s) (a .e) (c .before .before .before .before .before .before .before .before .before .before .before .before .before .before .before .pre) (sym (c .before .before .before .before .before .before .before .before .before .before .in-place .ensures) ∙ not-false _ (c .before .before .before .before .before .before .before .before .before .if1 .left))
+    ready-row (a .edition) (a .s) (a .e) (c .before .before .before .before .before .before .before .before .before .before .before .before .before .before .before .pre) (sym (c .before .before .before .before .before .before .before .before .before .before .in-place .ensures) ∙ not-false _ (c .before .before .before .before .before .before .before .before .before .if1 .left))
 
 returns-5 : tie.Need-returns-5
 returns-5 c =
     let a = c .before .before .before .before .before .before .before .before .before .before .before .before .before .before .before .before .args in
     let ps = packetsAt (a .recording .now) in
     stepped-as ps (c .remove-row .ensures)
-    (account-removed (monitorFrom (a .table .now) (a .offsets .now)) ps (a .s) (a .e)
+    (account-removed (a .edition) (monitorFrom (a .table .now) (a .offsets .now)) ps (a .s) (a .e)
     (sym (c .before .before .before .before .before .before .before .before .before .before .before .in-place .ensures) ∙ not-false _ (c .before .before .before .before .before .before .before .before .before .before .if1 .left))
     (sym (c .before .before .before .before .before .before .before .before .before .none-before .ensures) ∙ not-false _ (c .before .before .before .before .before .before .before .before .if2 .left))
     (c .before .before .before .before .before .if3 .left) (c .before .if5 .taken))
@@ -89,14 +92,14 @@ returns-5 c =
 add-row-requires : tie.Need-add-row-requires
 add-row-requires c κs =
     let a = c .before .before .before .before .before .before .before .before .before .before .before .before .before .before .before .args in
-    ready-row (a .s) (a .e) (c .before .before .before .before .before .before .before .before .before .before .before .before .before .before .before .pre) (sym (c .before .before .before .before .before .before .before .before .before .before .in-place .ensures) ∙ not-false _ (c .before .before .before .before .before .before .before .before .before .if1 .left))
+    ready-row (a .edition) (a .s) (a .e) (c .before .before .before .before .before .before .before .before .before .before .before .before .before .before .before .pre) (sym (c .before .before .before .before .before .before .before .before .before .before .in-place .ensures) ∙ not-false _ (c .before .before .before .before .before .before .before .before .before .if1 .left))
 
 returns-6 : tie.Need-returns-6
 returns-6 c =
     let a = c .before .before .before .before .before .before .before .before .before .before .before .before .before .before .before .before .args in
     let ps = packetsAt (a .recording .now) in
     stepped-as ps (c .add-row .ensures)
-    (account-added (monitorFrom (a .table .now) (a .offsets .now)) ps (a .s) (a .e)
+    (account-added (a .edition) (monitorFrom (a .table .now) (a .offsets .now)) ps (a .s) (a .e)
     (sym (c .before .before .before .before .before .before .before .before .before .before .before .in-place .ensures) ∙ not-false _ (c .before .before .before .before .before .before .before .before .before .before .if1 .left))
     (sym (c .before .before .before .before .before .before .before .before .before .none-before .ensures) ∙ not-false _ (c .before .before .before .before .before .before .before .before .if2 .left))
     (c .before .before .before .before .before .if3 .left) (c .before .before .before .if4 .left) (c .before .if5 .left))
@@ -111,6 +114,7 @@ accounted-spec =
     none-before-requires
     refused-requires-2
     returns-2
+    cast-if3
     refused-requires-3
     returns-3
     keep-row-requires

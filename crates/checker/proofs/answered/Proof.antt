@@ -17,7 +17,7 @@ enum-known-read c = search needs
 returns : tie.Need-returns
 returns c = let s = c .before .before .before .before .before .before in
     let e : s .args .read ≡ Unsound (c .before .read .given .0 .0) = cc in
-    answer-read (s .args .table .now) (s .args .recording .now) (s .args .witness .now) _ (sym (s .pre .0) ∙ e)
+    answer-read (s .args .edition) (s .args .table .now) (s .args .recording .now) (s .args .witness .now) _ (sym (s .pre .0) ∙ e)
 
 enum-told : tie.Need-enum-told
 enum-told c = search needs
@@ -29,7 +29,7 @@ returns-2 : tie.Need-returns-2
 returns-2 c = let s = c .before .before .before .before .before .before .before .before in
     let a = s .args in
     let e : a .frame ≡ Unsound (c .before .frame .given .0 .0) = cc in
-    answer-frame (a .table .now) (a .recording .now) (a .witness .now) (sym (s .pre .0) ∙ (c .before .before .before .enum-told .given .1)) _ (sym (s .pre .1) ∙ e)
+    answer-frame (a .edition) (a .table .now) (a .recording .now) (a .witness .now) (sym (s .pre .0) ∙ (c .before .before .before .enum-told .given .1)) _ (sym (s .pre .1) ∙ e)
 
 enum-told-2 : tie.Need-enum-told-2
 enum-told-2 c = search needs
@@ -47,8 +47,8 @@ returns-3 : tie.Need-returns-3
 returns-3 c = let s = c .before .before .before .before .before .before .before .before .before .before in
     let a = s .args in
     c .check-rows .ensures
-    ∙ ap (λ (l : List ℕ). checkedRows (monitorFrom (a .table .now) l) (packetsAt (a .recording .now)) (rowsAt (a .witness .now))) (c .before .before .offsets .ensures)
-    ∙ answer-rows (a .table .now) (a .recording .now) (a .witness .now) (sym (s .pre .0) ∙ (c .before .before .before .before .before .enum-told .given .1)) (sym (s .pre .1) ∙ (c .before .before .before .enum-told2 .given .1))
+    ∙ ap (λ (l : List ℕ). checkedRows (a .edition) (monitorFrom (a .table .now) l) (packetsAt (a .recording .now)) (rowsAt (a .edition) (a .witness .now))) (c .before .before .offsets .ensures)
+    ∙ answer-rows (a .edition) (a .table .now) (a .recording .now) (a .witness .now) (sym (s .pre .0) ∙ (c .before .before .before .before .before .enum-told .given .1)) (sym (s .pre .1) ∙ (c .before .before .before .enum-told2 .given .1))
 
 pub answered-spec : {M : Type 1} → statement M
 answered-spec =

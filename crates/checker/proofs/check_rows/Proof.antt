@@ -12,14 +12,14 @@ use Rattle.checker.proofs.check_rows.Statement.{statement}
 use Rattle.checker.proofs.check_rows.Tie as tie
 
 abbrev Inv-loop : tie.InvT-loop
-Inv-loop table offsets recording witness count s₀ changed₀ i₀ s changed i =
-    (count ≡ witnessCountAt witness) × Bounded s × Ahead (monitorFrom table offsets) recording witness s changed i
+Inv-loop edition table offsets recording witness count s₀ changed₀ i₀ s changed i =
+    (count ≡ witnessCountAt edition witness) × Bounded s × Ahead edition (monitorFrom table offsets) recording witness s changed i
 
 abbrev μ-loop : tie.MeasureT-loop
-μ-loop table offsets recording witness count s₀ changed₀ i₀ s changed i = count - i
+μ-loop edition table offsets recording witness count s₀ changed₀ i₀ s changed i = count - i
 
-word-requires : tie.Need-word-requires Inv-loop μ-loop
-word-requires c κs = search needs
+count-at-requires : tie.Need-count-at-requires Inv-loop μ-loop
+count-at-requires c κs = search needs
 
 begun-requires : tie.Need-begun-requires Inv-loop μ-loop
 begun-requires c κs = search needs
@@ -27,7 +27,7 @@ begun-requires c κs = search needs
 loop-holds : tie.Need-loop-holds Inv-loop μ-loop
 loop-holds c = let a = c .before .before .before .before .before .before .args in
     let m = monitorFrom (a .table .now) (a .offsets .now) in
-    ((c .before .word .ensures .0), (c .begun .ensures .0), ahead-first m (a .recording .now) (a .witness .now) (c .begun .result) (c .begun .ensures .1 (packetsAt (a .recording .now))))
+    ((c .before .count-at .ensures .0), (c .begun .ensures .0), ahead-first (a .edition) m (a .recording .now) (a .witness .now) (c .begun .result) (c .begun .ensures .1 (packetsAt (a .recording .now))))
 
 row-at-requires : tie.Need-row-at-requires Inv-loop μ-loop
 row-at-requires c κs = search needs
@@ -35,14 +35,14 @@ row-at-requires c κs = search needs
 accounted-requires : tie.Need-accounted-requires Inv-loop μ-loop
 accounted-requires c κs = search needs
 
-cast-t12 : tie.Need-cast-t12 Inv-loop μ-loop
-cast-t12 c = search needs
+cast-t13 : tie.Need-cast-t13 Inv-loop μ-loop
+cast-t13 c = search needs
 
 returns : tie.Need-returns Inv-loop μ-loop
 returns c = let a = c .before .before .before .before .before .before .before .before .before .before .before .before .args in
     let m = monitorFrom (a .table .now) (a .offsets .now) in
     let l = c .before .before .before .before .before .loop in
-    ahead-broken m (a .recording .now) (a .witness .now) (l .s) (l .changed) (l .i) (l .inv .2) (c .before .before .before .row-at .result) (c .before .before .accounted .result)
+    ahead-broken (a .edition) m (a .recording .now) (a .witness .now) (l .s) (l .changed) (l .i) (l .inv .2) (c .before .before .before .row-at .result) (c .before .before .accounted .result)
     (omega (arith, l .inv .0, (c .before .before .before .before .loop-test .taken))) (c .before .before .before .row-at .ensures) (c .before .before .accounted .ensures) (not-true _ (c .if1 .taken))
 
 change-by-requires : tie.Need-change-by-requires Inv-loop μ-loop
@@ -50,7 +50,7 @@ change-by-requires c κs = search needs
 
 add-changed : tie.Need-add-changed Inv-loop μ-loop
 add-changed c = let l = c .before .before .before .before .before .before .loop in
-    omega (arith, l .inv .2 .few, (c .before .before .before .before .before .loop-test .taken), (c .change-by .ensures .1), (c .before .before .before .before .before .before .before .before .word .ok))
+    omega (arith, l .inv .2 .few, (c .before .before .before .before .before .loop-test .taken), (c .change-by .ensures .1), (c .before .before .before .before .before .before .before .before .count-at .ok))
 
 add-i : tie.Need-add-i Inv-loop μ-loop
 add-i c = search needs
@@ -66,29 +66,29 @@ loop-again c = let a = c .before .before .before .before .before .before .before
     let t = not-false _ (c .before .before .if1 .left) in (
       l .inv .0,
       g .bounded t,
-      ahead-more m (a .recording .now) (a .witness .now) (l .s) (l .changed) (l .i) (l .inv .2) (c .before .before .before .before .before .row-at .result) (c .before .before .before .before .accounted .result) (omega (arith, l .inv .0, (c .before .before .before .before .before .before .loop-test .taken))) (c .before .before .before .before .before .row-at .ensures) g (c .before .change-by .result) (c .before .change-by .ensures .0) t (c .before .change-by .ensures .1),
+      ahead-more (a .edition) m (a .recording .now) (a .witness .now) (l .s) (l .changed) (l .i) (l .inv .2) (c .before .before .before .before .before .row-at .result) (c .before .before .before .before .accounted .result) (omega (arith, l .inv .0, (c .before .before .before .before .before .before .loop-test .taken))) (c .before .before .before .before .before .row-at .ensures) g (c .before .change-by .result) (c .before .change-by .ensures .0) t (c .before .change-by .ensures .1),
     )
 
-word-requires-2 : tie.Need-word-requires-2 Inv-loop μ-loop
-word-requires-2 c κs = search needs
+word-requires : tie.Need-word-requires Inv-loop μ-loop
+word-requires c κs = search needs
 
-cast-t17 : tie.Need-cast-t17 Inv-loop μ-loop
-cast-t17 c = search needs
+cast-t18 : tie.Need-cast-t18 Inv-loop μ-loop
+cast-t18 c = search needs
 
 returns-2 : tie.Need-returns-2 Inv-loop μ-loop
 returns-2 c = let a = c .before .before .before .before .before .before .before .before .before .before .before .args in
     let m = monitorFrom (a .table .now) (a .offsets .now) in
     let l = c .before .before .before .before .loop in
-    ahead-left m (a .recording .now) (a .witness .now) (l .s) (l .changed) (l .i) (l .inv .2) (omega (arith, l .inv .0, (c .before .before .before .loop-test .left))) (omega (arith, (c .before .before .word2 .ensures .0), c .if2 .taken))
+    ahead-left (a .edition) m (a .recording .now) (a .witness .now) (l .s) (l .changed) (l .i) (l .inv .2) (omega (arith, l .inv .0, (c .before .before .before .loop-test .left))) (omega (arith, (c .before .before .word .ensures .0), c .if2 .taken))
 
-cast-t19 : tie.Need-cast-t19 Inv-loop μ-loop
-cast-t19 c = search needs
+cast-t20 : tie.Need-cast-t20 Inv-loop μ-loop
+cast-t20 c = search needs
 
 returns-3 : tie.Need-returns-3 Inv-loop μ-loop
 returns-3 c = let a = c .before .before .before .before .before .before .before .before .before .before .before .args in
     let m = monitorFrom (a .table .now) (a .offsets .now) in
     let l = c .before .before .before .before .loop in
-    ahead-done m (a .recording .now) (a .witness .now) (l .s) (l .changed) (l .i) (l .inv .2) (omega (arith, l .inv .0, (c .before .before .before .loop-test .left))) (omega (arith, (c .before .before .word2 .ensures .0), c .if2 .left))
+    ahead-done (a .edition) m (a .recording .now) (a .witness .now) (l .s) (l .changed) (l .i) (l .inv .2) (omega (arith, l .inv .0, (c .before .before .before .loop-test .left))) (omega (arith, (c .before .before .word .ensures .0), c .if2 .left))
 
 pub check-rows-spec : {M : Type 1} → statement M
 check-rows-spec =
@@ -96,20 +96,20 @@ check-rows-spec =
     (tie.spec
     Inv-loop
     μ-loop
-    word-requires
+    count-at-requires
     begun-requires
     loop-holds
     row-at-requires
     accounted-requires
-    cast-t12
+    cast-t13
     returns
     change-by-requires
     add-changed
     add-i
     loop-less
     loop-again
-    word-requires-2
-    cast-t17
+    word-requires
+    cast-t18
     returns-2
-    cast-t19
+    cast-t20
     returns-3)

@@ -13,7 +13,7 @@ answered-requires : tie.Need-answered-requires
 answered-requires c κs = (c .before .recording-answer .ensures, c .witness-frame .ensures)
 
 returns : tie.Need-returns
-returns c = checks _ _ _ _ (c .answered .ensures)
+returns c = checks _ _ _ _ _ (c .answered .ensures)
 
 pub check-witness-spec : {M : Type 1} → statement M
 check-witness-spec = tie.close (tie.spec recording-answer-requires witness-frame-requires answered-requires returns)

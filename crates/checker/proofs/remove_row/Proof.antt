@@ -43,14 +43,14 @@ add-following : tie.Need-add-following
 add-following c = omega (arith, c .before .before .before .before .is-next .ensures .1 (not-false _ (c .before .before .before .if1 .left)))
 
 free-after-requires : tie.Need-free-after-requires
-free-after-requires c κs = c .before .before .before .before .before .before .before .before .pre .last
+free-after-requires c κs = search needs
 
 returns-3 : tie.Need-returns-3
 returns-3 c =
     let a = c .before .before .before .before .before .before .before .before .before .args in
     let ps = packetsAt (a .recording .now) in
     removed-step (monitorFrom (a .table .now) (a .offsets .now)) ps (a .s) (a .e) (c .free-after .result) (c .before .before .before .before .before .before .before .before .before .pre)
-    (c .free-after .ensures .0 (a .offsets .now)) (c .free-after .ensures .1)
+    (c .free-after .ensures (a .offsets .now))
     (sym (c .before .before .before .before .before .is-next .ensures .0) ∙ not-false _ (c .before .before .before .before .if1 .left))
     (sym (c .before .before .before .to-unit .ensures (a .offsets .now)) ∙ not-false _ (c .before .before .if2 .left))
 

@@ -34,7 +34,7 @@ returns c =
     ∙ fired-not (c .before .before .before .fire .result) _ _ (c .before .before .before .fire .ensures) (not-true _ (c .before .if1 .taken))))
 
 free-after-requires : tie.Need-free-after-requires
-free-after-requires c κs = c .before .before .before .before .before .before .before .before .before .before .before .pre .last
+free-after-requires c κs = search needs
 
 returns-2 : tie.Need-returns-2
 returns-2 c =
@@ -44,7 +44,7 @@ returns-2 c =
     sent-fired m ps (a .s) (a .e) (a .next) (c .before .before .before .before .fire .result .to) (c .free-after .result) (c .before .before .before .before .before .before .before .before .before .before .before .before .pre)
     (ap (fires m (a .e .transition) (a .e .kind)) (sym (c .before .before .before .before .before .waited .ensures))
     ∙ fired-to (c .before .before .before .before .fire .result) _ _ (c .before .before .before .before .fire .ensures) (not-false _ (c .before .before .if1 .left)))
-    (c .free-after .ensures .0 (a .offsets .now)) (c .free-after .ensures .1)
+    (c .free-after .ensures (a .offsets .now))
 
 pub sent-spec : {M : Type 1} → statement M
 sent-spec =

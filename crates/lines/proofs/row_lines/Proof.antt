@@ -6,6 +6,7 @@ use lib.ListN.{length}
 use borrow.Author.Needs.{needs}
 use Rattle.model.specs.Bytes.{tab}
 use Rattle.model.specs.Witness.{rowAt}
+use Rattle.model.specs.declared.Edition.the-variants.{One}
 use Rattle.model.specs.Desk.{rowLines}
 use Rattle.lines.specs.Written.{Wrote}
 use Rattle.lines.proofs.Stores.{wrote-none, wrote-more}
@@ -15,7 +16,7 @@ use Rattle.lines.proofs.row_lines.Tie as tie
 
 abbrev Inv-loop : tie.InvT-loop
 Inv-loop witness rows text₀ at next₀ i₀ text next i =
-    (i ≤ rows) × Wrote (rowLines (tab (rowAt witness) i)) at text₀ text next × (length text ≡ length text₀) × (next ≤ at + 71 * i)
+    (i ≤ rows) × Wrote (rowLines (tab (rowAt One witness) i)) at text₀ text next × (length text ≡ length text₀) × (next ≤ at + 71 * i)
 
 abbrev μ-loop : tie.MeasureT-loop
 μ-loop witness rows text₀ at next₀ i₀ text next i = rows - i
@@ -39,7 +40,7 @@ loop-again : tie.Need-loop-again Inv-loop μ-loop
 loop-again c =
     let a = c .before .before .before .before .before .before .before .before .args in
     let i = c .before .before .before .before .before .loop .i in
-    let f = rowAt (a .witness .now) in (
+    let f = rowAt One (a .witness .now) in (
       omega arith,
       rw (add-one, lines-tab f i) (wrote-more (c .before .before .before .before .before .loop .inv .1) (c .before .before .line-at .ensures)),
       search needs,
@@ -53,7 +54,7 @@ returns : tie.Need-returns Inv-loop μ-loop
 returns c =
     let a = c .before .before .before .before .args in
     let e : c .before .loop .i ≡ a .rows = omega arith in
-    subst (λ (n : ℕ). Wrote (rowLines (tab (rowAt (a .witness .now)) n)) (a .at) (a .text .now) (c .before .loop .text) (c .before .loop .next)) e
+    subst (λ (n : ℕ). Wrote (rowLines (tab (rowAt One (a .witness .now)) n)) (a .at) (a .text .now) (c .before .loop .text) (c .before .loop .next)) e
     (c .before .loop .inv .1)
 
 pub row-lines-spec : {M : Type 1} → statement M

@@ -2,7 +2,8 @@ use Prim.Native.Nat.{_≤_}
 use native.Mathlib.Omega.{arith}
 use mathlib.Core.Path.{sym, subst}
 use borrow.Author.Needs.{needs}
-use Rattle.model.specs.Limits.{witnessLimit}
+use Rattle.model.specs.Edition.{mostRows}
+use Rattle.model.specs.declared.Edition.the-variants.{One}
 use Rattle.model.specs.Desk.{acceptedWord, refusedWord, line, verdictLines}
 use Rattle.model.specs.Numbers.{Values}
 use Rattle.model.specs.declared.Verdict.{Verdict}
@@ -24,7 +25,7 @@ short-line-requires c κs = search needs
 row-lines-requires : tie.Need-row-lines-requires
 row-lines-requires c κs =
     let v = c .before .before .before .before .before .before .before .verdict .given in
-    let few : v .0 .1 .0 ≤ witnessLimit = subst FewRows (v .1) (c .before .before .before .before .before .before .before .before .before .before .before .pre .0) in
+    let few : v .0 .1 .0 ≤ mostRows One = subst FewRows (v .1) (c .before .before .before .before .before .before .before .before .before .before .before .pre .0) in
     (few, omega (arith, line-length acceptedWord (v .0 .0) (v .0 .1 .0)))
 
 enum-known-verdict-2 : tie.Need-enum-known-verdict-2

@@ -106,20 +106,20 @@ enum-told-7 c = search needs
 numbered-requires-17 : tie.Need-numbered-requires-17
 numbered-requires-17 c κs = search needs
 
-enum-told-8 : tie.Need-enum-told-8
-enum-told-8 c = search needs
+enum-known-refusal-11 : tie.Need-enum-known-refusal-11
+enum-known-refusal-11 c = search needs
 
 numbered-requires-18 : tie.Need-numbered-requires-18
 numbered-requires-18 c κs = search needs
 
-enum-told-9 : tie.Need-enum-told-9
-enum-told-9 c = search needs
+enum-known-refusal-12 : tie.Need-enum-known-refusal-12
+enum-known-refusal-12 c = search needs
 
 numbered-requires-19 : tie.Need-numbered-requires-19
 numbered-requires-19 c κs = search needs
 
-enum-known-refusal-11 : tie.Need-enum-known-refusal-11
-enum-known-refusal-11 c = search needs
+enum-known-refusal-13 : tie.Need-enum-known-refusal-13
+enum-known-refusal-13 c = search needs
 
 numbered-requires-20 : tie.Need-numbered-requires-20
 numbered-requires-20 c κs = search needs
@@ -176,13 +176,13 @@ returns-17 : tie.Need-returns-17
 returns-17 c = c .numbered17 .ensures ∙ sym (ap refusalValues (c .before .enum-told7 .given .1))
 
 returns-18 : tie.Need-returns-18
-returns-18 c = c .numbered18 .ensures ∙ sym (ap refusalValues (c .before .enum-told8 .given .1))
+returns-18 c = c .numbered18 .ensures ∙ sym (ap refusalValues (c .before .before .refusal11 .given .1))
 
 returns-19 : tie.Need-returns-19
-returns-19 c = c .numbered19 .ensures ∙ sym (ap refusalValues (c .before .enum-told9 .given .1))
+returns-19 c = c .numbered19 .ensures ∙ sym (ap refusalValues (c .before .before .refusal12 .given .1))
 
 returns-20 : tie.Need-returns-20
-returns-20 c = c .numbered20 .ensures ∙ sym (ap refusalValues (c .before .before .refusal11 .given .1))
+returns-20 c = c .numbered20 .ensures ∙ sym (ap refusalValues (c .before .before .refusal13 .given .1))
 
 pub refusal-numbers-spec : {M : Type 1} → statement M
 refusal-numbers-spec =
@@ -222,11 +222,11 @@ refusal-numbers-spec =
     numbered-requires-16
     enum-told-7
     numbered-requires-17
-    enum-told-8
-    numbered-requires-18
-    enum-told-9
-    numbered-requires-19
     enum-known-refusal-11
+    numbered-requires-18
+    enum-known-refusal-12
+    numbered-requires-19
+    enum-known-refusal-13
     numbered-requires-20
     returns
     returns-2

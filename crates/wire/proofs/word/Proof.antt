@@ -1,7 +1,6 @@
 use native.Mathlib.Omega.{arith}
-use Prim.Native.Nat.{_≤_, _+_}
-use lib.ListN.{length, List·getD-eq-default}
 use borrow.Author.Needs.{needs}
+use Rattle.wire.proofs.Past.{word-past}
 use Rattle.wire.proofs.word.Statement.{statement}
 use Rattle.wire.proofs.word.Tie as tie
 
@@ -30,8 +29,7 @@ returns : tie.Need-returns
 returns c = search needs
 
 returns-2 : tie.Need-returns-2
-returns-2 c = let h : length (c .before .before .args .s .now) ≤ c .before .before .args .at + 1 = omega arith in
-    omega (arith, List·getD-eq-default (c .before .before .args .s .now) 0 (c .if1 .left), List·getD-eq-default (c .before .before .args .s .now) 0 h)
+returns-2 c = omega (arith, word-past (c .before .before .args .s .now) (c .before .before .args .at) (c .if1 .left))
 
 pub word-spec : {M : Type 1} → statement M
 word-spec =

@@ -1,9 +1,9 @@
 use Prim.Native.Nat.{ℕ, _+_, _*_}
 use mathlib.Core.List.{List}
 use mathlib.Core.Path.{ap, _∙_}
-use borrow.Author.Needs.{needs}
 use Rattle.model.specs.Witness.{rowBytes}
 use Rattle.wire.specs.Placed.{placed}
+use borrow.Author.Needs.{needs}
 use Rattle.witness.proofs.put_row.Statement.{statement}
 use Rattle.witness.proofs.put_row.Tie as tie
 
@@ -15,6 +15,9 @@ row-bytes-requires c κs = search needs
 
 slice-aggregate-place : tie.Need-slice-aggregate-place
 slice-aggregate-place c = search needs
+
+rows-place-requires : tie.Need-rows-place-requires
+rows-place-requires c κs = search needs
 
 mul-place : tie.Need-mul-place
 mul-place c = search needs
@@ -30,8 +33,11 @@ same-length c = search needs
 
 returns : tie.Need-returns
 returns c =
-    c .before .before .place .ensures
-    ∙ ap (λ (l : List ℕ). placed l (5 + 5 * c .before .before .before .before .before .before .before .before .before .before .before .before .args .i) (c .before .before .before .before .before .before .before .before .before .before .before .before .args .out .now)) (c .before .before .before .before .before .row-bytes .ensures ∙ ap rowBytes (c .before .before .before .before .before .before .row-among .ensures))
+    let a = c .before .before .before .before .before .before .before .before .before .before .before .before .before .args in
+    let from = c .before .before .before .rows-place .result + 5 * a .i in
+    rw (← c .before .before .before .rows-place .ensures .0)
+    (c .before .before .place .ensures
+    ∙ ap (λ (l : List ℕ). placed l from (a .out .now)) (c .before .before .before .before .before .before .row-bytes .ensures ∙ ap rowBytes (c .before .before .before .before .before .before .before .row-among .ensures)))
 
 pub put-row-spec : {M : Type 1} → statement M
 put-row-spec =
@@ -40,6 +46,7 @@ put-row-spec =
     row-among-requires
     row-bytes-requires
     slice-aggregate-place
+    rows-place-requires
     mul-place
     add-place
     place-requires

@@ -1,7 +1,7 @@
 use mathlib.Core.Path.{sym, _∙_}
-use borrow.Author.Needs.{needs}
 use Rattle.model.proofs.AnswerLaws.{witness-reads}
 use Rattle.witness.proofs.Laws.{sound-count, read-sound, read-refused}
+use borrow.Author.Needs.{needs}
 use Rattle.witness.proofs.read_witness.Statement.{statement}
 use Rattle.witness.proofs.read_witness.Tie as tie
 
@@ -12,16 +12,16 @@ sound-requires : tie.Need-sound-requires
 sound-requires c κs = search needs
 
 parts-at-requires : tie.Need-parts-at-requires
-parts-at-requires c κs = sound-count _ _ (c .before .before .witness-answer .ensures) (sym (c .before .sound .ensures) ∙ c .if1 .taken)
+parts-at-requires c κs = sound-count _ _ _ (c .before .before .witness-answer .ensures) (sym (c .before .sound .ensures) ∙ c .if1 .taken)
 
 returns : tie.Need-returns
-returns c = witness-reads _ _ (read-sound _ _ (c .before .before .before .witness-answer .ensures) _ (sym (c .before .before .sound .ensures) ∙ c .before .if1 .taken) (c .parts-at .ensures))
+returns c = witness-reads _ _ _ (read-sound _ _ _ (c .before .before .before .witness-answer .ensures) _ (sym (c .before .before .sound .ensures) ∙ c .before .if1 .taken) (c .parts-at .ensures))
 
 no-parts-requires : tie.Need-no-parts-requires
 no-parts-requires c κs = search needs
 
 returns-2 : tie.Need-returns-2
-returns-2 c = witness-reads _ _ (read-refused _ _ (c .before .before .before .witness-answer .ensures) _ (sym (c .before .before .sound .ensures) ∙ c .before .if1 .left) (c .no-parts .ensures))
+returns-2 c = witness-reads _ _ _ (read-refused _ _ _ (c .before .before .before .witness-answer .ensures) _ (sym (c .before .before .sound .ensures) ∙ c .before .if1 .left) (c .no-parts .ensures))
 
 pub read-witness-spec : {M : Type 1} → statement M
 read-witness-spec =

@@ -1,6 +1,6 @@
 use native.Mathlib.Omega.{arith}
-use borrow.Author.Needs.{needs}
 use Rattle.frame.proofs.Written.{high}
+use borrow.Author.Needs.{needs}
 use Rattle.witness.proofs.row_bytes.Statement.{statement}
 use Rattle.witness.proofs.row_bytes.Tie as tie
 

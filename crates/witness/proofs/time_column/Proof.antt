@@ -1,6 +1,6 @@
 use native.Mathlib.Omega.{arith}
 use mathlib.Core.Path.{refl, _∙_}
-use Rattle.model.specs.Limits.{witnessLimit}
+use Rattle.model.specs.Limits.{witnessPlaces}
 use Rattle.frame.proofs.Columns.{filled-zeros}
 use Rattle.witness.specs.Rows.{timeAt}
 use borrow.Author.Needs.{needs}
@@ -16,7 +16,7 @@ words-column-requires c κs = search needs
 returns : tie.Need-returns
 returns c =
     let a = c .before .before .before .before .args in
-    c .before .words-column .ensures ∙ filled-zeros (timeAt (a .b .now)) (a .count) witnessLimit _ (omega arith) refl
+    c .before .words-column .ensures ∙ filled-zeros (timeAt (a .b .now) (a .start)) (a .count) witnessPlaces _ (omega arith) refl
 
 pub time-column-spec : {M : Type 1} → statement M
 time-column-spec = tie.close (tie.spec slice-aggregate-words-column words-column-requires returns)

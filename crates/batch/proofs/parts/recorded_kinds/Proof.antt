@@ -14,6 +14,9 @@ byte-requires c κs = search needs
 word-requires : tie.Need-word-requires
 word-requires c κs = search needs
 
+cast-bytes-column : tie.Need-cast-bytes-column
+cast-bytes-column c = search needs
+
 slice-aggregate-bytes-column : tie.Need-slice-aggregate-bytes-column
 slice-aggregate-bytes-column c = search needs
 
@@ -31,6 +34,7 @@ recorded-kinds-spec =
     (tie.spec
     byte-requires
     word-requires
+    cast-bytes-column
     slice-aggregate-bytes-column
     bytes-column-requires
     returns)

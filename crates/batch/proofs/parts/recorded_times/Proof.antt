@@ -14,6 +14,9 @@ filler-time-requires c κs = search needs
 word-requires : tie.Need-word-requires
 word-requires c κs = search needs
 
+cast-words-column : tie.Need-cast-words-column
+cast-words-column c = search needs
+
 slice-aggregate-words-column : tie.Need-slice-aggregate-words-column
 slice-aggregate-words-column c = search needs
 
@@ -31,6 +34,7 @@ recorded-times-spec =
     (tie.spec
     filler-time-requires
     word-requires
+    cast-words-column
     slice-aggregate-words-column
     words-column-requires
     returns)

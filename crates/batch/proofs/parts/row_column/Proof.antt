@@ -1,5 +1,5 @@
 -- `batch::parts::row_column` meets its contract. Assumes nothing.
-use Rattle.model.specs.Limits.{witnessLimit}
+use Rattle.model.specs.Limits.{witnessPlaces}
 use Rattle.model.specs.Bytes.{byteAt}
 use Prim.Native.Nat.{_+_, _*_}
 use mathlib.Core.Path.{_∙_}
@@ -14,6 +14,9 @@ byte-requires c κs = search needs
 word-requires : tie.Need-word-requires
 word-requires c κs = search needs
 
+cast-bytes-column : tie.Need-cast-bytes-column
+cast-bytes-column c = search needs
+
 slice-aggregate-bytes-column : tie.Need-slice-aggregate-bytes-column
 slice-aggregate-bytes-column c = search needs
 
@@ -23,7 +26,7 @@ bytes-column-requires c κs = search needs
 returns : tie.Need-returns
 returns c =
     let a = c .before .before .before .before .before .before .args in
-    c .before .bytes-column .ensures ∙ same-filled (λ i. byteAt (a .b .now) (a .start + 5 * i)) witnessLimit _ _ _ _ (c .before .before .before .word .ensures .0) (c .before .before .before .before .byte .ensures .0)
+    c .before .bytes-column .ensures ∙ same-filled (λ i. byteAt (a .b .now) (a .start + 5 * i)) witnessPlaces _ _ _ _ (c .before .before .before .word .ensures .0) (c .before .before .before .before .byte .ensures .0)
 
 pub row-column-spec : {M : Type 1} → statement M
 row-column-spec =
@@ -31,6 +34,7 @@ row-column-spec =
     (tie.spec
     byte-requires
     word-requires
+    cast-bytes-column
     slice-aggregate-bytes-column
     bytes-column-requires
     returns)

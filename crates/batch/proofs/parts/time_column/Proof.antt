@@ -1,5 +1,5 @@
 -- `batch::parts::time_column` meets its contract. Assumes nothing.
-use Rattle.model.specs.Limits.{witnessLimit}
+use Rattle.model.specs.Limits.{witnessPlaces}
 use Rattle.model.specs.Bytes.{wordAt}
 use Prim.Native.Nat.{_+_, _*_}
 use mathlib.Core.Path.{_∙_}
@@ -14,6 +14,9 @@ filler-time-requires c κs = search needs
 word-requires : tie.Need-word-requires
 word-requires c κs = search needs
 
+cast-words-column : tie.Need-cast-words-column
+cast-words-column c = search needs
+
 slice-aggregate-words-column : tie.Need-slice-aggregate-words-column
 slice-aggregate-words-column c = search needs
 
@@ -23,7 +26,7 @@ words-column-requires c κs = search needs
 returns : tie.Need-returns
 returns c =
     let a = c .before .before .before .before .before .before .args in
-    c .before .words-column .ensures ∙ same-filled (λ i. wordAt (a .b .now) (6 + 5 * i)) witnessLimit _ _ _ _ (c .before .before .before .word .ensures .0) (c .before .before .before .before .filler-time .ensures)
+    c .before .words-column .ensures ∙ same-filled (λ i. wordAt (a .b .now) (8 + 5 * i)) witnessPlaces _ _ _ _ (c .before .before .before .word .ensures .0) (c .before .before .before .before .filler-time .ensures)
 
 pub time-column-spec : {M : Type 1} → statement M
 time-column-spec =
@@ -31,6 +34,7 @@ time-column-spec =
     (tie.spec
     filler-time-requires
     word-requires
+    cast-words-column
     slice-aggregate-words-column
     words-column-requires
     returns)

@@ -5,8 +5,8 @@ use borrow.Author.Needs.{needs}
 use Rattle.batch.proofs.sums.sum_witness.Statement.{statement}
 use Rattle.batch.proofs.sums.sum_witness.Tie as tie
 
-sum-word-requires : tie.Need-sum-word-requires
-sum-word-requires c κs = search needs
+sum-long-requires : tie.Need-sum-long-requires
+sum-long-requires c κs = search needs
 
 sum-on-requires : tie.Need-sum-on-requires
 sum-on-requires c κs = search needs
@@ -23,7 +23,7 @@ sum-on-requires-3 c κs = search needs
 returns : tie.Need-returns
 unfolding witnessNumbers
 returns c =
-    let e1 = c .before .before .before .before .before .before .before .before .before .before .before .before .before .before .before .before .sum-word .ensures .0 in
+    let e1 = c .before .before .before .before .before .before .before .before .before .before .before .before .before .before .before .before .sum-long .ensures .0 in
     let e2 = c .before .before .before .before .before .before .before .before .before .before .before .before .sum-on .ensures .0 in
     let e3 = c .before .before .before .before .before .before .before .before .sum-words .ensures .0 in
     let e4 = c .before .before .before .before .sum-on2 .ensures .0 in
@@ -34,7 +34,7 @@ pub sum-witness-spec : {M : Type 1} → statement M
 sum-witness-spec =
     tie.close
     (tie.spec
-    sum-word-requires
+    sum-long-requires
     sum-on-requires
     sum-words-requires
     sum-on-requires-2

@@ -11,6 +11,9 @@ use Rattle.codec.proofs.recording.kind_column.Tie as tie
 word-requires : tie.Need-word-requires
 word-requires c κs = search needs
 
+cast-bytes-column : tie.Need-cast-bytes-column
+cast-bytes-column c = search needs
+
 slice-aggregate-bytes-column : tie.Need-slice-aggregate-bytes-column
 slice-aggregate-bytes-column c = search needs
 
@@ -25,4 +28,4 @@ returns c = let b = c .before .before .before .before .before .args .b .now in
 pub kind-column-spec : {M : Type 1} → statement M
 kind-column-spec =
     tie.close
-    (tie.spec word-requires slice-aggregate-bytes-column bytes-column-requires returns)
+    (tie.spec word-requires cast-bytes-column slice-aggregate-bytes-column bytes-column-requires returns)

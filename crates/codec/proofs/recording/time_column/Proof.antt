@@ -11,6 +11,9 @@ use Rattle.codec.proofs.recording.time_column.Tie as tie
 word-requires : tie.Need-word-requires
 word-requires c κs = search needs
 
+cast-words-column : tie.Need-cast-words-column
+cast-words-column c = search needs
+
 slice-aggregate-words-column : tie.Need-slice-aggregate-words-column
 slice-aggregate-words-column c = search needs
 
@@ -25,4 +28,4 @@ returns c = let b = c .before .before .before .before .before .args .b .now in
 pub time-column-spec : {M : Type 1} → statement M
 time-column-spec =
     tie.close
-    (tie.spec word-requires slice-aggregate-words-column words-column-requires returns)
+    (tie.spec word-requires cast-words-column slice-aggregate-words-column words-column-requires returns)

@@ -1,7 +1,8 @@
 use mathlib.Core.Path.{sym, _∙_}
 use borrow.Author.Tests.{not-true, not-false}
 use Rattle.model.specs.Table.{scanWith}
-use Rattle.frame.proofs.Answers.{stops, goes, then-sound}
+use Rattle.model.proofs.Tests.{then-sound}
+use Rattle.frame.proofs.Answers.{stops, goes}
 use Rattle.codec.proofs.Tables.{counts-are}
 use borrow.Author.Needs.{needs}
 use Rattle.codec.proofs.table.scan_with.Statement.{statement}

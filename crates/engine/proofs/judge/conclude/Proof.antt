@@ -17,7 +17,7 @@ prune-requires : tie.Need-prune-requires
 prune-requires c κs =
     let known = c .before .before in
     let e = known .before .before .before .before .before .before .before .pre in
-    (e .setting, through _ _ _ _ _ _ _ _ e _ (known .outcome3 .given .1) .layers)
+    (e .setting, through _ _ _ _ _ _ _ _ _ e _ (known .outcome3 .given .1) .layers)
 
 walk-requires : tie.Need-walk-requires
 walk-requires c κs =
@@ -25,15 +25,15 @@ walk-requires c κs =
     let known = pruned .before .before .before in
     let e = known .before .before .before .before .before .before .before .pre in (
       record { setting = e .setting; triggers = e .triggers; pruned = pruned .prune .ensures .1 },
-      through _ _ _ _ _ _ _ _ e _ (known .outcome3 .given .1) .left,
+      through _ _ _ _ _ _ _ _ _ e _ (known .outcome3 .given .1) .left,
       e .roomy,
     )
 
 returns : tie.Need-returns
-returns c = spent _ _ _ _ _ _ _ _ (c .before .before .before .before .before .before .before .before .pre) _ (c .before .outcome .given .1)
+returns c = spent _ _ _ _ _ _ _ _ _ (c .before .before .before .before .before .before .before .before .pre) _ (c .before .outcome .given .1)
 
 returns-2 : tie.Need-returns-2
-returns-2 c = emptied _ _ _ _ _ _ _ _ (c .before .before .before .before .before .before .before .before .pre) _ _ (c .before .outcome2 .given .1)
+returns-2 c = emptied _ _ _ _ _ _ _ _ _ (c .before .before .before .before .before .before .before .before .pre) _ _ (c .before .outcome2 .given .1)
 
 same-length : tie.Need-same-length
 same-length c = search needs
@@ -46,7 +46,7 @@ returns-3 c =
     let walked = c .before .before in
     let pruned = walked .before .before .before .before .before in
     let known = pruned .before .before .before in
-    passed _ _ _ _ _ _ _ _ (known .before .before .before .before .before .before .before .pre) _ (known .outcome3 .given .1) _ _ _ (pruned .prune .ensures .0) (walked .walk .ensures .0) (walked .walk .ensures .1)
+    passed _ _ _ _ _ _ _ _ _ (known .before .before .before .before .before .before .before .pre) _ (known .outcome3 .given .1) _ _ _ (pruned .prune .ensures .0) (walked .walk .ensures .0) (walked .walk .ensures .1)
 
 pub conclude-spec : {M : Type 1} → statement M
 conclude-spec =

@@ -19,7 +19,7 @@ forward-requires : tie.Need-forward-requires
 forward-requires c κs =
     let found = c .before .before in
     let cleared = found .before .before .before in
-    forwarding _ _ _ _ _ (cleared .before .before .before .before .before .before .pre) _ _ (found .offsets .ensures) (cleared .clear .ensures)
+    forwarding _ _ _ _ _ _ (cleared .before .before .before .before .before .before .pre) _ _ (found .offsets .ensures) (cleared .clear .ensures)
 
 slice-aggregate-conclude : tie.Need-slice-aggregate-conclude
 slice-aggregate-conclude c = search needs
@@ -28,7 +28,7 @@ conclude-requires : tie.Need-conclude-requires
 conclude-requires c κs =
     let forwarded = c .before .before .before .before .before in
     let found = forwarded .before .before .before in
-    ending _ _ _ _ _ (found .before .before .before .before .before .before .before .before .before .pre) _ _ _ _ (found .offsets .ensures) (forwarded .forward .ensures .1)
+    ending _ _ _ _ _ _ (found .before .before .before .before .before .before .before .before .before .pre) _ _ _ _ (found .offsets .ensures) (forwarded .forward .ensures .1)
 
 clear-requires-2 : tie.Need-clear-requires-2
 clear-requires-2 c κs = search needs
@@ -44,7 +44,7 @@ returns c =
     let concluded = c .before .before .before .before .before .before .before .before in
     let forwarded = concluded .before .before .before .before .before .before in
     let cleared = forwarded .before .before .before .before .before .before in
-    settled _ _ _ _ _ (cleared .before .before .before .before .before .before .pre) _ _ _ _ _ _
+    settled _ _ _ _ _ _ (cleared .before .before .before .before .before .before .pre) _ _ _ _ _ _
     (forwarded .forward .ensures .0 ∙ ap length (cleared .clear .ensures) ∙ length-replicate _ 0)
     (concluded .conclude .ensures)
     (c .before .before .clear2 .ensures)

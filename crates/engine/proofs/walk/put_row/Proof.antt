@@ -1,5 +1,5 @@
 -- `engine::walk::put_row` meets its contract. Assumes nothing.
-use Prim.Native.Nat.{ℕ, _+_, _*_}
+use Prim.Native.Nat.{ℕ, _*_}
 use native.Mathlib.Omega.{arith}
 use mathlib.Core.Path.{ap, _∙_}
 use mathlib.Core.List.{List}
@@ -18,9 +18,6 @@ slice-aggregate-place c = search needs
 mul-place : tie.Need-mul-place
 mul-place c = search needs
 
-add-place : tie.Need-add-place
-add-place c = search needs
-
 place-requires : tie.Need-place-requires
 place-requires c κs = search needs
 
@@ -37,7 +34,7 @@ returns c =
     let made = called .before .before .before in
     let a = made .before .before .args in
     record {
-      bytes = called .place .ensures ∙ ap (λ (l : List ℕ). placed l (5 + 5 * a .r) (a .room .now)) (made .row-bytes .ensures);
+      bytes = called .place .ensures ∙ ap (λ (l : List ℕ). placed l (5 * a .r) (a .room .now)) (made .row-bytes .ensures);
       count = omega arith;
     }
 
@@ -48,7 +45,6 @@ put-row-spec =
     row-bytes-requires
     slice-aggregate-place
     mul-place
-    add-place
     place-requires
     add-result
     same-length

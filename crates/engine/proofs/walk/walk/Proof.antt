@@ -1,105 +1,59 @@
--- `engine::walk::walk` meets its contract: the rows written and the rows to come are the preferred witness. Assumes nothing.
-use Prim.Native.Nat.{ℕ, _-_, _≤_}
+-- `engine::walk::walk` meets its contract: the frame before the rows, which stand in the part of the room behind it. Assumes nothing.
 use native.Mathlib.Omega.{arith}
-use mathlib.Core.Path.{_≡_, sym, subst, _∙_}
+use mathlib.Core.Path.{_∙_}
 use Rattle.model.specs.Table.{monitorAt}
 use Rattle.model.specs.Recording.{packetsAt}
 use Rattle.model.specs.Validation.{preferred}
-use Rattle.engine.specs.WalkRows.{Room, Stands}
-use Rattle.engine.proofs.WalkRoom.{rows-put-framed}
-use Rattle.engine.proofs.WalkSteps.{Walked, room-left, walked-few, walked-length, walked-on, stands-first, walked-first, walked-all, rows-fit, rows-few}
+use Rattle.engine.proofs.WalkRoom.{framed-part}
+use Rattle.engine.proofs.WalkSteps.{rows-fit}
 use borrow.Author.Needs.{needs}
 use Rattle.engine.proofs.walk.walk.Statement.{statement}
 use Rattle.engine.proofs.walk.walk.Tie as tie
 
-abbrev Inv-loop : tie.InvT-loop
-Inv-loop table offsets recording g scratch room₀ at₀ t₀ room at t =
-    (t ≤ g .last) × Stands table recording (g .last) t (at .number) (at .cursor) × Walked table recording (g .last) t (at .number) (at .rows) room₀ room
+rows-place-requires : tie.Need-rows-place-requires
+rows-place-requires c κs = search needs
 
-abbrev μ-loop : tie.MeasureT-loop
-μ-loop table offsets recording g scratch room₀ at₀ t₀ room at t = g .last - t
+sub-walk-rows : tie.Need-sub-walk-rows
+sub-walk-rows c = search needs
 
-loop-holds : tie.Need-loop-holds Inv-loop μ-loop
-loop-holds c =
-    let start = c .before .before .before .before .before in
-    let a = start .args in
-    let set = start .pre .0 .setting in (
-      omega arith,
-      subst (λ (n : ℕ). Stands (a .table .now) (a .recording .now) (a .g .last) 0 n 0) (sym (set .start))
-          (stands-first (a .table .now) (a .offsets .now) (a .recording .now) (a .g) set (start .pre .1)),
-      subst (λ (n : ℕ). Walked (a .table .now) (a .recording .now) (a .g .last) 0 n 0 (a .room .now) (a .room .now)) (sym (set .start))
-          (walked-first (a .table .now) (a .offsets .now) (a .recording .now) (a .g) set (a .room .now) (omega (arith, start .pre .2))),
-    )
+part-walk-rows-start : tie.Need-part-walk-rows-start
+part-walk-rows-start c = search needs
 
--- there is room for all rows
-room : (c : tie.Start Inv-loop μ-loop) → let a = c .args in Room (preferred (monitorAt (a .table .now)) (packetsAt (a .recording .now))) 0 (a .room .now)
-room c =
-    let a = c .args in
-    omega (arith, c .pre .2, rows-fit (a .table .now) (a .offsets .now) (a .recording .now) (a .g) (c .pre .0 .setting))
+part-walk-rows-end : tie.Need-part-walk-rows-end
+part-walk-rows-end c = search needs
 
-walk-on-requires : tie.Need-walk-on-requires Inv-loop μ-loop
-walk-on-requires c κs =
-    let at-loop = c .before .before .before in
-    let start = at-loop .before .before .before .before .before .before in (
-      start .pre .0,
-      omega arith,
-      at-loop .loop .inv .1,
-      room-left (at-loop .loop .inv .2) (room start),
-    )
+walk-rows-requires : tie.Need-walk-rows-requires
+walk-rows-requires c κs = search needs
 
-add-t : tie.Need-add-t Inv-loop μ-loop
-add-t c = search needs
+cast-put-frame : tie.Need-cast-put-frame
+cast-put-frame c = search needs
 
-loop-less : tie.Need-loop-less Inv-loop μ-loop
-loop-less c = search needs
+put-frame-requires : tie.Need-put-frame-requires
+put-frame-requires c κs = search needs
 
-loop-again : tie.Need-loop-again Inv-loop μ-loop
-loop-again c =
-    let called = c .before .before in
-    let at-loop = called .before .before .before .before in
-    let start = at-loop .before .before .before .before .before .before in (
-      omega arith,
-      called .walk-on .ensures .stands,
-      walked-on (at-loop .loop .inv .2) (room start) (called .walk-on .ensures),
-    )
+same-length : tie.Need-same-length
+same-length c = search needs
 
-put-header-requires : tie.Need-put-header-requires Inv-loop μ-loop
-put-header-requires c κs =
-    let at-loop = c .before .before .before in
-    let start = at-loop .before .before .before .before .before .before in
-    let a = start .args in
-    omega (
-      arith,
-      walked-few (at-loop .loop .inv .2) (room start),
-      rows-few (a .table .now) (a .offsets .now) (a .recording .now) (a .g) (start .pre .0 .setting),
-    )
-
-same-length : tie.Need-same-length Inv-loop μ-loop
-same-length c =
-    let at-loop = c .before .before .before .before .before .before in
-    let start = at-loop .before .before .before .before .before .before in
-    c .before .room2 .given ∙ walked-length (at-loop .loop .inv .2) (room start)
-
-returns : tie.Need-returns Inv-loop μ-loop
+returns : tie.Need-returns
 returns c =
-    let at-loop = c .before .before .before .before .before .before in
-    let start = at-loop .before .before .before .before .before .before in
-    let a = start .args in
-    let done : at-loop .loop .t ≡ a .g .last = omega (arith, at-loop .loop .inv .0, c .before .before .before .before .if1 .left) in
-    let all = walked-all (a .table .now) (a .offsets .now) (a .recording .now) (a .g) (start .pre .0 .setting) (at-loop .loop .inv .2) done in
-    (omega (arith, all .count), c .before .before .put-header .ensures ∙ rows-put-framed all (room start))
+    let a = c .before .before .before .before .before .before .before .before .before .before .before .before .before .before .args in
+    let few = rows-fit (a .table .now) (a .offsets .now) (a .recording .now) (a .g) (c .before .before .before .before .before .before .before .before .before .before .before .before .before .before .pre .0 .setting) in (
+      c .before .before .before .before .before .before .walk-rows .ensures .0,
+      c .before .before .put-frame .ensures
+          ∙ framed-part (a .edition) (preferred (monitorAt (a .table .now)) (packetsAt (a .recording .now))) (c .before .before .before .before .before .before .before .before .rows-place .result) _ (a .room .now) _ (c .before .before .before .before .before .before .before .before .rows-place .ensures .0)
+          (c .before .before .before .before .before .before .walk-rows .ensures .0) (c .before .before .before .before .before .before .walk-rows .ensures .1) (omega (arith, few, c .before .before .before .before .before .before .before .before .rows-place .ensures .0)),
+    )
 
 pub walk-spec : {M : Type 1} → statement M
 walk-spec =
     tie.close
     (tie.spec
-    Inv-loop
-    μ-loop
-    loop-holds
-    walk-on-requires
-    add-t
-    loop-less
-    loop-again
-    put-header-requires
+    rows-place-requires
+    sub-walk-rows
+    part-walk-rows-start
+    part-walk-rows-end
+    walk-rows-requires
+    cast-put-frame
+    put-frame-requires
     same-length
     returns)

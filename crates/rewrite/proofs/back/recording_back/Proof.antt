@@ -1,6 +1,7 @@
 use native.Mathlib.Omega.{arith}
 use borrow.Author.Needs.{needs}
-use Rattle.rewrite.proofs.Kept.{all-below, recording-fits, recording-read, recording-unwritten}
+use Rattle.frame.proofs.Columns.{all-below}
+use Rattle.rewrite.proofs.Kept.{recording-fits, recording-read, recording-unwritten}
 use Rattle.rewrite.proofs.back.recording_back.Statement.{statement}
 use Rattle.rewrite.proofs.back.recording_back.Tie as tie
 

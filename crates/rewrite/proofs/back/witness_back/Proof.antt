@@ -1,6 +1,7 @@
 use native.Mathlib.Omega.{arith}
 use borrow.Author.Needs.{needs}
-use Rattle.rewrite.proofs.Kept.{all-below, witness-fits, witness-read, witness-unwritten}
+use Rattle.frame.proofs.Columns.{all-below}
+use Rattle.rewrite.proofs.Kept.{witness-fits, witness-read, witness-unwritten}
 use Rattle.rewrite.proofs.back.witness_back.Statement.{statement}
 use Rattle.rewrite.proofs.back.witness_back.Tie as tie
 
@@ -17,7 +18,7 @@ part-read-witness-start : tie.Need-part-read-witness-start
 part-read-witness-start c = search needs
 
 part-read-witness-end : tie.Need-part-read-witness-end
-part-read-witness-end c = omega (arith, witness-fits _ _ _ _ _ (c .before .before .before .before .before .before .write-witness .ensures) (c .before .before .written .given .1))
+part-read-witness-end c = omega (arith, witness-fits _ _ _ _ _ _ (c .before .before .before .before .before .before .write-witness .ensures) (c .before .before .written .given .1))
 
 read-witness-requires : tie.Need-read-witness-requires
 read-witness-requires c κs = search needs
@@ -35,7 +36,7 @@ returns : tie.Need-returns
 returns c =
     let w = c .before .before .before .before .before .before .before .before .write-witness .ensures in
     let s = c .before .before .before .before .before .before .before .before .before .before .before in
-    witness-read _ _ _ _ w _ (λ i h. all-below (s .args .w .times) (s .good .0 .1 .1 .1 .1 .0 .0) (s .good .0 .1 .1 .1 .1 .0 .1 .1) i) _ (c .before .before .before .before .written .given .1) (c .read-witness .ensures .0)
+    witness-read _ _ _ _ _ w _ (λ i h. all-below (s .args .w .times) (s .good .1 .0 .1 .1 .1 .1 .0 .0) (s .good .1 .0 .1 .1 .1 .1 .0 .1 .1) i) _ (c .before .before .before .before .written .given .1) (c .read-witness .ensures .0)
 
 same-length-2 : tie.Need-same-length-2
 same-length-2 c = search needs
@@ -43,7 +44,7 @@ same-length-2 c = search needs
 returns-2 : tie.Need-returns-2
 returns-2 c =
     let w = c .before .before .before .before .before .before .write-witness .ensures in
-    witness-unwritten _ _ _ _ w _ _ (c .before .before .written2 .given .1) (c .refused-witness .ensures)
+    witness-unwritten _ _ _ _ _ w _ _ (c .before .before .written2 .given .1) (c .refused-witness .ensures)
 
 pub witness-back-spec : {M : Type 1} → statement M
 witness-back-spec =
