@@ -3,11 +3,13 @@ use Prim.Native.Nat.{ℕ, _+_, _-_, _*_, _<_, _≤_}
 use native.Mathlib.Nat.{mul-comm}
 use native.Mathlib.Omega.{arith}
 use mathlib.Core.Path.{_≡_, refl, sym, ap, ap₂, subst, _∙_}
-use mathlib.Core.List.{List, _++_}
+use mathlib.Core.List.{List, [], _∷_, _++_}
 use lib.ListN.{length, take, drop, replicate}
 use lib.Seq.{length-take-le}
-use borrow.Author.Tests.{le-leb, lt-leb}
+use lib.Dec.{leb}
+use borrow.Author.Tests.{le-leb}
 use Rattle.model.specs.Bytes.{tab}
+use Rattle.model.specs.First.{unless, firstOf}
 use Rattle.model.specs.Size
 use Rattle.model.specs.Edition.{rowsPlace, latestTime}
 use Rattle.model.specs.Table.{tableAnswer, readTable, monitorAt, tableParts}
@@ -25,15 +27,19 @@ use Rattle.model.specs.declared.Verdict.{Verdict}
 use Rattle.model.specs.declared.Verdict.the-variants.{Accepted, Rejected, Exhausted, Refused}
 use Rattle.model.specs.declared.TableParts.{TableParts}
 use Rattle.model.specs.declared.TableReading.{TableReading}
-use Rattle.model.proofs.Basics.{length-tab}
-use Rattle.model.proofs.Tests.{sound-unsound}
+use Rattle.model.proofs.Basics.{andThen-left, andThen-right, length-tab}
+use Rattle.model.proofs.Tests.{test, le-test, sound-unsound}
 use Rattle.model.proofs.TableForm.{table-small}
 use Rattle.model.proofs.RecordingForm.{sound-table, packetAt, packets-tab}
 use Rattle.model.proofs.Judgement.{sound-judged}
 use Rattle.engine.specs.declared.measures.Measures.{Measures}
 use Rattle.engine.specs.Measured.{Measured}
+use Rattle.engine.specs.Lent.{lentAnswer}
 use Rattle.engine.specs.Validates.{Validates}
 use Rattle.engine.specs.Judging.{Judging, Settled}
+
+pub le-by : (a b n : ℕ) → a ≡ b → a ≤ n → b ≤ n
+le-by a b n e h = omega arith
 
 -- the answer on table and recording, by what was read of the table and what its recording's own numbers are
 module _ (table recording : List ℕ) (x : TableReading) (read : x ≡ readTable table) where
@@ -54,6 +60,26 @@ module _ (table recording : List ℕ) (x : TableReading) (read : x ≡ readTable
     unfolding recordingAnswer
     both-read e = rw (answered, sound, ← is, e)
 
+-- behind a sound recording, what is lent decides; last, scratchNeed, roomNeed: as the code has them
+module _ (edition : Edition) (table recording scratch room : List ℕ) (e : recordingAnswer table recording ≡ Sound) (last scratchNeed roomNeed : ℕ) (ends : last ≡ endOf (packetsAt recording))
+    (wanted : scratchNeed ≡ scratchWanted table recording) (roomy : roomNeed ≡ roomWanted edition recording)
+    (answer : Reading) (is : answer ≡ lentAnswer edition last scratchNeed roomNeed (length scratch) (length room))
+  where
+    pub by-lent : refusal edition table recording (length scratch) (length room) ≡ answer
+    unfolding refusal lentAnswer
+    by-lent = rw (refusal, e, is, ends, wanted, roomy)
+
+    pub lent-enough : answer ≡ Sound → (scratchNeed ≤ length scratch) × (endOf (packetsAt recording) ≤ latestTime edition) × (roomNeed ≤ length room)
+    unfolding lentAnswer
+    lent-enough h =
+        let scratchFirst : Reading = unless (leb scratchNeed (length scratch)) (Scratch scratchNeed) in
+        let ofRoom : List Reading = unless (leb last (latestTime edition)) (WitnessRoom 0) ∷ unless (leb roomNeed (length room)) (WitnessRoom roomNeed) ∷ [] in
+        let both : firstOf ofRoom ≡ Sound = andThen-right scratchFirst (firstOf ofRoom) (sym is ∙ h) in (
+          le-test _ _ (Scratch scratchNeed) (andThen-left scratchFirst (firstOf ofRoom) (sym is ∙ h)),
+          le-by _ _ _ ends (le-test _ _ (WitnessRoom 0) (test ofRoom both 0)),
+          le-test _ _ (WitnessRoom roomNeed) (test ofRoom both 1),
+        )
+
 module _ (edition : Edition) (table recording : List ℕ) (budget : ℕ) (scratch room : List ℕ) where
   validation-refused : (why : Refusal) → refusal edition table recording (length scratch) (length room) ≡ Unsound why
       → validation edition table recording budget (length scratch) (length room) ≡ Refused why
@@ -61,7 +87,7 @@ module _ (edition : Edition) (table recording : List ℕ) (budget : ℕ) (scratc
   validation-refused why e = rw (e, validation)
 
   -- a refusal answers itself and touches nothing
-  refused : (why : Refusal) → refusal edition table recording (length scratch) (length room) ≡ Unsound why
+  pub refused : (why : Refusal) → refusal edition table recording (length scratch) (length room) ≡ Unsound why
       → Validates edition table recording budget scratch room scratch room (Refused why)
   unfolding scratchAfter roomAfter
   refused why e =
@@ -76,30 +102,6 @@ module _ (edition : Edition) (table recording : List ℕ) (budget : ℕ) (scratc
   pub unread : (why : Refusal) → recordingAnswer table recording ≡ Unsound why → Validates edition table recording budget scratch room scratch room (Refused why)
   unfolding refusal
   unread why e = refused why (rw (refusal, e))
-
-  pub scratch-short : (wanted : ℕ) → recordingAnswer table recording ≡ Sound → wanted ≡ scratchWanted table recording → length scratch < wanted
-      → Validates edition table recording budget scratch room scratch room (Refused (Scratch wanted))
-  unfolding refusal
-  scratch-short wanted e w short = subst (λ (n : ℕ). Validates edition table recording budget scratch room scratch room (Refused (Scratch n))) (sym w)
-      (refused (Scratch (scratchWanted table recording))
-      (rw (refusal, e, lt-leb (scratchWanted table recording) (length scratch) (subst (λ (n : ℕ). length scratch < n) w short))))
-
-  -- an edition whose times end before the last recorded one
-  pub too-late : recordingAnswer table recording ≡ Sound → scratchWanted table recording ≤ length scratch → latestTime edition < endOf (packetsAt recording)
-      → Validates edition table recording budget scratch room scratch room (Refused (WitnessRoom 0))
-  unfolding refusal
-  too-late e fits late =
-      refused (WitnessRoom 0)
-      (rw (refusal, e, le-leb (scratchWanted table recording) (length scratch) fits, lt-leb (endOf (packetsAt recording)) (latestTime edition) late))
-
-  pub room-short : (wanted : ℕ) → recordingAnswer table recording ≡ Sound → scratchWanted table recording ≤ length scratch
-      → endOf (packetsAt recording) ≤ latestTime edition → wanted ≡ roomWanted edition recording
-      → length room < wanted → Validates edition table recording budget scratch room scratch room (Refused (WitnessRoom wanted))
-  unfolding refusal
-  room-short wanted e fits early w short = subst (λ (n : ℕ). Validates edition table recording budget scratch room scratch room (Refused (WitnessRoom n))) (sym w)
-      (refused (WitnessRoom (roomWanted edition recording))
-      (rw
-      (refusal, e, le-leb (scratchWanted table recording) (length scratch) fits, le-leb (endOf (packetsAt recording)) (latestTime edition) early, lt-leb (roomWanted edition recording) (length room) (subst (λ (n : ℕ). length room < n) w short))))
 
   -- a verdict leaves the wanted part of the scratch zero
   zeroed : (v : Verdict) → ValuesOf (monitorAt table) (packetsAt recording) budget v → (wanted : ℕ)
@@ -167,9 +169,6 @@ room-is edition recording head last n p l c = let h = count-is recording in omeg
 pub no-end : (recording : List ℕ) → countAt recording ≡ 0 → 0 ≡ endOf (packetsAt recording)
 unfolding tab endOf
 no-end recording c = sym (ap endOf (packets-tab recording ∙ ap (tab (packetAt recording)) c))
-
-pub le-by : (a b n : ℕ) → a ≡ b → a ≤ n → b ≤ n
-le-by a b n e h = omega arith
 
 pub judging : (edition : Edition) (table recording : List ℕ) (e : recordingAnswer table recording ≡ Sound) (reading : TableReading) (r : reading ≡ readTable table)
     (g : Measures) (m : Measured (reading .parts) recording g) (scratch room : List ℕ) (head count : ℕ)

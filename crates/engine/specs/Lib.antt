@@ -1,4 +1,5 @@
 pub mod Measured
+pub mod Lent
 pub mod Setting
 pub mod PruneRows
 pub mod WalkRows

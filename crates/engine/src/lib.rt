@@ -1,19 +1,20 @@
 // Validation (document 01): can the unit have kept the protocol? The verdict, its cost, and the preferred witness.
 mod forward;
 mod judge;
+mod lent;
 mod measures;
 mod prune;
 mod walk;
 
 use codec::recording::recording_scan;
 use codec::table::read_table;
-use frame::edition::latest_time;
 use frame::edition::rows_place;
 use judge::judge;
+use lent::Loan;
+use lent::lent_answer;
 use measures::measure;
 use model::Edition;
 use model::Reading;
-use model::Refusal;
 use model::Verdict;
 use wire::word;
 ghost use Rattle.engine.specs.Validates.{Validates};
@@ -41,20 +42,18 @@ pub fn validate<'a>(
     let parts = reading.parts;
     let g = measure(parts, recording);
     let scratch_wanted = g.row * (g.last + 1);
-    if scratch.len() < scratch_wanted {
-        return Verdict::Refused(Refusal::Scratch {
-            wanted: scratch_wanted as u64,
-        });
-    }
-    // an edition whose times end before the handover does is not written, however large the room
-    if (latest_time(edition) as usize) < g.last {
-        return Verdict::Refused(Refusal::WitnessRoom { wanted: 0 });
-    }
     let room_wanted = rows_place(edition) + 5 * (g.last + word(recording, 3) as usize);
-    if room.len() < room_wanted {
-        return Verdict::Refused(Refusal::WitnessRoom {
-            wanted: room_wanted as u64,
-        });
+    let for_scratch = Loan {
+        wanted: scratch_wanted,
+        length: scratch.len(),
+    };
+    let for_room = Loan {
+        wanted: room_wanted,
+        length: room.len(),
+    };
+    let lent = lent_answer(edition, g.last, for_scratch, for_room);
+    if let Reading::Unsound(why) = lent {
+        return Verdict::Refused(why);
     }
     let part = &mut scratch[0..scratch_wanted];
     judge(edition, table, recording, g, budget as u64, part, room)

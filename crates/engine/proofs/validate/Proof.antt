@@ -1,14 +1,15 @@
 -- `validate` meets its contract: each refusal in its turn, and then the judgement. Assumes nothing.
 use Prim.Native.Nat.{_+_, _*_, _≤_}
 use native.Mathlib.Omega.{arith}
-use mathlib.Core.Path.{_≡_}
+use mathlib.Core.Path.{_≡_, _∙_}
+use lib.ListN.{length}
 use borrow.Author.Needs.{needs}
 use Rattle.model.specs.Edition.{latestTime}
 use Rattle.model.specs.Recording.{recordingAnswer, packetsAt, endOf}
 use Rattle.model.specs.Validation.{scratchWanted, roomWanted}
 use Rattle.model.specs.declared.Reading.the-variants.{Sound}
 use Rattle.engine.proofs.Rows.{product}
-use Rattle.engine.proofs.ValidateLaws.{table-unread, recording-unread, both-read, unread, scratch-short, scratch-is, too-late, room-short, room-is, le-by, judging, judged-part}
+use Rattle.engine.proofs.ValidateLaws.{table-unread, recording-unread, both-read, unread, scratch-is, room-is, refused, by-lent, lent-enough, le-by, judging, judged-part}
 use Rattle.engine.proofs.validate.Statement.{statement}
 use Rattle.engine.proofs.validate.Tie as tie
 
@@ -29,21 +30,26 @@ wanted c =
     scratch-is _ _ (sound (c .before .before)) _ (read .read-table .ensures .0) _ (c .measure .ensures)
 
 roomy : (c : tie.After-word)
-    → let measured = c .before .before .before .before .before .before .before .before in
+    → let measured = c .before .before .before .before in
     let a = measured .before .before .before .before .before .before .before .before .before .before .before .before .args in
     c .before .rows-place .result + 5 * (measured .measure .result .last + c .word .result) ≡ roomWanted (a .edition) (a .recording .now)
 roomy c =
-    let measured = c .before .before .before .before .before .before .before .before in
+    let measured = c .before .before .before .before in
     room-is (measured .before .before .before .before .before .before .before .before .before .before .before .before .args .edition) _ _ _ _ (c .before .rows-place .ensures .0) (measured .measure .ensures .last) (c .word .ensures .0)
 
--- the edition's times last to the end
-early : (c : tie.Else2)
-    → let measured = c .before .before .before .before .before .before in
+-- where nothing is refused, what is lent is enough
+enough : (c : tie.After-enum-told3)
+    → let measured = c .before .before .before .before .before .before .before .before in
+    let g = measured .measure .result in
     let a = measured .before .before .before .before .before .before .before .before .before .before .before .before .args in
-    endOf (packetsAt (a .recording .now)) ≤ latestTime (a .edition)
-early c =
-    let measured = c .before .before .before .before .before .before in
-    omega (arith, c .if2 .left, measured .measure .ensures .last, c .before .before .latest-time .ensures)
+    (g .row * (g .last + 1) ≤ length (a .scratch .now))
+    × (endOf (packetsAt (a .recording .now)) ≤ latestTime (a .edition))
+    × (c .before .before .before .before .before .rows-place .result + 5 * (g .last + c .before .before .before .before .word .result) ≤ length (a .room .now))
+enough c =
+    let read = c .before .before .before .before in
+    let measured = read .before .before .before .before in
+    let a = measured .before .before .before .before .before .before .before .before .before .before .before .before .args in
+    lent-enough (a .edition) (a .table .now) (a .recording .now) (a .scratch .now) (a .room .now) (sound (measured .before .before)) _ _ _ (measured .measure .ensures .last) (wanted measured) (roomy read) _ (c .before .before .lent-answer .ensures) (c .enum-told3 .given .1)
 
 read-table-requires : tie.Need-read-table-requires
 read-table-requires c κs = search needs
@@ -82,24 +88,6 @@ add-scratch-wanted c = search needs
 mul-scratch-wanted : tie.Need-mul-scratch-wanted
 mul-scratch-wanted c = product _ _ (omega arith) (omega arith)
 
-returns-3 : tie.Need-returns-3
-returns-3 c =
-    let measured = c .before .before .before in
-    scratch-short _ _ _ _ _ _ _ (sound (measured .before .before)) (wanted measured) (c .if1 .taken)
-
-latest-time-requires : tie.Need-latest-time-requires
-latest-time-requires c κs = search needs
-
-cast-if2 : tie.Need-cast-if2
-cast-if2 c = search needs
-
-returns-4 : tie.Need-returns-4
-returns-4 c =
-    let asked = c .before .before in
-    let measured = asked .before .before .before .before in
-    too-late _ _ _ _ _ _ (sound (measured .before .before)) (le-by _ _ _ (wanted measured) (asked .before .if1 .left))
-    (omega (arith, c .if2 .taken, measured .measure .ensures .last, asked .latest-time .ensures))
-
 rows-place-requires : tie.Need-rows-place-requires
 rows-place-requires c κs = search needs
 
@@ -118,12 +106,23 @@ mul-room-wanted c = search needs
 add-room-wanted-2 : tie.Need-add-room-wanted-2
 add-room-wanted-2 c = search needs
 
-returns-5 : tie.Need-returns-5
-returns-5 c =
-    let read = c .before .before in
-    let in-time = read .before .before in
-    let measured = in-time .before .before .before .before .before .before in
-    room-short _ _ _ _ _ _ _ (sound (measured .before .before)) (le-by _ _ _ (wanted measured) (c .before .before .before .before .before .before .before .if1 .left)) (early in-time) (roomy read) (c .if3 .taken)
+lent-answer-requires : tie.Need-lent-answer-requires
+lent-answer-requires c κs = search needs
+
+enum-known-lent : tie.Need-enum-known-lent
+enum-known-lent c = search needs
+
+returns-3 : tie.Need-returns-3
+returns-3 c =
+    let answered = c .before .before .before in
+    let read = answered .before .before in
+    let measured = read .before .before .before .before in
+    let a = c .before .before .before .before .before .before .before .before .before .before .before .before .before .before .before .before .before .before .before .before .before .args in
+    refused _ _ _ _ _ _ _
+    (by-lent (a .edition) (a .table .now) (a .recording .now) (a .scratch .now) (a .room .now) (sound (measured .before .before)) _ _ _ (measured .measure .ensures .last) (wanted measured) (roomy read) _ (answered .lent-answer .ensures) ∙ c .before .lent .given .1)
+
+enum-told-3 : tie.Need-enum-told-3
+enum-told-3 c = search needs
 
 sub-part : tie.Need-sub-part
 sub-part c = search needs
@@ -132,14 +131,14 @@ part-part-start : tie.Need-part-part-start
 part-part-start c = search needs
 
 part-part-end : tie.Need-part-part-end
-part-part-end c = search needs
+part-part-end c = omega (arith, enough c .0)
 
 judge-requires : tie.Need-judge-requires
 judge-requires c κs =
-    let read = c .before .before .before .before in
-    let measured = read .before .before .before .before .before .before .before .before in
-    judging _ _ _ (sound (measured .before .before)) _ (c .before .before .before .before .before .before .before .before .before .before .before .before .before .before .before .before .before .before .before .read-table .ensures .0) _ (c .before .before .before .before .before .before .before .before .before .before .before .before .measure .ensures) _ _ _ _ (c .before .before .before .before .before .rows-place .ensures .0) (c .before .before .before .before .word .ensures .0)
-    (c .before .before .before .before .before .before .before .before .before .if1 .left) (c .before .before .if3 .left)
+    let told = c .before .before in
+    let measured = told .before .before .before .before .before .before .before .before in
+    judging _ _ _ (sound (measured .before .before)) _ (c .before .before .before .before .before .before .before .before .before .before .before .before .before .before .before .before .before .read-table .ensures .0) _ (c .before .before .before .before .before .before .before .before .before .before .measure .ensures) _ _ _ _ (c .before .before .before .before .before .before .before .rows-place .ensures .0) (c .before .before .before .before .before .before .word .ensures .0)
+    (enough told .0) (enough told .2)
 
 same-length : tie.Need-same-length
 same-length c = search needs
@@ -147,14 +146,12 @@ same-length c = search needs
 same-length-2 : tie.Need-same-length-2
 same-length-2 c = search needs
 
-returns-6 : tie.Need-returns-6
-returns-6 c =
-    let judged = c .before .before .before .before in
-    let fits = judged .before .before .before in
-    let read = fits .before .before in
-    let in-time = read .before .before in
-    let measured = in-time .before .before .before .before .before .before in
-    judged-part _ _ _ _ _ _ (sound (measured .before .before)) _ (wanted measured) (c .before .before .before .before .before .before .before .before .before .before .before .before .before .before .if1 .left) (early in-time) (le-by _ _ _ (roomy read) (c .before .before .before .before .before .before .before .if3 .left)) _ _ _ (c .before .before .before .before .judge .ensures)
+returns-4 : tie.Need-returns-4
+returns-4 c =
+    let told = c .before .before .before .before .before .before .before in
+    let read = told .before .before .before .before in
+    let measured = read .before .before .before .before in
+    judged-part _ _ _ _ _ _ (sound (measured .before .before)) _ (wanted measured) (enough told .0) (enough told .1) (le-by _ _ _ (roomy read) (enough told .2)) _ _ _ (c .before .before .before .before .judge .ensures)
 
 pub validate-spec : {M : Type 1} → statement M
 validate-spec =
@@ -171,21 +168,20 @@ validate-spec =
     measure-requires
     add-scratch-wanted
     mul-scratch-wanted
-    returns-3
-    latest-time-requires
-    cast-if2
-    returns-4
     rows-place-requires
     word-requires
     cast-room-wanted
     add-room-wanted
     mul-room-wanted
     add-room-wanted-2
-    returns-5
+    lent-answer-requires
+    enum-known-lent
+    returns-3
+    enum-told-3
     sub-part
     part-part-start
     part-part-end
     judge-requires
     same-length
     same-length-2
-    returns-6)
+    returns-4)
