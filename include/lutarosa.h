@@ -2,14 +2,23 @@
  *
  * Tables, recordings and witnesses are bytes in the formats of document 01; the times of a witness rise strictly (R-3
  * of document 02). A table has version 1 or 2; in version 2 the record of a kind has a third byte, the device that sends
- * it: 0 if from the unit, 1 to 15 if to it (R-6). Devices change no answer but 14. Any bytes may be handed in: what is
- * wrong with them is told by a number. A call always returns and keeps nothing of what it was lent.
+ * it: 0 if from the unit, 1 to 15 if to it (R-6). Devices change no answer but 14. The times of a recording go to 65535,
+ * and a witness has one of two editions (R-5), which the caller names by the function:
+ *
+ *                            edition 1          edition 2, functions ..._edition2
+ *    length, row count       two bytes each     four bytes each
+ *    version byte            1                  2
+ *    rows                    at most 4608       at most 65535
+ *    times of rows           1 to 4096          1 to 65535
+ *
+ * Any bytes may be handed in: what is wrong with them is told by a number. A call always returns and keeps nothing of
+ * what it was lent.
  *
  * A slice is a pointer and a length in bytes. The pointer must not be null, even if the length is 0. A slice that a call
  * writes (scratch, room) must not overlap another slice of that call. While the call runs, nothing else may write its
  * slices, nor read those that it writes.
  *
- * Link with liblutarosa.a (x86-64 Linux), which needs memcpy and memset of the C library and about 70 KB of stack
+ * Link with liblutarosa.a (x86-64 Linux), which needs memcpy and memset of the C library and about 25 KB of stack
  * (measured, not proved).
  */
 #ifndef LUTAROSA_H
@@ -30,10 +39,14 @@ extern "C" {
  *               be reached from state 0
  *    20 to 24   the recording is not sound     second: where; for 23 and 24 the row, from 0
  *    30         scratch too short              second: bytes wanted
- *    31         witness room too short         second: bytes wanted
+ *    31         witness room too short         second: bytes wanted; 0 if the last recorded time is above
+ *                                              4096, for which edition 1 is not written however large
+ *                                              the room
  *    33         room too short to rewrite      second: bytes wanted
- *    40 to 43   the witness is not permitted   second: where; for 43 the row, from 0, or the row count if
- *                                              recorded rows are left unaccounted for
+ *    40 to 43   the witness is not permitted   second: where; for 41 and 42 the offset of version and
+ *                                              count, 2 and 3 or, in edition 2, 4 and 5; for 43 the row,
+ *                                              from 0, or the row count if recorded rows are left
+ *                                              unaccounted for
  */
 struct lutarosa_answer {
     uint64_t number;
@@ -47,16 +60,24 @@ struct lutarosa_answer {
  *    1   rejected     second: cost     third: instant after whose moves nothing is left
  *    2   exhausted    second: budget   third: instant at which the cost passes it
  *
- * Lent, whatever they hold: a scratch of (T + 1) * S bytes and a room of 5 + 5 * (T + n) bytes, with T the last recorded
- * time, n the recorded rows, and S an eighth of document 01's N, rounded up. 33562624 and 23045 are always enough.
+ * Lent, whatever they hold: a scratch of (T + 1) * S bytes and a room of 5 + 5 * (T + n) bytes, in edition 2 of
+ * 9 + 5 * (T + n) bytes, with T the last recorded time, n the recorded rows, and S an eighth of document 01's N, rounded
+ * up. Always enough: in edition 2, 536870912 and 330244; in edition 1, for a T up to 4096, beyond which it is not
+ * written, 33562624 and 23045. The largest cost is 4294901760, so there is a budget that suffices for every call.
  * After 0, 1 and 2 the wanted part of the scratch is zero. After 0 the preferred witness stands at the start of the room,
- * 5 + 5 * rows bytes. All other lent bytes are as they were.
+ * 5 + 5 * rows bytes, in edition 2 9 + 5 * rows. All other lent bytes are as they were.
  */
 struct lutarosa_answer lutarosa_validate(const uint8_t *table, size_t table_length,
                                          const uint8_t *recording, size_t recording_length,
                                          uint32_t budget,
                                          uint8_t *scratch, size_t scratch_length,
                                          uint8_t *room, size_t room_length);
+
+struct lutarosa_answer lutarosa_validate_edition2(const uint8_t *table, size_t table_length,
+                                                  const uint8_t *recording, size_t recording_length,
+                                                  uint32_t budget,
+                                                  uint8_t *scratch, size_t scratch_length,
+                                                  uint8_t *room, size_t room_length);
 
 /* Checks a witness against a table and a recording.
  *
@@ -66,9 +87,13 @@ struct lutarosa_answer lutarosa_check(const uint8_t *table, size_t table_length,
                                       const uint8_t *recording, size_t recording_length,
                                       const uint8_t *witness, size_t witness_length);
 
-/* Each reads bytes and writes what it read into the room. Sound bytes come out the same, in either version of a table, so a room of their length
- * is enough.
- * A recording is read against a table; of a witness the form alone is judged.
+struct lutarosa_answer lutarosa_check_edition2(const uint8_t *table, size_t table_length,
+                                               const uint8_t *recording, size_t recording_length,
+                                               const uint8_t *witness, size_t witness_length);
+
+/* Each reads bytes and writes what it read into the room. Sound bytes come out the same, in either version of a table
+ * and in either edition of a witness, so a room of their length is enough. A recording is read against a table; of a
+ * witness the form alone is judged.
  *
  *    0   written      second: bytes written, at the start of the room; the rest of the room is as it was
  */
@@ -81,6 +106,9 @@ struct lutarosa_answer lutarosa_rewrite_recording(const uint8_t *table, size_t t
 
 struct lutarosa_answer lutarosa_rewrite_witness(const uint8_t *bytes, size_t length,
                                                 uint8_t *room, size_t room_length);
+
+struct lutarosa_answer lutarosa_rewrite_witness_edition2(const uint8_t *bytes, size_t length,
+                                                         uint8_t *room, size_t room_length);
 
 #ifdef __cplusplus
 }

@@ -17,6 +17,7 @@ use Rattle.model.specs.Recording.{recordingScan, recordingAnswer, countAt, pack
 use Rattle.model.specs.Witness.{witnessBytes}
 use Rattle.model.specs.Numbers.{verdictValues}
 use Rattle.model.specs.Validation.{refusal, validation, verdict, preferred, scratchWanted, roomWanted, scratchBy, roomBy, scratchAfter, roomAfter}
+use Rattle.model.specs.Late.{RefusesLate}
 use Rattle.model.specs.Claims.{ValuesOf, Judged}
 use Rattle.model.specs.declared.Edition.{Edition}
 use Rattle.model.specs.declared.Reading.{Reading}
@@ -32,6 +33,7 @@ use Rattle.model.proofs.Tests.{test, le-test, sound-unsound}
 use Rattle.model.proofs.TableForm.{table-small}
 use Rattle.model.proofs.RecordingForm.{sound-table, packetAt, packets-tab}
 use Rattle.model.proofs.Judgement.{sound-judged}
+use Rattle.model.proofs.LateLaws.{refuses-late}
 use Rattle.engine.specs.declared.measures.Measures.{Measures}
 use Rattle.engine.specs.Measured.{Measured}
 use Rattle.engine.specs.Lent.{lentAnswer}
@@ -86,6 +88,11 @@ module _ (edition : Edition) (table recording : List ℕ) (budget : ℕ) (scratc
   unfolding validation
   validation-refused why e = rw (e, validation)
 
+  late : (v : Verdict) → v ≡ validation edition table recording budget (length scratch) (length room) → RefusesLate edition table recording (length scratch) (verdictValues v)
+  late v e =
+      subst (λ (x : Verdict). RefusesLate edition table recording (length scratch) (verdictValues x)) (sym e)
+      (refuses-late edition table recording budget (length scratch) (length room))
+
   -- a refusal answers itself and touches nothing
   pub refused : (why : Refusal) → refusal edition table recording (length scratch) (length room) ≡ Unsound why
       → Validates edition table recording budget scratch room scratch room (Refused why)
@@ -96,6 +103,7 @@ module _ (edition : Edition) (table recording : List ℕ) (budget : ℕ) (scratc
         numbers = ap verdictValues (sym (validation-refused why e));
         cleared = ap (λ (v : Verdict). scratchBy v (scratchWanted table recording) scratch) (sym (validation-refused why e));
         written = ap (λ (v : Verdict). roomBy v (witnessBytes edition (preferred (monitorAt table) (packetsAt recording))) room) (sym (validation-refused why e));
+        late = late (Refused why) (sym (validation-refused why e));
         judged = λ s. absurd (sound-unsound why (sym s ∙ e));
       }
 
@@ -141,6 +149,7 @@ module _ (edition : Edition) (table recording : List ℕ) (budget : ℕ) (scratc
                 ∙ zeroed v (right .valued) (scratchWanted table recording)
                 ∙ ap (λ (w : Verdict). scratchBy w (scratchWanted table recording) scratch) same;
             written = s .written ∙ ap (λ (w : Verdict). roomBy w (witnessBytes edition (preferred (monitorAt table) (packetsAt recording))) room) same;
+            late = late v same;
             judged = λ _. right;
           }
 

@@ -21,6 +21,7 @@ pub mod Layers
 pub mod Order
 pub mod Validation
 pub mod Versions
+pub mod Late
 pub mod Numbers
 pub mod Devices
 pub mod Answers
