@@ -1,11 +1,10 @@
 -- What the code's small state stands for among the model's rows and progress.
-use Prim.Native.Nat.{_+_, _<_, _≤_}
+use Prim.Native.Nat.{_<_, _≤_}
 use mathlib.Core.Path.{_≡_}
 use mathlib.Core.List.{List}
 use mathlib.Core.Bool.{true, cond}
 use mathlib.Core.Option.{Option, none, some}
 use lib.ListN.{length, getD, drop}
-use lib.Dec.{eqb}
 use Rattle.model.specs.Limits.{timeLimit}
 use Rattle.model.specs.Trace.{Packet}
 use Rattle.model.specs.Monitor.{Monitor}

@@ -192,10 +192,6 @@ module _ {table recording : List ℕ} {last t n r : ℕ} {before after : List �
     pub room-left : Room (rowsAfter table recording last t n) r after
     room-left = room-behind (rowsAfter table recording last t n) (walked .wrote) (omega (arith, ap length (walked .whole)))
 
-    pub walked-few : r ≤ length (preferred (monitorAt table) (packetsAt recording))
-    walked-few =
-        omega (arith, walked .wrote .count, ap length (walked .whole), length-append (walked .rows) (rowsAfter table recording last t n))
-
     pub walked-length : length after ≡ length before
     walked-length = rows-put-length (walked .wrote) (omega (arith, ap length (walked .whole), length-append (walked .rows) (rowsAfter table recording last t n)))
 

@@ -15,10 +15,6 @@ pub goes : (x y : Reading) → isSound x ≡ true → andThen x y ≡ y
 goes Sound y e = refl
 goes (Unsound r) y e = absurd (false≢true e)
 
-pub then-assoc : (x y z : Reading) → andThen (andThen x y) z ≡ andThen x (andThen y z)
-then-assoc Sound y z = refl
-then-assoc (Unsound r) y z = refl
-
 -- an answer r that the code has tested, and all that is left to answer: r and then y. s is what the test gave
 module _ (all x y r : Reading) (s : Bool) (whole : all ≡ andThen x y) (is : r ≡ x) (tested : s ≡ isSound r) where
   pub turn-stops : not s ≡ true → r ≡ all

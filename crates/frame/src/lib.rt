@@ -12,7 +12,6 @@ use model::Refusal;
 use model::Writing;
 use wire::byte;
 use wire::place;
-ghost use Prim.Native.Nat.{_≤_};
 ghost use mathlib.Core.Path.{_≡_};
 ghost use Rattle.model.specs.Answers.{Writes};
 ghost use Rattle.model.specs.First.{isSound};

@@ -1,11 +1,11 @@
 -- Lengths and counts of either edition, as bytes and back, and what a recording and a witness begin with.
-use Prim.Native.Nat.{ℕ, _+_, _*_, _<_, _≤_}
+use Prim.Native.Nat.{ℕ, _+_, _<_, _≤_}
 use native.Mathlib.Omega.{arith}
 use mathlib.Core.Path.{_≡_, refl}
 use mathlib.Core.List.{List, [], _∷_, _++_}
 use lib.ListN.{length}
 use Rattle.model.specs.Bytes.{byteAt}
-use Rattle.model.specs.Edition.{sizeBytes, sizeAt, sizeIn, versionOf, versionPlace, countPlace, rowsPlace, mostRows, latestTime}
+use Rattle.model.specs.Edition.{sizeAt, sizeIn, versionOf, versionPlace, countPlace, rowsPlace, mostRows, latestTime}
 use Rattle.model.specs.Frame.{rowsSize, rowsFrame}
 use Rattle.model.specs.declared.Edition.{Edition}
 use Rattle.model.specs.declared.Edition.the-variants.{One, Two}
@@ -15,10 +15,6 @@ use Rattle.model.proofs.Places.{AllBytes, Stands, stands-nil, stands-co
 abbrev pub sizeEnd : Edition → ℕ
 sizeEnd One = 65536
 sizeEnd Two = 4294967296
-
-pub size-length : (edition : Edition) (n : ℕ) → length (sizeIn edition n) ≡ sizeBytes edition
-size-length One n = refl
-size-length Two n = refl
 
 pub size-at : (edition : Edition) (b : List ℕ) (at n : ℕ) → AllBytes b → sizeAt edition b at ≡ n → Stands b at (sizeIn edition n)
 size-at One = word-at

@@ -1,5 +1,5 @@
 -- 31 with 0: exactly where the edition's times end before the recording does, and in edition 2 never.
-use Prim.Native.Nat.{ℕ, _+_, _*_, _<_, _≤_}
+use Prim.Native.Nat.{ℕ, _<_, _≤_}
 use native.Mathlib.Omega.{arith}
 use native.Mathlib.Nat.{not-le-of-lt}
 use mathlib.Core.Path.{_≡_, refl, sym, ap, _∙_}
@@ -8,8 +8,7 @@ use mathlib.Core.List.{List}
 use mathlib.Core.Bool.{Bool, true, false}
 use lib.Dec.{leb}
 use borrow.Author.Tests.{leb-true, leb-false, le-leb}
-use Rattle.model.specs.Edition.{latestTime, rowsPlace}
-use Rattle.model.specs.First.{unless}
+use Rattle.model.specs.Edition.{latestTime}
 use Rattle.model.specs.Monitor.{Monitor}
 use Rattle.model.specs.Trace.{Packet}
 use Rattle.model.specs.Table.{monitorAt}
@@ -20,9 +19,6 @@ use Rattle.model.specs.Claims.{ValuesOf}
 use Rattle.model.specs.Late.{RefusesLate}
 use Rattle.model.specs.declared.Edition.{Edition}
 use Rattle.model.specs.declared.Edition.the-variants.{Two}
-use Rattle.model.specs.declared.Reading.{Reading}
-use Rattle.model.specs.declared.Reading.the-variants.{Sound, Unsound}
-use Rattle.model.specs.declared.Refusal.the-variants.{WitnessRoom}
 use Rattle.model.specs.declared.Verdict.{Verdict}
 use Rattle.model.specs.declared.Verdict.the-variants.{Accepted, Rejected, Exhausted, Refused}
 use Rattle.model.proofs.RecordingForm.{sane-recording}

@@ -23,7 +23,7 @@ use Rattle.model.proofs.Basics.{andThen-left}
 use Rattle.model.proofs.RowLaws.{in-form}
 use Rattle.model.proofs.Tests.{rows-facts, then-sound}
 use Rattle.frame.proofs.Answers.{sound-is}
-use Rattle.witness.specs.Rows.{rowOf, rowsFrom, beforeOf, columnAt, timeAt}
+use Rattle.witness.specs.Rows.{rowOf, beforeOf, columnAt, timeAt}
 use Rattle.witness.specs.declared.Entry.{Entry}
 
 -- a row by itself
@@ -66,6 +66,11 @@ module _ (edition : Edition) (p e : Entry) (formed : inForm edition (rowOf e) �
   place-behind h = rw (ne-eqb (p .time) 0 h, formed)
 
 -- rows from one on
+
+-- m rows from row i on
+unfoldable pub rowsFrom : (ℕ → Row) → ℕ → ℕ → List Row
+rowsFrom f zero i = []
+rowsFrom f (suc m) i = f i ∷ rowsFrom f m (suc i)
 
 module _ (f : ℕ → Row) where
   behind : (m k : ℕ) → tab f k ++ rowsFrom f m k ≡ tab f (k + m)

@@ -1,6 +1,6 @@
--- Rows of a witness as the code has them: by value, from one of them on, in bytes and in columns.
-use Prim.Native.Nat.{ℕ, zero, suc, _+_, _*_}
-use mathlib.Core.List.{List, [], _∷_}
+-- Rows of a witness as the code has them: by value, in bytes and in columns.
+use Prim.Native.Nat.{ℕ, _+_, _*_}
+use mathlib.Core.List.{List}
 use mathlib.Core.Bool.{cond}
 use mathlib.Core.Option.{Option, none, some}
 use lib.ListN.{getD}
@@ -11,11 +11,6 @@ use Rattle.witness.specs.declared.Entry.{Entry}
 
 abbrev pub rowOf : Entry → Row
 rowOf e = record { mark = e .mark; time = e .time; kind = e .kind; transition = e .transition }
-
--- m rows from row i on
-unfoldable pub rowsFrom : (ℕ → Row) → ℕ → ℕ → List Row
-rowsFrom f zero i = []
-rowsFrom f (suc m) i = f i ∷ rowsFrom f m (suc i)
 
 -- the row before, where there is one: times are from 1 up
 abbrev pub beforeOf : Entry → Option Row

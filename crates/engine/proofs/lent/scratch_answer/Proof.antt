@@ -1,4 +1,3 @@
-use borrow.Author.Needs.{needs}
 use borrow.Author.Tests.{le-leb, lt-leb}
 use Rattle.engine.proofs.lent.scratch_answer.Statement.{statement}
 use Rattle.engine.proofs.lent.scratch_answer.Tie as tie
