@@ -5,6 +5,10 @@ use crate::generate::{calls, Rng};
 
 /// Every file is shown whole; only a large scratch is cut. The seed brings it back.
 const MOST_SHOWN: usize = 100_000;
+/// With this much scratch or more a call gets a budget of no more than that: a wide table with a
+/// long recording could take half an hour.
+const LARGE_SCRATCH: usize = 2_000_000;
+const FOR_LARGE: u32 = 10_000_000;
 
 /// How many calls were compared, by the number of the answer.
 #[derive(Default)]
@@ -30,12 +34,21 @@ pub fn compare(
     let mut tally = Tally::default();
     while go_on(&tally) {
         for call in calls(&mut rng) {
-            if let Some(difference) = compare_call(other, call, &mut tally) {
+            if let Some(difference) = compare_call(other, affordable(call), &mut tally) {
                 return (tally, Some(difference));
             }
         }
     }
     (tally, None)
+}
+
+fn affordable(mut call: Call) -> Call {
+    if let Call::Validate { budget, scratch, .. } = &mut call {
+        if scratch.len() >= LARGE_SCRATCH {
+            *budget = FOR_LARGE.min(*budget);
+        }
+    }
+    call
 }
 
 fn compare_call(other: &Engine, call: Call, tally: &mut Tally) -> Option<Box<Difference>> {
