@@ -15,19 +15,14 @@ use lutarosa_reference::papers::{ACK_DEVICE_2, PAPERS, SMALL_MONITOR, SMALL_MONI
 use lutarosa_reference::parts::TableParts;
 use lutarosa_reference::rewrite::rewrite_table;
 use lutarosa_reference::table::{read, write};
+use lutarosa_reference::writing::Writing;
 use recorded::RECORDED;
 
 const LEAST: usize = 20;
 
-/// In how many calls on files, and in how many writings of tables, another rule answers or writes
-/// otherwise.
 fn told(other: &Other) -> [usize; 2] {
-    let calls = RECORDED.usual().filter(|(call, outcome)| call.run(&other.engine) != **outcome);
-    let writings = RECORDED.writings.iter().filter(|it| {
-        let [mut ours, mut theirs] = [vec![0x5A; it.room], vec![0x5A; it.room]];
-        it.run(&mut ours) != other.write(it, &mut theirs) || ours != theirs
-    });
-    [calls.count(), writings.count()]
+    let write = |it: &Writing, room: &mut [u8]| other.write(it, room);
+    recorded::told(RECORDED.usual(), &other.engine, &RECORDED.writings, write)
 }
 
 #[test]

@@ -20,18 +20,12 @@ use lutarosa_reference::parts::WitnessParts;
 use lutarosa_reference::recording;
 use lutarosa_reference::rewrite::rewrite_witness;
 use lutarosa_reference::witness::{write, KEPT};
-use lutarosa_reference::writing::Parts;
+use lutarosa_reference::writing::{Parts, Writing};
 use recorded::RECORDED;
 
-/// In how many calls on files, and in how many writings of witnesses, another rule answers or writes
-/// otherwise.
 fn told(other: &Other) -> [usize; 2] {
-    let calls = RECORDED.outcomes().filter(|(call, outcome)| call.run(&other.engine) != **outcome);
-    let writings = RECORDED.witnesses.iter().filter(|it| {
-        let [mut ours, mut theirs] = [vec![0x5A; it.room], vec![0x5A; it.room]];
-        it.run(&mut ours) != other.write(it, &mut theirs) || ours != theirs
-    });
-    [calls.count(), writings.count()]
+    let write = |it: &Writing, room: &mut [u8]| other.write(it, room);
+    recorded::told(RECORDED.outcomes(), &other.engine, &RECORDED.witnesses, write)
 }
 
 #[test]

@@ -4,7 +4,8 @@
 
 use std::sync::LazyLock;
 
-use lutarosa_reference::call::{Call, Outcome, ORDINARY};
+use lutarosa_reference::answer::Answer;
+use lutarosa_reference::call::{Call, Engine, Outcome, ORDINARY};
 use lutarosa_reference::cases::cases;
 use lutarosa_reference::edition::Edition;
 use lutarosa_reference::parts::{Placed, TableParts, WitnessParts};
@@ -52,6 +53,22 @@ pub static RECORDED: LazyLock<Recorded> =
 
 pub static OUTCOMES: LazyLock<Vec<Outcome>> =
     LazyLock::new(|| RECORDED.calls.iter().map(|it| it.run(&ORDINARY)).collect());
+
+/// In how many of the calls this engine answers otherwise, and in how many of the writings this
+/// writer answers or writes otherwise.
+pub fn told<'a>(
+    calls: impl Iterator<Item = (&'a Call, &'a Outcome)>,
+    engine: &Engine,
+    writings: &[Writing],
+    write: impl Fn(&Writing, &mut [u8]) -> (Answer, Vec<u8>),
+) -> [usize; 2] {
+    let calls = calls.filter(|(call, outcome)| call.run(engine) != **outcome);
+    let writings = writings.iter().filter(|it| {
+        let [mut ours, mut theirs] = [vec![0x5A; it.room], vec![0x5A; it.room]];
+        it.run(&mut ours) != write(it, &mut theirs) || ours != theirs
+    });
+    [calls.count(), writings.count()]
+}
 
 fn recorded(batch: &[u8]) -> Recorded {
     let mut recorded = Recorded::default();
