@@ -27,16 +27,8 @@ fn told(other: &Other) -> [usize; 2] {
 
 #[test]
 fn recorded_cases_tell_other_rules() {
-    let mut rarely = Vec::new();
-    for other in &OTHERS {
-        let times = told(other);
-        println!("{}: {} calls, {} writings", other.name, times[0], times[1]);
-        let enough = times.iter().zip(other.told).all(|(times, must)| *times >= LEAST || !must);
-        if !enough {
-            rarely.push(other.name);
-        }
-    }
-    assert!(rarely.is_empty(), "told too rarely: {rarely:?}");
+    let least = |must: bool| if must { LEAST } else { 0 };
+    recorded::all_told(OTHERS.iter().map(|it| (it.name, it.told.map(least), told(it))));
 }
 
 #[test]

@@ -33,7 +33,7 @@ use Rattle.model.proofs.Tests.{test, le-test, sound-unsound}
 use Rattle.model.proofs.TableForm.{table-small}
 use Rattle.model.proofs.RecordingForm.{sound-table, packetAt, packets-tab}
 use Rattle.model.proofs.Judgement.{sound-judged}
-use Rattle.model.proofs.LateLaws.{refuses-late}
+use Rattle.model.proofs.LongRecordings.{refuses-late}
 use Rattle.engine.specs.declared.measures.Measures.{Measures}
 use Rattle.engine.specs.Measured.{Measured}
 use Rattle.engine.specs.Lent.{lentAnswer}

@@ -4,11 +4,11 @@ use wire::long;
 use wire::word;
 ghost use mathlib.Core.Path.{_≡_};
 ghost use Prim.Native.Nat.{_≤_, _<_};
-ghost use Rattle.model.specs.Edition.{sizeBytes, sizeAt, versionOf, rowsPlace, mostRows, latestTime};
+ghost use Rattle.model.specs.Edition.{sizeWidth, sizeAt, versionOf, rowsPlace, mostRows, latestTime};
 
 // The bytes of a length, and of a count.
-pub fn size_bytes(edition: Edition) -> usize
-    ensures { λ r. ⌜ (r ≡ sizeBytes edition) × (r ≤ 4) ⌝ }
+pub fn size_width(edition: Edition) -> usize
+    ensures { λ r. ⌜ (r ≡ sizeWidth edition) × (r ≤ 4) ⌝ }
 {
     match edition {
         Edition::One => 2,
@@ -39,7 +39,8 @@ pub fn version_of(edition: Edition) -> u8
 pub fn rows_place(edition: Edition) -> usize
     ensures { λ r. ⌜ (r ≡ rowsPlace edition) × (r ≤ 9) ⌝ }
 {
-    2 * size_bytes(edition) + 1
+    let width = size_width(edition);
+    width + 1 + width
 }
 
 // The most rows.

@@ -4,7 +4,7 @@ pub mod edition;
 
 use crate::edition::rows_place;
 use crate::edition::size_at;
-use crate::edition::size_bytes;
+use crate::edition::size_width;
 use crate::edition::version_of;
 use model::Edition;
 use model::Reading;
@@ -52,7 +52,7 @@ pub fn framed_answer(
         return Reading::Unsound(frame);
     }
     let stated = size_at(edition, b, 0) as usize;
-    let before = size_bytes(edition);
+    let before = size_width(edition);
     if stated + before != b.len() {
         return Reading::Unsound(frame);
     }
@@ -79,7 +79,7 @@ pub fn rows_framed(
     if !sound(first) {
         return first;
     }
-    let at = size_bytes(edition) + 1;
+    let at = size_width(edition) + 1;
     let rows = size_at(edition, b, at);
     if limit < rows {
         return Reading::Unsound(count);

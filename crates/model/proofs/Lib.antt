@@ -31,7 +31,7 @@ pub mod TraceMoves
 pub mod MoveRows
 pub mod RowMoves
 pub mod Judgement
-pub mod LateLaws
+pub mod LongRecordings
 pub mod VerdictLaws
 pub mod WalkLaws
 pub mod DeviceFree

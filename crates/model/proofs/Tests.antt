@@ -10,7 +10,7 @@ use lib.Dec.{leb, ltb, eqb}
 use borrow.Author.Tests.{leb-true, ltb-true, eqb-true}
 use Rattle.model.specs.Bytes.{byteAt, tab}
 use Rattle.model.specs.First.{unless, andThen, firstOf}
-use Rattle.model.specs.Edition.{sizeBytes, sizeAt, versionOf, versionPlace, countPlace, rowsPlace}
+use Rattle.model.specs.Edition.{sizeWidth, sizeAt, versionOf, versionPlace, countPlace, rowsPlace}
 use Rattle.model.specs.Frame.{isVersion, framed, rowsSize, framedRows}
 use Rattle.model.specs.declared.Edition.{Edition}
 use Rattle.model.specs.declared.Refusal.{Refusal}
@@ -43,13 +43,13 @@ tests (x ∷ l) = unless (x .0) (x .1) ∷ tests l
 abbrev pub frameTests : Edition → List ℕ → (least oldest latest : ℕ) → (frame version : Refusal) → List (Bool × Refusal)
 frameTests edition b least oldest latest f v =
     (leb least (length b), f)
-    ∷ (eqb (sizeAt edition b 0 + sizeBytes edition) (length b), f)
+    ∷ (eqb (sizeAt edition b 0 + sizeWidth edition) (length b), f)
     ∷ (isVersion oldest latest (byteAt b (versionPlace edition)), v)
     ∷ []
 
 pub record Framed (edition : Edition) (b : List ℕ) (least oldest latest : ℕ) : Type 0 where
   pub frame : least ≤ length b
-  pub framed : sizeAt edition b 0 + sizeBytes edition ≡ length b
+  pub framed : sizeAt edition b 0 + sizeWidth edition ≡ length b
   pub numbered : oldest ≤ byteAt b (versionPlace edition)
   pub known : byteAt b (versionPlace edition) ≤ latest
 

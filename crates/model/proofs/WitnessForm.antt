@@ -8,7 +8,7 @@ use lib.ListN.{length, getD, getElem?, length-append}
 use borrow.Author.Tests.{le-leb, eq-eqb}
 use Rattle.model.specs.Limits.{witnessPlaces}
 use Rattle.model.specs.Bytes.{byteAt, wordAt, wordBytes, tab, joined}
-use Rattle.model.specs.Edition.{sizeBytes, sizeAt, versionOf, countPlace, versionPlace, rowsPlace, mostRows}
+use Rattle.model.specs.Edition.{sizeWidth, sizeAt, versionOf, countPlace, versionPlace, rowsPlace, mostRows}
 use Rattle.model.specs.Frame.{framed, rowsSize, framedRows, rowsFrame}
 use Rattle.model.specs.Witness.{Row, misformed, Formed, witnessCountAt, rowPlace, rowAt, rowsAt, badRow, witnessFrame, witnessAnswer, SoundForm, witnessParts, rowBytes, rowsBytes, witnessBytes, rowIn, rowsIn}
 use Rattle.model.specs.Same.{SameWitness, WitnessZero}
@@ -171,7 +171,7 @@ module _ (edition : Edition) (f : ℕ → Row) (n : ℕ) (few : n ≤ mostRows e
         version,
         written-count,
         le-leb (rowsPlace edition) (length bytes) (omega arith),
-        eq-eqb (rowsSize edition 5 n + sizeBytes edition) (length bytes) (omega arith),
+        eq-eqb (rowsSize edition 5 n + sizeWidth edition) (length bytes) (omega arith),
         le-leb (versionOf edition) (versionOf edition) (omega arith),
         le-leb n (mostRows edition) few,
         eq-eqb (rowsSize edition 5 n) (rowsSize edition 5 n) refl,

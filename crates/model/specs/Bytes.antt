@@ -16,7 +16,7 @@ wordAt b i = 256 * byteAt b i + byteAt b (i + 1)
 abbrev pub wordBytes : ℕ → List ℕ
 wordBytes n = n / 256 % 256 ∷ n % 256 ∷ []
 
--- a four-byte number
+-- four-byte numbers
 
 abbrev pub longAt : List ℕ → ℕ → ℕ
 longAt b i = 65536 * wordAt b i + wordAt b (i + 2)

@@ -7,7 +7,7 @@ use lib.ListN.{length}
 use lib.Dec.{leb, eqb}
 use Rattle.model.specs.Bytes.{byteAt}
 use Rattle.model.specs.First.{unless, firstOf}
-use Rattle.model.specs.Edition.{sizeBytes, sizeAt, sizeIn, versionOf, versionPlace, countPlace, rowsPlace}
+use Rattle.model.specs.Edition.{sizeWidth, sizeAt, sizeBytes, versionOf, versionPlace, countPlace, rowsPlace}
 use Rattle.model.specs.declared.Edition.{Edition}
 use Rattle.model.specs.declared.Refusal.{Refusal}
 use Rattle.model.specs.declared.Reading.{Reading}
@@ -21,13 +21,13 @@ unfoldable pub framed : Edition → List ℕ → (least oldest latest : ℕ) →
 framed edition b least oldest latest frame version =
     firstOf
     (unless (leb least (length b)) frame
-    ∷ unless (eqb (sizeAt edition b 0 + sizeBytes edition) (length b)) frame
+    ∷ unless (eqb (sizeAt edition b 0 + sizeWidth edition) (length b)) frame
     ∷ unless (isVersion oldest latest (byteAt b (versionPlace edition))) version
     ∷ [])
 
 -- the length of what follows it: the count, the version, and so many rows of one width
 abbrev pub rowsSize : Edition → (width count : ℕ) → ℕ
-rowsSize edition width count = sizeBytes edition + 1 + width * count
+rowsSize edition width count = sizeWidth edition + 1 + width * count
 
 -- the edition's version, then at most so many rows of one width, and no byte more
 unfoldable pub framedRows : Edition → List ℕ → (width limit : ℕ) → (frame version count : Refusal) → Reading
@@ -40,4 +40,4 @@ framedRows edition b width limit frame version count =
 
 -- what stands before so many rows of one width
 abbrev pub rowsFrame : Edition → (width count : ℕ) → List ℕ
-rowsFrame edition width count = sizeIn edition (rowsSize edition width count) ++ (versionOf edition ∷ []) ++ sizeIn edition count
+rowsFrame edition width count = sizeBytes edition (rowsSize edition width count) ++ (versionOf edition ∷ []) ++ sizeBytes edition count

@@ -5,7 +5,7 @@ use frame::edition::latest_time;
 use frame::edition::most_rows;
 use frame::edition::rows_place;
 use frame::edition::size_at;
-use frame::edition::size_bytes;
+use frame::edition::size_width;
 use frame::put_frame;
 use frame::rows_framed;
 use frame::sound;
@@ -48,7 +48,7 @@ pub struct Entry {
 pub fn witness_frame(edition: Edition, b: &[u8]) -> Reading
     ensures { λ r. ⌜ r ≡ witnessFrame edition (now (b .entry)) ⌝ }
 {
-    let version = size_bytes(edition) as u64;
+    let version = size_width(edition) as u64;
     let limit = most_rows(edition);
     rows_framed(
         edition,
@@ -66,7 +66,7 @@ pub fn witness_frame(edition: Edition, b: &[u8]) -> Reading
 pub fn count_at(edition: Edition, b: &[u8]) -> u32
     ensures { λ r. ⌜ (r ≡ witnessCountAt edition (now (b .entry))) × (r < 4294967296) ⌝ }
 {
-    size_at(edition, b, size_bytes(edition) + 1)
+    size_at(edition, b, size_width(edition) + 1)
 }
 
 pub fn row_at(edition: Edition, b: &[u8], i: u32) -> Entry
@@ -313,7 +313,7 @@ pub fn write_witness(edition: Edition, w: WitnessParts, room: &mut [u8]) -> Writ
     let count = w.count;
     if most_rows(edition) < count {
         return Writing::Unwritten(Refusal::WitnessCount {
-            offset: size_bytes(edition) as u64 + 1,
+            offset: size_width(edition) as u64 + 1,
         });
     }
     let rows = columns_answer(edition, &w.marks, &w.times, &w.kinds, &w.transitions, count);

@@ -70,6 +70,19 @@ pub fn told<'a>(
     [calls.count(), writings.count()]
 }
 
+/// Of other rules their names, how often they must be told in calls and in writings, and how often
+/// they are.
+pub fn all_told<'a>(rules: impl Iterator<Item = (&'a str, [usize; 2], [usize; 2])>) {
+    let mut rarely = Vec::new();
+    for (name, least, times) in rules {
+        println!("{name}: {} calls, {} writings", times[0], times[1]);
+        if times[0] < least[0] || times[1] < least[1] {
+            rarely.push(name);
+        }
+    }
+    assert!(rarely.is_empty(), "told too rarely: {rarely:?}");
+}
+
 fn recorded(batch: &[u8]) -> Recorded {
     let mut recorded = Recorded::default();
     let mut rest = batch;

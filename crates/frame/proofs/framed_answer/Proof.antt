@@ -14,15 +14,15 @@ size-at-requires c κs = search needs
 cast-stated : tie.Need-cast-stated
 cast-stated c = search needs
 
-size-bytes-requires : tie.Need-size-bytes-requires
-size-bytes-requires c κs = search needs
+size-width-requires : tie.Need-size-width-requires
+size-width-requires c κs = search needs
 
 add-if2 : tie.Need-add-if2
 add-if2 c = search needs
 
 returns-2 : tie.Need-returns-2
 unfolding framed
-returns-2 c = rw (le-leb _ _ (c .before .before .before .if1 .left), ← c .before .before .size-at .ensures .0, ← c .before .size-bytes .ensures .0, ne-eqb _ _ (c .if2 .taken))
+returns-2 c = rw (le-leb _ _ (c .before .before .before .if1 .left), ← c .before .before .size-at .ensures .0, ← c .before .size-width .ensures .0, ne-eqb _ _ (c .if2 .taken))
 
 byte-requires : tie.Need-byte-requires
 byte-requires c κs = search needs
@@ -32,11 +32,11 @@ is-version-requires c κs = search needs
 
 returns-3 : tie.Need-returns-3
 unfolding framed
-returns-3 c = rw (le-leb _ _ (c .before .before .before .before .before .before .if1 .left), ← c .before .before .before .before .before .size-at .ensures .0, ← c .before .before .before .before .size-bytes .ensures .0, eq-eqb _ _ (c .before .before .before .if2 .left), ← c .before .before .byte .ensures .0, ← c .before .is-version .ensures, not-true (c .before .is-version .result) (c .if3 .taken))
+returns-3 c = rw (le-leb _ _ (c .before .before .before .before .before .before .if1 .left), ← c .before .before .before .before .before .size-at .ensures .0, ← c .before .before .before .before .size-width .ensures .0, eq-eqb _ _ (c .before .before .before .if2 .left), ← c .before .before .byte .ensures .0, ← c .before .is-version .ensures, not-true (c .before .is-version .result) (c .if3 .taken))
 
 returns-4 : tie.Need-returns-4
 unfolding framed
-returns-4 c = rw (le-leb _ _ (c .before .before .before .before .before .before .if1 .left), ← c .before .before .before .before .before .size-at .ensures .0, ← c .before .before .before .before .size-bytes .ensures .0, eq-eqb _ _ (c .before .before .before .if2 .left), ← c .before .before .byte .ensures .0, ← c .before .is-version .ensures, not-false (c .before .is-version .result) (c .if3 .left))
+returns-4 c = rw (le-leb _ _ (c .before .before .before .before .before .before .if1 .left), ← c .before .before .before .before .before .size-at .ensures .0, ← c .before .before .before .before .size-width .ensures .0, eq-eqb _ _ (c .before .before .before .if2 .left), ← c .before .before .byte .ensures .0, ← c .before .is-version .ensures, not-false (c .before .is-version .result) (c .if3 .left))
 
 pub framed-answer-spec : {M : Type 1} → statement M
 framed-answer-spec =
@@ -45,7 +45,7 @@ framed-answer-spec =
     returns
     size-at-requires
     cast-stated
-    size-bytes-requires
+    size-width-requires
     add-if2
     returns-2
     byte-requires

@@ -3,8 +3,8 @@ use borrow.Author.Needs.{needs}
 use Rattle.witness.proofs.witness_frame.Statement.{statement}
 use Rattle.witness.proofs.witness_frame.Tie as tie
 
-size-bytes-requires : tie.Need-size-bytes-requires
-size-bytes-requires c κs = search needs
+size-width-requires : tie.Need-size-width-requires
+size-width-requires c κs = search needs
 
 most-rows-requires : tie.Need-most-rows-requires
 most-rows-requires c κs = search needs
@@ -17,8 +17,8 @@ rows-framed-requires c κs = search needs
 
 returns : tie.Need-returns
 unfolding witnessFrame
-returns c = rw (← c .before .before .size-bytes .ensures .0, ← c .before .most-rows .ensures) (c .rows-framed .ensures)
+returns c = rw (← c .before .before .size-width .ensures .0, ← c .before .most-rows .ensures) (c .rows-framed .ensures)
 
 pub witness-frame-spec : {M : Type 1} → statement M
 witness-frame-spec =
-    tie.close (tie.spec size-bytes-requires most-rows-requires add-t8 rows-framed-requires returns)
+    tie.close (tie.spec size-width-requires most-rows-requires add-t8 rows-framed-requires returns)

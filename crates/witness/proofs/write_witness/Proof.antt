@@ -11,8 +11,8 @@ use Rattle.witness.proofs.write_witness.Tie as tie
 most-rows-requires : tie.Need-most-rows-requires
 most-rows-requires c κs = search needs
 
-size-bytes-requires : tie.Need-size-bytes-requires
-size-bytes-requires c κs = search needs
+size-width-requires : tie.Need-size-width-requires
+size-width-requires c κs = search needs
 
 add-t13 : tie.Need-add-t13
 add-t13 c = search needs
@@ -75,7 +75,7 @@ write-witness-spec =
     tie.close
     (tie.spec
     most-rows-requires
-    size-bytes-requires
+    size-width-requires
     add-t13
     returns
     columns-answer-requires

@@ -1,7 +1,7 @@
--- 31 with 0: exactly where the edition's times end before the recording does, and in edition 2 never.
+-- Recordings up to 65,535 ticks: 31 with 0 exactly where the edition's times end before the recording does, in edition 2 never; and their cost fits 32 bits.
 use Prim.Native.Nat.{ℕ, _<_, _≤_}
 use native.Mathlib.Omega.{arith}
-use native.Mathlib.Nat.{not-le-of-lt}
+use native.Mathlib.Nat.{not-le-of-lt, le-trans, mul-le-mul}
 use mathlib.Core.Path.{_≡_, refl, sym, ap, _∙_}
 use mathlib.Core.Logic.{_↔_}
 use mathlib.Core.List.{List}
@@ -14,14 +14,15 @@ use Rattle.model.specs.Trace.{Packet}
 use Rattle.model.specs.Table.{monitorAt}
 use Rattle.model.specs.Recording.{SoundRecording, packetsAt, endOf}
 use Rattle.model.specs.Numbers.{Values, values, verdictValues}
-use Rattle.model.specs.Validation.{verdict, scratchWanted, roomWanted, refusal, validation}
+use Rattle.model.specs.Validation.{verdict, costOf, scratchWanted, roomWanted, refusal, validation}
 use Rattle.model.specs.Claims.{ValuesOf}
 use Rattle.model.specs.Late.{RefusesLate}
 use Rattle.model.specs.declared.Edition.{Edition}
 use Rattle.model.specs.declared.Edition.the-variants.{Two}
 use Rattle.model.specs.declared.Verdict.{Verdict}
 use Rattle.model.specs.declared.Verdict.the-variants.{Accepted, Rejected, Exhausted, Refused}
-use Rattle.model.proofs.RecordingForm.{sane-recording}
+use Rattle.model.proofs.TableForm.{table-small}
+use Rattle.model.proofs.RecordingForm.{sound-table, sane-recording}
 use Rattle.model.proofs.Judgement.{sound-judged}
 
 -- a verdict has the number 0, 1 or 2
@@ -72,3 +73,9 @@ module _ (edition : Edition) (table recording : List ℕ) (budget scratchLength 
 
 pub never-late : (table recording : List ℕ) → SoundRecording table recording → endOf (packetsAt recording) ≤ latestTime Two
 never-late table recording sound = sane-recording table recording sound .last
+
+-- "Cost, at most 4,294,901,760, still fits 32 bits"
+pub cost-fits : (table recording : List ℕ) → SoundRecording table recording → costOf (monitorAt table) (packetsAt recording) ≤ 4294901760
+cost-fits table recording sound =
+    let most = sound-judged Two table recording sound (never-late table recording sound) 0 .bounded in
+    le-trans most (mul-le-mul (never-late table recording sound) (table-small table (sound-table table recording sound)))
