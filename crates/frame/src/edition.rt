@@ -4,7 +4,7 @@ use wire::long;
 use wire::word;
 ghost use mathlib.Core.Path.{_≡_};
 ghost use Prim.Native.Nat.{_≤_, _<_};
-ghost use Rattle.model.specs.Edition.{sizeWidth, sizeAt, versionOf, rowsPlace, mostRows, latestTime};
+ghost use Rattle.model.specs.Edition.{sizeWidth, sizeAt, versionOf, countPlace, rowsPlace, mostRows, latestTime};
 
 // The bytes of a length, and of a count.
 pub fn size_width(edition: Edition) -> usize
@@ -35,12 +35,18 @@ pub fn version_of(edition: Edition) -> u8
     }
 }
 
+// Where the count stands.
+pub fn count_place(edition: Edition) -> usize
+    ensures { λ r. ⌜ (r ≡ countPlace edition) × (r ≤ 5) ⌝ }
+{
+    size_width(edition) + 1
+}
+
 // Where the rows start.
 pub fn rows_place(edition: Edition) -> usize
     ensures { λ r. ⌜ (r ≡ rowsPlace edition) × (r ≤ 9) ⌝ }
 {
-    let width = size_width(edition);
-    width + 1 + width
+    count_place(edition) + size_width(edition)
 }
 
 // The most rows.

@@ -2,6 +2,7 @@
 pub mod column;
 pub mod edition;
 
+use crate::edition::count_place;
 use crate::edition::rows_place;
 use crate::edition::size_at;
 use crate::edition::size_width;
@@ -79,7 +80,7 @@ pub fn rows_framed(
     if !sound(first) {
         return first;
     }
-    let at = size_width(edition) + 1;
+    let at = count_place(edition);
     let rows = size_at(edition, b, at);
     if limit < rows {
         return Reading::Unsound(count);

@@ -1,6 +1,7 @@
 // Witnesses, of either edition: read and written by their form alone, without a table or a recording. Each public function takes any input.
 use frame::column::bytes_column;
 use frame::column::words_column;
+use frame::edition::count_place;
 use frame::edition::latest_time;
 use frame::edition::most_rows;
 use frame::edition::rows_place;
@@ -48,7 +49,6 @@ pub struct Entry {
 pub fn witness_frame(edition: Edition, b: &[u8]) -> Reading
     ensures { λ r. ⌜ r ≡ witnessFrame edition (now (b .entry)) ⌝ }
 {
-    let version = size_width(edition) as u64;
     let limit = most_rows(edition);
     rows_framed(
         edition,
@@ -56,9 +56,11 @@ pub fn witness_frame(edition: Edition, b: &[u8]) -> Reading
         5,
         limit,
         Refusal::WitnessFrame,
-        Refusal::WitnessVersion { offset: version },
+        Refusal::WitnessVersion {
+            offset: size_width(edition) as u64,
+        },
         Refusal::WitnessCount {
-            offset: version + 1,
+            offset: count_place(edition) as u64,
         },
     )
 }
@@ -66,7 +68,7 @@ pub fn witness_frame(edition: Edition, b: &[u8]) -> Reading
 pub fn count_at(edition: Edition, b: &[u8]) -> u32
     ensures { λ r. ⌜ (r ≡ witnessCountAt edition (now (b .entry))) × (r < 4294967296) ⌝ }
 {
-    size_at(edition, b, size_width(edition) + 1)
+    size_at(edition, b, count_place(edition))
 }
 
 pub fn row_at(edition: Edition, b: &[u8], i: u32) -> Entry
@@ -313,7 +315,7 @@ pub fn write_witness(edition: Edition, w: WitnessParts, room: &mut [u8]) -> Writ
     let count = w.count;
     if most_rows(edition) < count {
         return Writing::Unwritten(Refusal::WitnessCount {
-            offset: size_width(edition) as u64 + 1,
+            offset: count_place(edition) as u64,
         });
     }
     let rows = columns_answer(edition, &w.marks, &w.times, &w.kinds, &w.transitions, count);

@@ -24,18 +24,15 @@ returns : tie.Need-returns
 unfolding framedRows
 returns c = rw (← c .before .before .before .before .version-of .ensures, ← c .before .before .before .rows-place .ensures .0, ← c .before .before .framed-answer .ensures, stops _ _ (sym (c .before .sound .ensures) ∙ not-true (c .before .sound .result) (c .if1 .taken)))
 
-size-width-requires : tie.Need-size-width-requires
-size-width-requires c κs = search needs
-
-add-at : tie.Need-add-at
-add-at c = search needs
+count-place-requires : tie.Need-count-place-requires
+count-place-requires c κs = search needs
 
 size-at-requires : tie.Need-size-at-requires
 size-at-requires c κs = search needs
 
 returns-2 : tie.Need-returns-2
 unfolding framedRows
-returns-2 c = rw (← c .before .before .before .before .before .before .before .version-of .ensures, ← c .before .before .before .before .before .before .rows-place .ensures .0, ← c .before .before .before .before .before .framed-answer .ensures, goes _ _ (sym (c .before .before .before .before .sound .ensures) ∙ not-false (c .before .before .before .before .sound .result) (c .before .before .before .if1 .left)), ← c .before .before .size-width .ensures .0, ← c .before .size-at .ensures .0, lt-leb _ _ (c .if2 .taken))
+returns-2 c = rw (← c .before .before .before .before .before .before .before .version-of .ensures, ← c .before .before .before .before .before .before .rows-place .ensures .0, ← c .before .before .before .before .before .framed-answer .ensures, goes _ _ (sym (c .before .before .before .before .sound .ensures) ∙ not-false (c .before .before .before .before .sound .result) (c .before .before .before .if1 .left)), ← c .before .before .count-place .ensures .0, ← c .before .size-at .ensures .0, lt-leb _ _ (c .if2 .taken))
 
 size-at-requires-2 : tie.Need-size-at-requires-2
 size-at-requires-2 c κs = search needs
@@ -54,11 +51,11 @@ add-if3 c = omega (arith, step-bound (c .before .before .before .before .before 
 
 returns-3 : tie.Need-returns-3
 unfolding framedRows
-returns-3 c = rw (← c .before .before .before .before .before .before .before .before .before .version-of .ensures, ← c .before .before .before .before .before .before .before .before .rows-place .ensures .0, ← c .before .before .before .before .before .before .before .framed-answer .ensures, goes _ _ (sym (c .before .before .before .before .before .before .sound .ensures) ∙ not-false (c .before .before .before .before .before .before .sound .result) (c .before .before .before .before .before .if1 .left)), ← c .before .before .before .before .size-width .ensures .0, ← c .before .before .before .size-at .ensures .0, le-leb _ _ (c .before .before .if2 .left), ← c .before .size-at2 .ensures .0, ne-eqb _ _ (c .if3 .taken))
+returns-3 c = rw (← c .before .before .before .before .before .before .before .before .before .version-of .ensures, ← c .before .before .before .before .before .before .before .before .rows-place .ensures .0, ← c .before .before .before .before .before .before .before .framed-answer .ensures, goes _ _ (sym (c .before .before .before .before .before .before .sound .ensures) ∙ not-false (c .before .before .before .before .before .before .sound .result) (c .before .before .before .before .before .if1 .left)), ← c .before .before .before .before .count-place .ensures .0, ← c .before .before .before .size-at .ensures .0, le-leb _ _ (c .before .before .if2 .left), ← c .before .size-at2 .ensures .0, ne-eqb _ _ (c .if3 .taken))
 
 returns-4 : tie.Need-returns-4
 unfolding framedRows
-returns-4 c = rw (← c .before .before .before .before .before .before .before .before .before .version-of .ensures, ← c .before .before .before .before .before .before .before .before .rows-place .ensures .0, ← c .before .before .before .before .before .before .before .framed-answer .ensures, goes _ _ (sym (c .before .before .before .before .before .before .sound .ensures) ∙ not-false (c .before .before .before .before .before .before .sound .result) (c .before .before .before .before .before .if1 .left)), ← c .before .before .before .before .size-width .ensures .0, ← c .before .before .before .size-at .ensures .0, le-leb _ _ (c .before .before .if2 .left), ← c .before .size-at2 .ensures .0, eq-eqb _ _ (c .if3 .left))
+returns-4 c = rw (← c .before .before .before .before .before .before .before .before .before .version-of .ensures, ← c .before .before .before .before .before .before .before .before .rows-place .ensures .0, ← c .before .before .before .before .before .before .before .framed-answer .ensures, goes _ _ (sym (c .before .before .before .before .before .before .sound .ensures) ∙ not-false (c .before .before .before .before .before .before .sound .result) (c .before .before .before .before .before .if1 .left)), ← c .before .before .before .before .count-place .ensures .0, ← c .before .before .before .size-at .ensures .0, le-leb _ _ (c .before .before .if2 .left), ← c .before .size-at2 .ensures .0, eq-eqb _ _ (c .if3 .left))
 
 pub rows-framed-spec : {M : Type 1} → statement M
 rows-framed-spec =
@@ -69,8 +66,7 @@ rows-framed-spec =
     framed-answer-requires
     sound-requires
     returns
-    size-width-requires
-    add-at
+    count-place-requires
     size-at-requires
     returns-2
     size-at-requires-2

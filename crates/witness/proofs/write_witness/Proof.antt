@@ -11,11 +11,8 @@ use Rattle.witness.proofs.write_witness.Tie as tie
 most-rows-requires : tie.Need-most-rows-requires
 most-rows-requires c κs = search needs
 
-size-width-requires : tie.Need-size-width-requires
-size-width-requires c κs = search needs
-
-add-t13 : tie.Need-add-t13
-add-t13 c = search needs
+count-place-requires : tie.Need-count-place-requires
+count-place-requires c κs = search needs
 
 returns : tie.Need-returns
 unfolding writeWitness
@@ -75,8 +72,7 @@ write-witness-spec =
     tie.close
     (tie.spec
     most-rows-requires
-    size-width-requires
-    add-t13
+    count-place-requires
     returns
     columns-answer-requires
     enum-known-rows
