@@ -27,25 +27,45 @@ ghost use Rattle.numbers.specs.Told.{told};
 ghost use Rattle.batch.specs.Batch.{sumFrom};
 ghost use Rattle.batch.specs.Parts.{tableNumbers, recordingNumbers, witnessNumbers};
 
-// The numbers of an answer, and the sum over the parts that were read back, 1 where none are.
+// The numbers of an answer, the two counts of a rejection, and the sum over the parts that were read back, 1 where none are.
 pub(crate) struct Outcome {
     pub numbers: Answer,
+    pub early: u64,
+    pub late: u64,
     pub sum: u64,
+}
+
+fn validated<'a>(
+    edition: Edition,
+    budget: u32,
+    table: &'a [u8],
+    recording: &'a [u8],
+    scratch: &mut [u8],
+    room: &mut [u8],
+) -> Outcome
+    ensures { λ r. ⌜ r .sum < 1000003 ⌝ }
+{
+    let told = verdict_numbers(engine::validate(edition, table, recording, budget, scratch, room));
+    Outcome {
+        numbers: Answer {
+            number: told.number,
+            second: told.second,
+            third: told.third,
+        },
+        early: told.not_yet,
+        late: told.no_more,
+        sum: 1,
+    }
 }
 
 fn from_files<'a>(
     edition: Edition,
     which: u8,
-    budget: u32,
     first: &'a [u8],
     second: &'a [u8],
     third: &'a [u8],
-    scratch: &mut [u8],
     room: &mut [u8],
 ) -> Answer {
-    if which == 0 {
-        return verdict_numbers(engine::validate(edition, first, second, budget, scratch, room));
-    }
     if which == 1 {
         return checking_numbers(checker::check_witness(edition, first, second, third));
     }
@@ -82,6 +102,8 @@ fn table_outcome(reading: TableReading) -> Outcome
     let parts = reading.parts;
     Outcome {
         numbers: reading_numbers(answer),
+        early: 0,
+        late: 0,
         sum: sum_table(parts),
     }
 }
@@ -93,6 +115,8 @@ fn recording_outcome(reading: RecordingReading) -> Outcome
     let parts = reading.parts;
     Outcome {
         numbers: reading_numbers(answer),
+        early: 0,
+        late: 0,
         sum: sum_recording(parts),
     }
 }
@@ -104,6 +128,8 @@ fn witness_outcome(reading: WitnessReading) -> Outcome
     let parts = reading.parts;
     Outcome {
         numbers: reading_numbers(answer),
+        early: 0,
+        late: 0,
         sum: sum_witness(parts),
     }
 }
@@ -139,13 +165,21 @@ fn call_in<'a>(
 ) -> Outcome
     ensures { λ r. ⌜ r .sum < 1000003 ⌝ }
 {
-    if which < 5 {
-        let numbers = from_files(edition, which, budget, first, second, third, scratch, room);
-        return Outcome { numbers, sum: 1 };
+    if which == 0 {
+        return validated(edition, budget, first, second, scratch, room);
     }
     if which < 9 {
-        let numbers = write(edition, which, first, second, third, room);
-        return Outcome { numbers, sum: 1 };
+        let numbers = if which < 5 {
+            from_files(edition, which, first, second, third, room)
+        } else {
+            write(edition, which, first, second, third, room)
+        };
+        return Outcome {
+            numbers,
+            early: 0,
+            late: 0,
+            sum: 1,
+        };
     }
     back(edition, which, first, second, third, room)
 }

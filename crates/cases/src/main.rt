@@ -2,10 +2,11 @@
 // A case is a head of 25 bytes and its files: the call (0 validate, 1 check, 2 to 4 rewrite a table, a recording, a witness, 5 the desk, 6 to 8
 // write the parts of one of the three, 9 to 11 read them back too; in edition 2 of the witness 12 validate, 13 check, 14 rewrite it, 15 write its
 // parts, 16 read them back too), then six four-byte numbers: the budget and the lengths of scratch, room and
-// three files. An answer is its three numbers and a sum over every number of the parts that were read back, and every byte of scratch and room,
-// so that none changes unseen. A case of the desk prints the desk's lines.
+// three files. An answer is its three numbers, the two counts of a rejection, and a sum over every number of the parts that were read back, and
+// every byte of scratch and room, so that none changes unseen. A case of the desk prints the desk's lines.
 mod calls;
 
+use crate::calls::Outcome;
 use crate::calls::call;
 use batch::Head;
 use batch::head_of;
@@ -13,13 +14,12 @@ use batch::pattern;
 use batch::sums::sum;
 use libc::STDIN_FILENO;
 use libc::STDOUT_FILENO;
-use numbers::Answer;
 ghost use Prim.Native.Nat.{_+_, _≤_};
 ghost use lib.ListN.{length};
 
 // Puts a number and the byte behind it at a place of the line, and returns the next place.
 fn put(n: u64, behind: u8, line: &mut [u8], at: usize) -> usize
-    requires { ⌜ at ≤ 63 ⌝ }
+    requires { ⌜ at ≤ 105 ⌝ }
     ensures { λ r. ⌜ r ≤ at + 21 ⌝ }
 {
     let mut digits = [0u8; 20];
@@ -29,11 +29,14 @@ fn put(n: u64, behind: u8, line: &mut [u8], at: usize) -> usize
     at + count + 1
 }
 
-fn print(answer: Answer, sum: u64) -> bool {
-    let mut line = [0u8; 84];
+fn print(outcome: Outcome, sum: u64) -> bool {
+    let answer = outcome.numbers;
+    let mut line = [0u8; 126];
     let second = put(answer.number, b' ', &mut line, 0);
     let third = put(answer.second, b' ', &mut line, second);
-    let last = put(answer.third, b' ', &mut line, third);
+    let early = put(answer.third, b' ', &mut line, third);
+    let late = put(outcome.early, b' ', &mut line, early);
+    let last = put(outcome.late, b' ', &mut line, late);
     let end = put(sum, b'\n', &mut line, last);
     io::write_all(STDOUT_FILENO, &line[0..end])
 }
@@ -65,7 +68,7 @@ fn answer<'a>(
     pattern(room);
     let outcome = call(which, budget, first, second, third, scratch, room);
     let total = sum(outcome.sum, scratch);
-    print(outcome.numbers, sum(total, room))
+    print(outcome, sum(total, room))
 }
 
 // The first file ends where the second begins, and that one where the third does.

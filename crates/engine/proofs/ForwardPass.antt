@@ -16,7 +16,8 @@ use Rattle.model.specs.Table.{monitorAt}
 use Rattle.model.specs.Recording.{packetsAt, endOf}
 use Rattle.model.specs.Situation.{moveLimit, stepNumber, firstNumber}
 use Rattle.model.specs.Layers.{count, layer, total}
-use Rattle.model.specs.Validation.{totalOf, verdict, preferred}
+use Rattle.model.specs.Validation.{totalOf, pairsAt, verdict, preferred}
+use Rattle.model.specs.declared.Readiness.the-variants.{NotYet, NoMore}
 use Rattle.model.specs.declared.Verdict.{Verdict}
 use Rattle.model.specs.declared.Verdict.the-variants.{Accepted, Rejected, Exhausted}
 use Rattle.model.proofs.LayerLaws.{total-le}
@@ -26,7 +27,7 @@ use Rattle.bits.specs.Member.{mem, PutIn}
 use Rattle.situation.specs.Rows.{passedBy}
 use Rattle.situation.proofs.Cursors.{first-cursor}
 use Rattle.engine.specs.declared.measures.Measures.{Measures}
-use Rattle.engine.specs.Forwarding.{Filled, Turn, Turned, Forwarding, Through}
+use Rattle.engine.specs.Forwarding.{Filled, Turn, Turned, Emptying, emptiedAt, Forwarding, Through, Ended}
 use Rattle.engine.proofs.Rows.{next-row, product, possible}
 
 -- a set of none, and a set of one
@@ -151,13 +152,17 @@ module _ {table offsets recording entry : List ℕ} {g : Measures} (given : Forw
           ∙ ap (λ (n : ℕ). Exhausted budget n) (sym (add-one t))
 
       module _ {after : List ℕ} {found : ℕ} (within : cost + work ≤ budget) (done : Turned table recording scratch after (g .row) t i found) where
-        pub emptied : found ≡ 0 → verdictOn table recording budget ≡ Rejected (cost + work) (t + 1)
+        -- the rows before the empty one are as they were
+        pub emptying : Emptying table offsets recording after g t i
+        emptying = record { setting = given .setting; more = more; layers = λ u l. done .filled .layers u (omega arith); cursor = pass .filled .cursor }
+
+        pub emptied : found ≡ 0 → Ended table recording after budget (g .row) (g .last) (emptiedAt table recording (cost + work) t)
         emptied e =
             let none : count (possible table recording (suc t)) ≡ 0 =
             ap (λ (n : ℕ). count (possible table recording n)) (sym (add-one t)) ∙ sym (done .counted) ∙ e
             in
             rejected-at (monitorAt table) (packetsAt recording) budget t (omega arith) (pass .left) (omega (arith, next-total)) none
-            ∙ ap₂ Rejected next-total (sym (add-one t))
+            ∙ ap₂ (λ (c n : ℕ). Rejected c n (pairsAt (monitorAt table) (packetsAt recording) NotYet n) (pairsAt (monitorAt table) (packetsAt recording) NoMore n)) next-total (sym (add-one t))
 
         pub again : {j : ℕ} → j ≡ passedBy recording i (t + 1) → (found ≡ 0 → ⊥)
             → Passing table recording start after budget (g .row) (g .last) (t + 1) j (cost + work) found

@@ -4,12 +4,12 @@ use native.Mathlib.Omega.{arith}
 use mathlib.Core.Path.{_≡_, sym, ap, subst, fun-ext, _∙_}
 use mathlib.Core.List.{List, [], _∷_, _++_}
 use mathlib.Core.Option.{Option, some, Option·map, Option·some-injective}
-use lib.ListN.{getD, getElem?}
+use lib.ListN.{length, getD, getElem?}
 use Rattle.model.specs.Bytes.{byteAt, tab}
 use Rattle.model.specs.Monitor.{Monitor, Transition}
 use Rattle.model.specs.Size.{greatest, largestAirtime, size}
 use Rattle.model.specs.Kinds.{versionAt, kindAt}
-use Rattle.model.specs.Table.{SoundTable, monitorAt, monitorOf, tableParts, transitionsAt, kindsAt, kindColumn, deviceColumn}
+use Rattle.model.specs.Table.{SoundTable, monitorAt, monitorOf, tableParts, transitionIn, transitionsAt, kindsAt, kindColumn, deviceColumn}
 use Rattle.model.specs.Recording.{SoundRecording, packetsAt}
 use Rattle.model.specs.Situation.{stepBy, moveOf, number, situationOf, capped, recordedAt, stepNumber, firstBy, firstNumber}
 use Rattle.model.specs.declared.Situation.{Situation}
@@ -27,6 +27,7 @@ use Rattle.situation.proofs.Numbered.{same-number, same-situation}
 use Rattle.situation.proofs.Ticks.{same-capped}
 use Rattle.situation.proofs.Shaped.{table-shape}
 use Rattle.layers.specs.Advance.{stepAt}
+use Rattle.layers.specs.Pairing.{few}
 use Rattle.engine.specs.declared.measures.Measures.{Measures}
 use Rattle.engine.specs.Measured.{Measured}
 use Rattle.engine.specs.Setting.{Setting}
@@ -70,6 +71,10 @@ module _ (table : List ℕ) (sound : SoundTable table) where
       ∙ ap (λ (w : List ℕ → List ℕ). Option·map (number (monitorAt table)) (stepBy (monitorAt table) w heard (situationBy h n) (moveOf k))) writes
       ∙ ap (λ (x : Situation). Option·map (number (monitorAt table)) (stepBy (monitorAt table) (capped (monitorAt table)) heard x (moveOf k))) from
 
+  counted : few table ≡ length (monitorAt table .transitions)
+  unfolding monitorOf tableParts
+  counted = omega (arith, facts .counts .transitions, length-tab (transitionIn (tableParts table)) (transitionsAt table))
+
   pub triggers : Triggers table (offsetsOf table)
   unfolding monitorFrom transitionFrom
   triggers = record { trigger = λ j t e. find j t (subst (λ (m : Monitor). getElem? (m .transitions) j ≡ some t) (sym (monitor-from table sound)) e) }
@@ -104,6 +109,11 @@ setting table recording sound g measured =
       narrow = omega (arith, measured .row);
       end = measured .last;
       start = measured .first ∙ first-number table (sound-table table recording sound) (g .shape) (measured .shape);
+      described = monitor-from table (sound-table table recording sound);
+      counted = counted table (sound-table table recording sound);
+      situations = λ n inside.
+          same-situation (subst (λ (h : Shape). Fits h (monitorAt table)) (sym (measured .shape)) (table-shape table (sound-table table recording sound)))
+          (sane-table table (sound-table table recording sound)) (airtimes-short table (sound-table table recording sound)) n (subst (λ (x : ℕ). n < x) whole inside);
       stepping = λ t n k inside.
           same-step table (sound-table table recording sound) (g .shape)
           (subst (λ (h : Shape). Fits h (monitorAt table)) (sym (measured .shape)) (table-shape table (sound-table table recording sound)))

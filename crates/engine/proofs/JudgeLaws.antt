@@ -29,8 +29,8 @@ module _ (edition : Edition) (table offsets recording scratch room : List ℕ) (
   spent instant same =
       record { long = refl; answered = sym (subst (Ended table recording scratch budget (g .row) (g .last)) same (e .ended)); written = refl }
 
-  pub emptied : (cost instant : ℕ) → o ≡ Emptied cost instant → Concluded edition table recording budget scratch room scratch room (Rejected cost instant)
-  emptied cost instant same =
+  pub emptied : (cost instant early late : ℕ) → o ≡ Emptied cost instant early late → Concluded edition table recording budget scratch room scratch room (Rejected cost instant early late)
+  emptied cost instant early late same =
       record { long = refl; answered = sym (subst (Ended table recording scratch budget (g .row) (g .last)) same (e .ended)); written = refl }
 
   pub through : (cost : ℕ) → o ≡ Passed cost → Through table recording scratch budget (g .row) (g .last) cost

@@ -7,6 +7,7 @@ pub mod WalkSteps
 pub mod ForwardPass
 pub mod ForwardRows
 pub mod Grounds
+pub mod EmptiedPairs
 pub mod JudgeLaws
 pub mod ValidateLaws
 pub mod Rows

@@ -15,7 +15,7 @@ use Rattle.model.specs.Edition.{rowsPlace, latestTime}
 use Rattle.model.specs.Table.{tableAnswer, readTable, monitorAt, tableParts}
 use Rattle.model.specs.Recording.{recordingScan, recordingAnswer, countAt, packetsAt, endOf}
 use Rattle.model.specs.Witness.{witnessBytes}
-use Rattle.model.specs.Numbers.{verdictValues}
+use Rattle.model.specs.Numbers.{verdictValues, verdictCounts}
 use Rattle.model.specs.Validation.{refusal, validation, verdict, preferred, scratchWanted, roomWanted, scratchBy, roomBy, scratchAfter, roomAfter}
 use Rattle.model.specs.Late.{RefusesLate}
 use Rattle.model.specs.Claims.{ValuesOf, Judged}
@@ -101,6 +101,7 @@ module _ (edition : Edition) (table recording : List ℕ) (budget : ℕ) (scratc
       record {
         answered = sym (validation-refused why e);
         numbers = ap verdictValues (sym (validation-refused why e));
+        counts = ap verdictCounts (sym (validation-refused why e));
         cleared = ap (λ (v : Verdict). scratchBy v (scratchWanted table recording) scratch) (sym (validation-refused why e));
         written = ap (λ (v : Verdict). roomBy v (witnessBytes edition (preferred (monitorAt table) (packetsAt recording))) room) (sym (validation-refused why e));
         late = late (Refused why) (sym (validation-refused why e));
@@ -115,7 +116,7 @@ module _ (edition : Edition) (table recording : List ℕ) (budget : ℕ) (scratc
   zeroed : (v : Verdict) → ValuesOf (monitorAt table) (packetsAt recording) budget v → (wanted : ℕ)
       → replicate wanted 0 ++ drop wanted scratch ≡ scratchBy v wanted scratch
   zeroed (Accepted cost rows) h wanted = refl
-  zeroed (Rejected cost instant) h wanted = refl
+  zeroed (Rejected cost instant notYet noMore) h wanted = refl
   zeroed (Exhausted limit instant) h wanted = refl
   zeroed (Refused why) h wanted = absurd h
 
@@ -144,6 +145,7 @@ module _ (edition : Edition) (table recording : List ℕ) (budget : ℕ) (scratc
           record {
             answered = same;
             numbers = ap verdictValues same;
+            counts = ap verdictCounts same;
             cleared =
                 ap (λ (l : List ℕ). l ++ drop (scratchWanted table recording) scratch) (s .cleared ∙ ap (λ (n : ℕ). replicate n 0) long)
                 ∙ zeroed v (right .valued) (scratchWanted table recording)

@@ -7,7 +7,8 @@ use lib.ListN.{length}
 use Rattle.model.specs.Table.{monitorAt}
 use Rattle.model.specs.Recording.{packetsAt}
 use Rattle.model.specs.Layers.{count}
-use Rattle.model.specs.Validation.{possibleAfter, preferred, verdict}
+use Rattle.model.specs.Validation.{possibleAfter, pairsAt, preferred, verdict}
+use Rattle.model.specs.declared.Readiness.the-variants.{NotYet, NoMore}
 use Rattle.model.specs.declared.Verdict.the-variants.{Accepted, Rejected, Exhausted}
 use Rattle.bits.specs.Member.{mem}
 use Rattle.situation.specs.Rows.{Cursor, passedBy}
@@ -35,6 +36,18 @@ pub record Turned (table recording before after : List ℕ) (row t i work : ℕ)
   pub filled : Filled table recording after row (t + 1) (passedBy recording i (t + 1))
   pub counted : work ≡ count (possibleAfter (monitorAt table) (packetsAt recording) (t + 1))
 
+-- what is known where none is left after instant t + 1: the rows of the instants 0 to t are filled, and i rows are recorded before instant t + 1
+pub record Emptying (table offsets recording scratch : List ℕ) (g : Measures) (t i : ℕ) : Type 0 where
+  pub setting : Setting table offsets recording g
+  pub more : t < g .last
+  pub layers : LayersUpTo table recording scratch (g .row) t
+  pub cursor : Cursor recording i (t + 1)
+
+-- the pass as it then ends
+abbrev pub emptiedAt : (table recording : List ℕ) → (cost t : ℕ) → Outcome
+emptiedAt table recording cost t =
+    Emptied cost (t + 1) (pairsAt (monitorAt table) (packetsAt recording) NotYet (t + 1)) (pairsAt (monitorAt table) (packetsAt recording) NoMore (t + 1))
+
 -- what the pass starts from
 pub record Forwarding (table offsets recording scratch : List ℕ) (g : Measures) : Type 0 where
   pub setting : Setting table offsets recording g
@@ -50,5 +63,6 @@ pub record Through (table recording scratch : List ℕ) (budget row last cost : 
 -- .. and in any case
 abbrev pub Ended : (table recording scratch : List ℕ) → (budget row last : ℕ) → Outcome → Type 0
 Ended table recording scratch budget row last (Passed cost) = Through table recording scratch budget row last cost
-Ended table recording scratch budget row last (Emptied cost instant) = verdict (monitorAt table) (packetsAt recording) budget ≡ Rejected cost instant
+Ended table recording scratch budget row last (Emptied cost instant early late) =
+    verdict (monitorAt table) (packetsAt recording) budget ≡ Rejected cost instant early late
 Ended table recording scratch budget row last (Spent instant) = verdict (monitorAt table) (packetsAt recording) budget ≡ Exhausted budget instant

@@ -3,18 +3,21 @@ use Prim.Native.Nat.{ℕ, _+_, _*_, _<_, _≤_}
 use mathlib.Core.Path.{_≡_}
 use mathlib.Core.List.{List}
 use mathlib.Core.Bool.{Bool, false}
-use lib.ListN.{getD}
+use lib.ListN.{length, getD}
 use Rattle.model.specs.Size
 use Rattle.model.specs.Table.{monitorAt}
 use Rattle.model.specs.Recording.{packetsAt, endOf}
-use Rattle.model.specs.Situation.{recordedAt, stepNumber, firstNumber}
+use Rattle.model.specs.Situation.{recordedAt, situationOf, stepNumber, firstNumber}
 use Rattle.model.specs.Validation.{possibleAfter}
 use Rattle.model.specs.Sane.{Sane, SaneRecording}
 use Rattle.bits.specs.Member.{mem}
+use Rattle.monitor.specs.From.{monitorFrom}
+use Rattle.situation.specs.Numbering.{situationBy}
 use Rattle.layers.specs.Advance.{stepAt}
+use Rattle.layers.specs.Pairing.{few}
 use Rattle.engine.specs.declared.measures.Measures.{Measures}
 
--- the measures are right, and the code's step is the definition's, at every instant
+-- the measures are right, and the code's monitor, situations and step are the definition's, at every instant
 pub record Setting (table offsets recording : List ℕ) (g : Measures) : Type 0 where
   pub sane : Sane (monitorAt table)
   pub sound : SaneRecording (monitorAt table) (packetsAt recording)
@@ -23,6 +26,9 @@ pub record Setting (table offsets recording : List ℕ) (g : Measures) : Type 0 
   pub narrow : g .row ≤ 8192
   pub end : g .last ≡ endOf (packetsAt recording)
   pub start : g .first ≡ firstNumber (monitorAt table)
+  pub described : monitorFrom table offsets ≡ monitorAt table
+  pub counted : few table ≡ length (monitorAt table .transitions)
+  pub situations : (n : ℕ) → n < g .size → situationBy (g .shape) n ≡ situationOf (monitorAt table) n
   pub stepping : (t n k : ℕ) → n < g .size
       → stepAt table offsets (g .shape) (recordedAt (packetsAt recording) t) n k ≡ stepNumber (monitorAt table) (packetsAt recording) t n k
 

@@ -4,17 +4,27 @@ use bits::count;
 use bits::put;
 use layers::Span;
 use layers::advance;
+use layers::pairs::count_pairs;
 use situation::rows::heard_at;
 use situation::rows::passed;
 ghost use mathlib.Core.Path.{_≡_};
 ghost use lib.ListN.{length};
-ghost use Rattle.engine.specs.Forwarding.{Turn, Turned, Forwarding, Ended};
+ghost use Rattle.engine.specs.Forwarding.{Turn, Turned, Emptying, emptiedAt, Forwarding, Ended};
 
 // How the pass ends: a situation is left after the last instant, none is after some instant, or the budget is passed.
 pub(crate) enum Outcome {
-    Passed { cost: u64 },
-    Emptied { cost: u64, instant: u64 },
-    Spent { instant: u64 },
+    Passed {
+        cost: u64,
+    },
+    Emptied {
+        cost: u64,
+        instant: u64,
+        early: u64,
+        late: u64,
+    },
+    Spent {
+        instant: u64,
+    },
 }
 
 // Fills the row of instant t + 1 from that of t. The result is how many situations it has, the work of instant t + 2.
@@ -42,6 +52,36 @@ fn instant<'a>(
     count(&scratch[from..to])
 }
 
+// None is left after instant t + 1: what the transitions answered just before its moves, by the row of instant t.
+fn emptied<'a>(
+    table: &'a [u8],
+    offsets: &'a [u16],
+    recording: &'a [u8],
+    g: Measures,
+    cost: u64,
+    scratch: &'a [u8],
+    t: usize,
+    i: usize,
+) -> Outcome
+    requires { ⌜ Emptying (now table) (now offsets) (now recording) (now scratch) g t i ⌝ }
+    ensures { λ r. ⌜ r ≡ emptiedAt (now (table .entry)) (now (recording .entry)) cost t ⌝ }
+{
+    let h = g.shape;
+    let next = t as u64 + 1;
+    let heard = heard_at(recording, i, next);
+    let before = Span {
+        start: 8 * g.row * t,
+        size: g.size,
+    };
+    let pairs = count_pairs(table, offsets, h, heard, scratch, before);
+    Outcome::Emptied {
+        cost,
+        instant: next,
+        early: pairs.early,
+        late: pairs.late,
+    }
+}
+
 // Fills the rows of a zeroed scratch, instant by instant, to the end or to where none is left or the budget is passed.
 pub(crate) fn forward<'a>(
     table: &'a [u8],
@@ -67,10 +107,7 @@ pub(crate) fn forward<'a>(
         }
         work = instant(table, offsets, recording, g, scratch, t, i);
         if work == 0 {
-            return Outcome::Emptied {
-                cost,
-                instant: next,
-            };
+            return emptied(table, offsets, recording, g, cost, scratch, t, i);
         }
         i = passed(recording, i, next);
         t += 1;

@@ -27,7 +27,17 @@ fn conclude<'a>(
 {
     match outcome {
         Outcome::Spent { instant } => Verdict::Exhausted { budget, instant },
-        Outcome::Emptied { cost, instant } => Verdict::Rejected { cost, instant },
+        Outcome::Emptied {
+            cost,
+            instant,
+            early,
+            late,
+        } => Verdict::Rejected {
+            cost,
+            instant,
+            not_yet: early,
+            no_more: late,
+        },
         Outcome::Passed { cost } => {
             prune(table, offsets, recording, g, scratch);
             let rows = walk(edition, table, offsets, recording, g, scratch, room);

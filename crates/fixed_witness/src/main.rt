@@ -23,6 +23,8 @@ fn accepted(verdict: Verdict, cost: u64, rows: u64) -> bool
         Verdict::Rejected {
             cost: _,
             instant: _,
+            not_yet: _,
+            no_more: _,
         } => false,
         Verdict::Exhausted {
             budget: _,

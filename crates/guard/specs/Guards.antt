@@ -4,13 +4,16 @@ use mathlib.Core.List.{List}
 use mathlib.Core.Bool.{Bool, cond, not, _&&_}
 use lib.Dec.{eqb}
 use Rattle.model.specs.Guard.{atMost, atLeast, GuardRead, malformed, upTo, holds, largest}
+use Rattle.model.specs.Readiness.{waited}
+use Rattle.guard.specs.Waits.{waitsOf, others, common}
+use Rattle.guard.specs.declared.waits.Waits.{Waits}
 use Rattle.guard.specs.declared.Seen.{Seen}
 use Rattle.guard.specs.declared.Seen.the-variants.{Malformed, UpTo}
 
--- where a guard ends, its value at the variables v and the clocks c, and the largest bound of clock i in it
+-- where a guard ends, its value at the variables v and the clocks c, the waits after which it holds, and the largest bound of clock i in it
 abbrev pub seen : (i v : ℕ) → List ℕ → GuardRead → Seen
 seen i v c malformed = Malformed
-seen i v c (upTo g k) = UpTo k (holds g v c) (largest i g)
+seen i v c (upTo g k) = UpTo k (holds g v c) (waitsOf (λ d. holds g v (waited d c))) (largest i g)
 
 -- the comparison with a code, of clock n with bound t
 abbrev pub clockLeaf : (code n t next : ℕ) → GuardRead
@@ -19,9 +22,9 @@ clockLeaf code n t next = cond (eqb code 1) (upTo (atMost n t) next) (cond (eqb 
 -- a negation, by what is seen of its guard
 abbrev pub opposite : Seen → Seen
 opposite Malformed = Malformed
-opposite (UpTo k value bound) = UpTo k (not value) bound
+opposite (UpTo k value later bound) = UpTo k (not value) (others later) bound
 
--- a conjunction, by its first guard's value and bound and what is seen of its second
-abbrev pub both : Bool → ℕ → Seen → Seen
-both value bound Malformed = Malformed
-both value bound (UpTo k other further) = UpTo k (value && other) (max bound further)
+-- a conjunction, by its first guard's value, waits and bound and what is seen of its second
+abbrev pub both : Bool → Waits → ℕ → Seen → Seen
+both value later bound Malformed = Malformed
+both value later bound (UpTo k other more further) = UpTo k (value && other) (common later more) (max bound further)

@@ -1,1 +1,3 @@
+pub mod Waits
 pub mod Guards
+pub mod Evaluated

@@ -1,8 +1,17 @@
-// Guards in prefix form. One recursion over a guard's bytes tells where it ends, its value, and the largest bound of a clock in it.
+// Guards in prefix form. One recursion over a guard's bytes tells where it ends, its value, the waits after which it holds, and the largest bound of a clock in it.
 // It ends since the bytes that remain grow fewer; depth is the limit that the definition sets, which a guard within its length never meets.
 pub mod size;
+pub mod waits;
 
+use crate::waits::Waits;
+use crate::waits::complement;
+use crate::waits::constant;
+use crate::waits::intersection;
+use crate::waits::is_none;
+use crate::waits::least_waits;
+use crate::waits::most_waits;
 use model::GUARD_LIMIT;
+use model::Readiness;
 use wire::byte;
 use wire::short;
 ghost use mathlib.Core.Path.{_≡_};
@@ -11,8 +20,9 @@ ghost use Prim.Native.Nat.{_+_, _<_, max};
 ghost use lib.Dec.{leb, ltb, eqb};
 ghost use Rattle.model.specs.Limits.{guardLimit};
 ghost use Rattle.model.specs.Bytes.{byteAt, hasBit};
-ghost use Rattle.model.specs.Guard.{holds, largest, leafAt, guardAt, endsAt, guardOf};
+ghost use Rattle.model.specs.Guard.{largest, leafAt, guardAt, endsAt, guardOf};
 ghost use Rattle.guard.specs.Guards.{seen, clockLeaf, opposite, both};
+ghost use Rattle.guard.specs.Evaluated.{Evaluated};
 
 // A guard is never deeper than it is long.
 const DEPTH: u8 = GUARD_LIMIT as u8;
@@ -27,7 +37,12 @@ pub struct Question {
 
 pub enum Seen {
     Malformed,
-    UpTo { next: usize, value: bool, bound: u8 },
+    UpTo {
+        next: usize,
+        value: bool,
+        later: Waits,
+        bound: u8,
+    },
 }
 
 fn has_bit(mask: u8, i: u8) -> bool
@@ -80,23 +95,31 @@ fn bound_of(compared: u8, bound: u8, clock: usize) -> u8
 fn negated(inner: Seen) -> Seen
     ensures { λ r. ⌜ r ≡ opposite inner ⌝ }
 {
-    let Seen::UpTo { next, value, bound } = inner else {
+    let Seen::UpTo {
+        next,
+        value,
+        later,
+        bound,
+    } = inner
+    else {
         return Seen::Malformed;
     };
     Seen::UpTo {
         next,
         value: !value,
+        later: complement(later),
         bound,
     }
 }
 
-// The conjunction of a guard with one value and bound, and the guard that was seen behind it.
-fn joined(value: bool, bound: u8, second: Seen) -> Seen
-    ensures { λ r. ⌜ r ≡ both value bound second ⌝ }
+// The conjunction of a guard with this value, waits and bound, and the guard that was seen behind it.
+fn joined(value: bool, later: Waits, bound: u8, second: Seen) -> Seen
+    ensures { λ r. ⌜ r ≡ both value later bound second ⌝ }
 {
     let Seen::UpTo {
         next,
         value: other,
+        later: more,
         bound: further,
     } = second
     else {
@@ -105,6 +128,7 @@ fn joined(value: bool, bound: u8, second: Seen) -> Seen
     Seen::UpTo {
         next,
         value: and(value, other),
+        later: intersection(later, more),
         bound: larger(bound, further),
     }
 }
@@ -119,6 +143,7 @@ fn clock_seen(code: u8, n: u8, t: u8, next: usize, q: Question, c: &[u16]) -> Se
         return Seen::UpTo {
             next,
             value: reads <= t as u16,
+            later: most_waits(c, n as usize, t),
             bound,
         };
     }
@@ -126,6 +151,7 @@ fn clock_seen(code: u8, n: u8, t: u8, next: usize, q: Question, c: &[u16]) -> Se
         return Seen::UpTo {
             next,
             value: t as u16 <= reads,
+            later: least_waits(c, n as usize, t),
             bound,
         };
     }
@@ -142,6 +168,7 @@ fn leaf_seen<'a>(b: &'a [u8], at: usize, end: usize, q: Question, c: &'a [u16]) 
         return Seen::UpTo {
             next: at + 1,
             value: true,
+            later: constant(true),
             bound: 0,
         };
     }
@@ -151,6 +178,7 @@ fn leaf_seen<'a>(b: &'a [u8], at: usize, end: usize, q: Question, c: &'a [u16]) 
             return Seen::UpTo {
                 next: at + 2,
                 value,
+                later: constant(value),
                 bound: 0,
             };
         }
@@ -185,10 +213,21 @@ pub fn guard_seen<'a>(
     }
     if code == 5 {
         let first = guard_seen(depth - 1, b, at + 1, end, q, c);
-        let Seen::UpTo { next, value, bound } = first else {
+        let Seen::UpTo {
+            next,
+            value,
+            later,
+            bound,
+        } = first
+        else {
             return Seen::Malformed;
         };
-        return joined(value, bound, guard_seen(depth - 1, b, next, end, q, c));
+        return joined(
+            value,
+            later,
+            bound,
+            guard_seen(depth - 1, b, next, end, q, c),
+        );
     }
     leaf_seen(b, at, end, q, c)
 }
@@ -208,6 +247,7 @@ pub fn guard_fills(b: &[u8], at: usize, end: usize, variables: u8, clocks: u8) -
     let Seen::UpTo {
         next,
         value: _,
+        later: _,
         bound: _,
     } = all
     else {
@@ -216,8 +256,8 @@ pub fn guard_fills(b: &[u8], at: usize, end: usize, variables: u8, clocks: u8) -
     next == end
 }
 
-// The guard's value where the mask's variables are true and the clocks read c.
-pub fn guard_holds<'a>(
+// What the guard answers where the mask's variables are true and the clocks read c. Bytes that are no guard never hold.
+pub fn guard_answer<'a>(
     b: &'a [u8],
     at: usize,
     end: usize,
@@ -225,8 +265,8 @@ pub fn guard_holds<'a>(
     clocks: u8,
     mask: u8,
     c: &'a [u16],
-) -> bool
-    ensures { λ r. ⌜ r ≡ holds (guardOf (guardAt guardLimit variables clocks (now (b .entry)) at end)) mask (now (c .entry)) ⌝ }
+) -> Readiness
+    ensures { λ r. ⌜ Evaluated (guardOf (guardAt guardLimit variables clocks (now (b .entry)) at end)) mask (now (c .entry)) r ⌝ }
 {
     let q = Question {
         variables,
@@ -238,12 +278,19 @@ pub fn guard_holds<'a>(
     let Seen::UpTo {
         next: _,
         value,
+        later,
         bound: _,
     } = all
     else {
-        return false;
+        return Readiness::NoMore;
     };
-    value
+    if value {
+        return Readiness::Yes;
+    }
+    if is_none(later) {
+        return Readiness::NoMore;
+    }
+    Readiness::NotYet
 }
 
 // The largest T compared with a clock in the guard.
@@ -261,6 +308,7 @@ pub fn guard_bound(b: &[u8], at: usize, end: usize, variables: u8, clocks: u8, c
     let Seen::UpTo {
         next: _,
         value: _,
+        later: _,
         bound,
     } = all
     else {

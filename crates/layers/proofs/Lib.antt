@@ -3,3 +3,4 @@ pub mod Apart
 mod Growing
 mod Moves
 mod Reaching
+pub mod PairCounts

@@ -1,4 +1,5 @@
 // From one set of situations to the next, and the least move into a set. A set is a row of bits in the scratch.
+pub mod pairs;
 mod row;
 
 use model::FIRST_ADD;

@@ -8,7 +8,7 @@ use mathlib.Core.Bool.{Bool, true, false}
 use lib.ListN.{length, length-append}
 use lib.Dec.{ltb}
 use borrow.Author.Tests.{lt-ltb, le-ltb}
-use Rattle.model.specs.Desk.{digits, spaced, newline, line}
+use Rattle.model.specs.Desk.{digits, spaced, newline, line, rejectedWord, rejectedLine}
 
 pub digits-none : (fuel n : ℕ) → fuel ≡ 0 → digits fuel n ≡ []
 unfolding digits
@@ -42,6 +42,16 @@ spaced-length n = omega (arith, digits-length 20 n)
 pub numbers-length : (word : List ℕ) (a b : ℕ) → length (word ++ spaced a ++ spaced b) ≤ length word + 42
 numbers-length word a b =
     omega (arith, length-append (word ++ spaced a) (spaced b), length-append word (spaced a), digits-length 20 a, digits-length 20 b)
+
+pub rejected-length : (cost instant early late : ℕ) → length (rejectedLine cost instant early late) ≤ 93
+rejected-length cost instant early late =
+    let front : List ℕ = rejectedWord ++ spaced cost ++ spaced instant in
+    omega (
+      arith,
+      length-append (front ++ spaced early ++ spaced late) newline,
+      numbers-length front early late,
+      numbers-length rejectedWord cost instant,
+    )
 
 pub line-length : (word : List ℕ) (a b : ℕ) → length (line word a b) ≤ length word + 43
 line-length word a b = omega (arith, length-append (word ++ spaced a ++ spaced b) newline, numbers-length word a b)

@@ -18,7 +18,7 @@ use Rattle.model.specs.Witness.{Row, rowAt, rowsAt, witnessCountAt, witnessByte
 use Rattle.model.specs.Order.{Preferred}
 use Rattle.model.specs.Claims.{Judged}
 use Rattle.model.specs.Validation.{preferred, verdict, refusal, validation, roomBy, scratchAfter, roomAfter, scratchWanted, roomWanted}
-use Rattle.model.specs.Desk.{filesIn, tableLength, tableIn, recordingIn, budgetIn, line, acceptedWord, rejectedWord, exhaustedWord, refusedWord, rowLines, verdictLines, judgedLines, linesFor, scratchFor, roomFor}
+use Rattle.model.specs.Desk.{filesIn, tableLength, tableIn, recordingIn, budgetIn, line, acceptedWord, exhaustedWord, refusedWord, rowLines, verdictLines, judgedLines, linesFor, scratchFor, roomFor}
 use Rattle.model.specs.declared.Edition.the-variants.{One}
 use Rattle.model.specs.declared.Reading.{Reading}
 use Rattle.model.specs.declared.Reading.the-variants.{Sound, Unsound}
@@ -32,7 +32,7 @@ use Rattle.model.proofs.WitnessForm.{witness-back, witness-length}
 use Rattle.model.proofs.Judgement.{sound-judged}
 use Rattle.lines.specs.Written.{Wrote, rowsStanding, FewRows, FilesJudged, Lines}
 use Rattle.lines.proofs.Stores.{wrote-front}
-use Rattle.lines.proofs.Digits.{line-length}
+use Rattle.lines.proofs.Digits.{line-length, rejected-length}
 use Rattle.lines.proofs.Rows.{rows-length}
 
 -- rows that a witness can hold
@@ -63,13 +63,13 @@ rows-back rows room fit =
 -- what the lines of a verdict need of its witness
 abbrev pub Holds : Verdict → List Row → Type 0
 Holds (Accepted cost n) rows = (n ≡ length rows) × Fitting rows
-Holds (Rejected cost instant) rows = Unit {0}
+Holds (Rejected cost instant notYet noMore) rows = Unit {0}
 Holds (Exhausted budget instant) rows = Unit {0}
 Holds (Refused r) rows = Unit {0}
 
 pub few-rows : (v : Verdict) (rows : List Row) → Holds v rows → FewRows v
 few-rows (Accepted cost n) rows h = omega (arith, h .1 .few)
-few-rows (Rejected cost instant) rows h = tt
+few-rows (Rejected cost instant notYet noMore) rows h = tt
 few-rows (Exhausted budget instant) rows h = tt
 few-rows (Refused r) rows h = tt
 
@@ -78,7 +78,7 @@ pub lines-back : (v : Verdict) (rows : List Row) (room : List ℕ) → Holds v r
 unfolding verdictLines
 lines-back (Accepted cost n) rows room (e, fit) =
     ap (verdictLines (Accepted cost n)) (ap (tab (rowAt One (over (witnessBytes One rows) room))) e ∙ rows-back rows room fit)
-lines-back (Rejected cost instant) rows room h = refl
+lines-back (Rejected cost instant notYet noMore) rows room h = refl
 lines-back (Exhausted budget instant) rows room h = refl
 lines-back (Refused r) rows room h = refl
 
@@ -93,7 +93,7 @@ lines-fit (Accepted cost n) rows (e, fit) =
       rows-length rows,
       fit .few,
     )
-lines-fit (Rejected cost instant) rows h = omega (arith, line-length rejectedWord cost instant)
+lines-fit (Rejected cost instant notYet noMore) rows h = omega (arith, rejected-length cost instant notYet noMore)
 lines-fit (Exhausted budget instant) rows h = omega (arith, line-length exhaustedWord budget instant)
 lines-fit (Refused r) rows h = omega (arith, line-length refusedWord (refusalValues r .number) (refusalValues r .second))
 
@@ -119,7 +119,7 @@ module _ (table recording : List ℕ) (sound : SoundRecording table recording) (
 
   by-verdict : (v : Verdict) → Judged One (monitorAt table) (packetsAt recording) budget v → Holds v rows
   by-verdict (Accepted cost n) j = (j .valued .1, fitting (j .witnessed tt))
-  by-verdict (Rejected cost instant) j = tt
+  by-verdict (Rejected cost instant notYet noMore) j = tt
   by-verdict (Exhausted limit instant) j = tt
   by-verdict (Refused r) j = tt
 

@@ -28,13 +28,13 @@ Small at bytes = at + bytes ≤ 2 ^ 40
 -- the rows that stand in a witness room, as many as the verdict says
 abbrev pub rowsStanding : Verdict → List ℕ → List Row
 rowsStanding (Accepted cost rows) witness = tab (rowAt One witness) rows
-rowsStanding (Rejected cost instant) witness = []
+rowsStanding (Rejected cost instant notYet noMore) witness = []
 rowsStanding (Exhausted budget instant) witness = []
 rowsStanding (Refused r) witness = []
 
 abbrev pub FewRows : Verdict → Type 0
 FewRows (Accepted cost rows) = rows ≤ mostRows One
-FewRows (Rejected cost instant) = Unit {0}
+FewRows (Rejected cost instant notYet noMore) = Unit {0}
 FewRows (Exhausted budget instant) = Unit {0}
 FewRows (Refused r) = Unit {0}
 

@@ -8,7 +8,7 @@ ghost use Rattle.model.specs.Edition.{mostRows};
 ghost use Rattle.model.specs.declared.Edition.the-variants.{One};
 ghost use Rattle.model.specs.Bytes.{tab};
 ghost use Rattle.model.specs.Witness.{rowAt};
-ghost use Rattle.model.specs.Desk.{budgetIn, tableLength, digits, spaced, line, markWord, rowLine, rowLines, verdictLines};
+ghost use Rattle.model.specs.Desk.{budgetIn, tableLength, digits, spaced, line, rejectedLine, markWord, rowLine, rowLines, verdictLines};
 ghost use Rattle.witness.specs.Rows.{rowOf};
 ghost use Rattle.lines.specs.Written.{Wrote, Small, rowsStanding, FewRows, FilesJudged, Lines};
 use model::Edition;
@@ -82,6 +82,23 @@ fn short_line(word: &[u8], a: u64, b: u64, text: &mut [u8], at: usize) -> usize
     emit(text, next, b'\n')
 }
 
+fn rejected_line(
+    cost: u64,
+    instant: u64,
+    early: u64,
+    late: u64,
+    text: &mut [u8],
+    at: usize,
+) -> usize
+    requires { ⌜ Small at 93 ⌝ }
+    ensures { λ r. ⌜ Wrote (rejectedLine cost instant early late) at (now (text .entry)) (now (text .exit)) r ⌝ }
+{
+    let first = numbers(b"rejected", cost, instant, text, at);
+    let second = number(early, text, first);
+    let next = number(late, text, second);
+    emit(text, next, b'\n')
+}
+
 fn marked(mark: u8, time: u64, kind: u64, text: &mut [u8], at: usize) -> usize
     requires { ⌜ Small at 49 ⌝ }
     ensures { λ r. ⌜ Wrote (markWord mark ++ spaced time ++ spaced kind) at (now (text .entry)) (now (text .exit)) r ⌝ }
@@ -134,7 +151,12 @@ fn verdict_lines(verdict: Verdict, witness: &[u8], text: &mut [u8], at: usize) -
             let next = short_line(b"accepted", cost, rows, text, at);
             row_lines(witness, rows as usize, text, next)
         }
-        Verdict::Rejected { cost, instant } => short_line(b"rejected", cost, instant, text, at),
+        Verdict::Rejected {
+            cost,
+            instant,
+            not_yet,
+            no_more,
+        } => rejected_line(cost, instant, not_yet, no_more, text, at),
         Verdict::Exhausted { budget, instant } => short_line(
             b"exhausted",
             budget,

@@ -2,26 +2,28 @@
 use Prim.Native.Nat.{ℕ}
 use mathlib.Core.Path.{_≡_, subst, _∙_}
 use mathlib.Core.List.{List}
-use Rattle.model.specs.Numbers.{verdictValues, checkingValues, writingValues}
+use Rattle.model.specs.Numbers.{verdictValues, verdictCounts, checkingValues, writingValues}
 use Rattle.model.specs.Room.{Lent}
 use Rattle.model.specs.declared.Edition.{Edition}
 use Rattle.model.specs.declared.Checking.{Checking}
 use Rattle.model.specs.declared.Reading.{Reading}
 use Rattle.model.specs.declared.Verdict.{Verdict}
 use Rattle.model.specs.declared.Writing.{Writing}
-use Rattle.numbers.specs.Told.{told}
+use Rattle.numbers.specs.Told.{told, verdictTold, countsTold}
 use Rattle.numbers.specs.declared.Answer.{Answer}
+use Rattle.numbers.specs.declared.VerdictAnswer.{VerdictAnswer}
 use Rattle.engine.specs.Validates.{Validates}
 use Rattle.checker.specs.Claim.{Checks}
 use Rattle.rewrite.specs.Rewriting.{Rewrites}
 use Rattle.lutarosa.specs.Face.{Validated, Checked, Rewritten}
 
-pub validated : {edition : Edition} {table recording : List ℕ} {budget : ℕ} {scratch room scratchThen roomThen : List ℕ} {v : Verdict} {a : Answer} →
-    Validates edition table recording budget scratch room scratchThen roomThen v → told a ≡ verdictValues v →
+pub validated : {edition : Edition} {table recording : List ℕ} {budget : ℕ} {scratch room scratchThen roomThen : List ℕ} {v : Verdict} {a : VerdictAnswer} →
+    Validates edition table recording budget scratch room scratchThen roomThen v → (verdictTold a ≡ verdictValues v) × (countsTold a ≡ verdictCounts v) →
     Validated edition table recording budget scratch room scratchThen roomThen a
 validated {edition} {table} {recording} {budget} {scratch} {room} {scratchThen} {roomThen} p e =
     record {
-      answered = e ∙ p .numbers;
+      answered = e .0 ∙ p .numbers;
+      counted = e .1 ∙ p .counts;
       promised = subst (Validates edition table recording budget scratch room scratchThen roomThen) (p .answered) p;
     }
 

@@ -1,22 +1,24 @@
--- What each exported function promises: document 01's numbers of the definition's answer, and what the function behind it promises of that answer.
+-- What each exported function promises: document 01's numbers of the definition's answer, a verdict's two counts, and what the function behind it promises of that answer.
 use Prim.Native.Nat.{ℕ}
 use mathlib.Core.Path.{_≡_}
 use mathlib.Core.List.{List}
 use lib.ListN.{length}
-use Rattle.model.specs.Numbers.{verdictValues, checkingValues, writingValues}
+use Rattle.model.specs.Numbers.{verdictValues, verdictCounts, checkingValues, writingValues}
 use Rattle.model.specs.Room.{Lent}
 use Rattle.model.specs.Rules.{checkAnswer}
 use Rattle.model.specs.Validation.{validation}
 use Rattle.model.specs.declared.Edition.{Edition}
 use Rattle.model.specs.declared.Reading.{Reading}
-use Rattle.numbers.specs.Told.{told}
+use Rattle.numbers.specs.Told.{told, verdictTold, countsTold}
 use Rattle.numbers.specs.declared.Answer.{Answer}
+use Rattle.numbers.specs.declared.VerdictAnswer.{VerdictAnswer}
 use Rattle.engine.specs.Validates.{Validates}
 use Rattle.checker.specs.Claim.{Checks}
 use Rattle.rewrite.specs.Rewriting.{Rewrites}
 
-pub record Validated (edition : Edition) (table recording : List ℕ) (budget : ℕ) (scratch room scratchThen roomThen : List ℕ) (a : Answer) : Type 0 where
-  pub answered : told a ≡ verdictValues (validation edition table recording budget (length scratch) (length room))
+pub record Validated (edition : Edition) (table recording : List ℕ) (budget : ℕ) (scratch room scratchThen roomThen : List ℕ) (a : VerdictAnswer) : Type 0 where
+  pub answered : verdictTold a ≡ verdictValues (validation edition table recording budget (length scratch) (length room))
+  pub counted : countsTold a ≡ verdictCounts (validation edition table recording budget (length scratch) (length room))
   pub promised : Validates edition table recording budget scratch room scratchThen roomThen (validation edition table recording budget (length scratch) (length room))
 
 pub record Checked (edition : Edition) (table recording witness : List ℕ) (a : Answer) : Type 0 where

@@ -9,6 +9,7 @@ use checker::check_witness;
 use engine::validate;
 use model::Edition;
 use numbers::Answer;
+use numbers::VerdictAnswer;
 use numbers::checking_numbers;
 use numbers::verdict_numbers;
 use numbers::writing_numbers;
@@ -23,7 +24,7 @@ pub extern "C" fn lutarosa_validate<'a>(
     budget: u32,
     scratch: &mut [u8],
     room: &mut [u8],
-) -> Answer
+) -> VerdictAnswer
     ensures { λ r. ⌜ Validated One (now (table .entry)) (now (recording .entry)) budget (now (scratch .entry)) (now (room .entry)) (now (scratch .exit)) (now (room .exit)) r ⌝ }
 {
     verdict_numbers(validate(Edition::One, table, recording, budget, scratch, room))
@@ -66,7 +67,7 @@ pub extern "C" fn lutarosa_validate_edition2<'a>(
     budget: u32,
     scratch: &mut [u8],
     room: &mut [u8],
-) -> Answer
+) -> VerdictAnswer
     ensures { λ r. ⌜ Validated Two (now (table .entry)) (now (recording .entry)) budget (now (scratch .entry)) (now (room .entry)) (now (scratch .exit)) (now (room .exit)) r ⌝ }
 {
     verdict_numbers(validate(Edition::Two, table, recording, budget, scratch, room))

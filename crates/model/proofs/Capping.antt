@@ -1,6 +1,6 @@
--- Writing each clock above M as M + 1 changes no guard and no step: the moves that lead somewhere on numbers are those that do with real clocks.
+-- Writing each clock above M as M + 1 changes no guard, no answer of one and no step: the moves that lead somewhere on numbers are those that do with real clocks.
 use Prim.Native.Nat.{ℕ, zero, suc, _+_, _-_, _/_, _%_, _<_, _≤_, min}
-use native.Mathlib.Nat.{not-suc-le-zero}
+use native.Mathlib.Nat.{not-suc-le-zero, min-eq-left}
 use native.Mathlib.Omega.{arith}
 use mathlib.Core.Path.{_≡_, refl, sym, ap, ap₂, subst, _∙_}
 use mathlib.Core.List.{List, [], _∷_, map}
@@ -11,6 +11,7 @@ use lib.ListN.{getD, getElem?}
 use lib.Dec.{eqb}
 use borrow.Author.Tests.{lt-ltb, eq-eqb}
 use Rattle.model.specs.Guard.{Guard, always, atMost, atLeast, variable, negation, conjunction, holds, largest}
+use Rattle.model.specs.Readiness.{waited, readiness}
 use Rattle.model.specs.Monitor.{Monitor, Config, Transition, fires, after, enabled, reset, toUnit, airtime}
 use Rattle.model.specs.Size.{largestIn, largestBound, cap, size}
 use Rattle.model.specs.Situation.{TwoClocks, InRange, Move, keep, rest, add, configOf, withAir, capped, uncapped, firstBy, firstNumber, onAir, sent, missed, triggerOf, moved, tick, stepBy, recordedAt, moveOf, moveLimit, number, stepNumber}
@@ -18,6 +19,7 @@ use Rattle.model.specs.Trace.{Packet}
 use Rattle.model.specs.declared.Situation.{Situation}
 use Rattle.model.specs.Sane.{Sane, Closed}
 use Rattle.model.proofs.Basics.{leb-same}
+use Rattle.model.proofs.ReadinessLaws.{same-readiness}
 use Rattle.model.proofs.Chains.{Leads, Moves}
 use Rattle.model.proofs.Numbering.{outcome, sending, number-below, back, every-step, step-in-range, first-in-range}
 
@@ -69,12 +71,34 @@ min-ticked : (zeroed : Bool) (x l : ℕ) → min (cond zeroed 0 (min x l) + 1) l
 min-ticked true x l = refl
 min-ticked false x l = omega arith
 
+-- a clock above what it is written as, and then d ticks
+min-waited : (x d l : ℕ) → min (min x l + d) l ≡ min (x + d) l
+min-waited x d l = omega arith
+
 module _ (m : Monitor) where
-  ticked : (c : List ℕ) → TwoClocks c → capped m (map (λ x. x + 1) (capped m c)) ≡ capped m (map (λ x. x + 1) c)
+  written-waited : (d : ℕ) (c : List ℕ) → TwoClocks c → capped m (waited d (capped m c)) ≡ capped m (waited d c)
   unfolding capped
-  ticked =
-      of-two (λ c. capped m (map (λ x. x + 1) (capped m c)) ≡ capped m (map (λ x. x + 1) c))
-      (λ x y. ap₂ (λ (u v : ℕ). u ∷ v ∷ []) (min-ticked false x (cap m 0)) (min-ticked false y (cap m 1)))
+  written-waited d =
+      of-two (λ c. capped m (waited d (capped m c)) ≡ capped m (waited d c))
+      (λ x y. ap₂ (λ (u v : ℕ). u ∷ v ∷ []) (min-waited x d (cap m 0)) (min-waited y d (cap m 1)))
+
+  -- nor does it change what a guard answers (R-10)
+  pub same-answer : m .clocks ≤ 2 → (g : Guard) (v : ℕ) (c : List ℕ) → TwoClocks c → Closed m g → ((i : ℕ) → largest i g ≤ largestBound m i) → readiness g v (capped m c) ≡ readiness g v c
+  same-answer few g v c two k b =
+      same-readiness g v (capped m c) c (same-guard m few g v c k b)
+      (λ d.
+      sym (same-guard m few g v (waited d (capped m c)) k b)
+      ∙ ap (holds g v) (written-waited d c two)
+      ∙ same-guard m few g v (waited d c) k b)
+
+  -- clocks in range are written as they are
+  pub written-back : (s : Situation) → InRange m s → capped m (s .clocks) ≡ s .clocks
+  unfolding capped
+  written-back s r =
+      ap₂ (λ (u v : ℕ). u ∷ v ∷ []) (min-eq-left (r .first)) (min-eq-left (r .second)) ∙ sym (r .clocks)
+
+  ticked : (c : List ℕ) → TwoClocks c → capped m (map (λ x. x + 1) (capped m c)) ≡ capped m (map (λ x. x + 1) c)
+  ticked = written-waited 1
 
   reset-ticked : (mask : ℕ) (c : List ℕ) → TwoClocks c → capped m (map (λ x. x + 1) (reset mask (capped m c))) ≡ capped m (map (λ x. x + 1) (reset mask c))
   unfolding capped reset

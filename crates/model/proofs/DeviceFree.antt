@@ -1,23 +1,26 @@
 -- No demand asks for devices: a monitor with others gives the same verdict, witness and checking.
-use Prim.Native.Nat.{ℕ, suc}
+use Prim.Native.Nat.{ℕ, suc, _-_}
 use mathlib.Core.Path.{_≡_, refl, ap, ap₂, fun-ext, _∙_}
 use mathlib.Core.List.{List, [], _∷_, _++_}
 use mathlib.Core.Bool.{true, false}
 use mathlib.Core.Option.{Option, none, some, Option·map}
 use lib.ListN.{length}
 use lib.Dec.{ltb}
-use Rattle.model.specs.Monitor.{Monitor, fires}
+use Rattle.model.specs.Monitor.{Monitor, fires, tried}
 use Rattle.model.specs.Trace.{Packet}
 use Rattle.model.specs.Size.{cap, size}
 use Rattle.model.specs.Recording.{endOf}
 use Rattle.model.specs.Layers as L
 use Rattle.model.specs.Situation.{Move, keep, rest, add, capped, sent, missed, moved, tick, stepBy, recordedAt, moveOf, moveLimit, number, situationOf, stepNumber, firstNumber}
+use Rattle.model.specs.Pairs.{pairs, answerIn, isPair}
+use Rattle.model.specs.declared.Readiness.{Readiness}
+use Rattle.model.specs.declared.Readiness.the-variants.{NotYet, NoMore}
 use Rattle.model.specs.declared.Situation.{Situation}
 use Rattle.model.specs.declared.Verdict.{Verdict}
 use Rattle.model.specs.declared.Verdict.the-variants.{Accepted, Rejected, Exhausted}
 use Rattle.model.specs.Witness.{Row}
 use Rattle.model.specs.Rules.{Progress, sends, removes, keeps, adds, account, broken}
-use Rattle.model.specs.Validation.{rowsBy, rowsOf, movesOf, preferred, verdict}
+use Rattle.model.specs.Validation.{rowsBy, rowsOf, movesOf, preferred, pairsAt, verdict}
 use Rattle.model.specs.declared.Edition.{Edition}
 
 -- a monitor with these devices
@@ -71,16 +74,22 @@ module _ (devices : List ℕ) (m : Monitor) where
       ∙ same-rows recording 1 (movesOf m recording)
 
   pub same-verdict : (recording : List Packet) (budget : ℕ) → verdict (withDevices devices m) recording budget ≡ verdict m recording budget
-  unfolding verdict size cap number capped
+  unfolding verdict pairsAt answerIn tried size cap number situationOf capped
   same-verdict recording budget = ap₂ by (same-step recording) (same-preferred recording)
     where
       by : (ℕ → ℕ → ℕ → Option ℕ) → List Row → Verdict
       by f rows =
           let cost : ℕ = L.cost (size m) moveLimit f (firstNumber m) (endOf recording) in
           let last : ℕ = L.lastInstant (size m) moveLimit f (firstNumber m) (endOf recording) in
+          let counted : Readiness → ℕ → ℕ =
+          λ a i. pairs (isPair m (L.layer (size m) moveLimit f (firstNumber m) (i - 1)) (recordedAt recording i) a) (size m) (length (m .transitions)) in
           elim (ltb budget cost) [
             | true ↦ Exhausted budget (L.passing (size m) moveLimit f (firstNumber m) (endOf recording) budget)
-            | false ↦ elim (L.isEmpty (L.layer (size m) moveLimit f (firstNumber m) last)) [ true ↦ Rejected cost last | false ↦ Accepted cost (length rows) ]
+            | false ↦
+                elim (L.isEmpty (L.layer (size m) moveLimit f (firstNumber m) last)) [
+                  | true ↦ Rejected cost last (counted NotYet last) (counted NoMore last)
+                  | false ↦ Accepted cost (length rows)
+                ]
           ]
 
   pub same-broken : (edition : Edition) (p : Progress) (i : ℕ) (rows : List Row) → broken edition (withDevices devices m) p i rows ≡ broken edition m p i rows

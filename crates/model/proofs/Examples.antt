@@ -1,5 +1,5 @@
 -- The desk's small monitor and its recordings P1 to P12 (document 01), for either edition of the witness, from the bytes of the page through the whole definition of validation:
--- the answer's three values, and every lent byte. Scratch and room are lent dirty.
+-- the answer's three values and two counts, and every lent byte. Scratch and room are lent dirty.
 use Prim.Native.Nat.{ℕ}
 use mathlib.Core.Path.{_≡_, refl}
 use mathlib.Core.List.{List, [], _∷_, _++_}
@@ -8,7 +8,8 @@ use lib.ListN.{length, drop, replicate}
 use Rattle.model.specs.Bytes.{tab, joined, padded}
 use Rattle.model.specs.Frame.{framed, framedRows}
 use Rattle.model.specs.Guard.{holds, largest, leafAt, guardAt}
-use Rattle.model.specs.Monitor.{changed, reset, fires}
+use Rattle.model.specs.Readiness.{greatestBound, comesBy, readiness}
+use Rattle.model.specs.Monitor.{changed, reset, fires, tried}
 use Rattle.model.specs.Size.{largestIn, greatest, cap, size}
 use Rattle.model.specs.Reach.{among, targets, reachedIn, isReached, lowestMissing, statesAnswer}
 use Rattle.model.specs.Kinds.{impliedDevice, deviceAt, deviceFits, kindRecord}
@@ -16,9 +17,10 @@ use Rattle.model.specs.Table.{guardIn, transitionIn, monitorOf, countsOf
 use Rattle.model.specs.Recording.{clearOfBefore, recordedRow, recordedRows, recordingFrame, recordingScan, recordingAnswer, recordingParts, packetsOf, packetsAt, endOf}
 use Rattle.model.specs.Situation.{capped, sent, missed, moved, stepBy, recordedAt, moveOf, number, situationOf, stepNumber}
 use Rattle.model.specs.Layers.{count, firstFrom, spread, image, layer, total, lastInstant, cost, passing, leads, live, walk, leastMoves}
-use Rattle.model.specs.Numbers.{Values, values, verdictValues}
+use Rattle.model.specs.Pairs.{howMany, pairs, answerIn}
+use Rattle.model.specs.Numbers.{Values, values, verdictValues, Counts, counts, verdictCounts}
 use Rattle.model.specs.Witness.{rowsBytes, witnessBytes}
-use Rattle.model.specs.Validation.{rowsBy, rowsOf, preferred, verdict, refusal, validation, scratchAfter, roomAfter, possibleAfter}
+use Rattle.model.specs.Validation.{rowsBy, rowsOf, preferred, pairsAt, verdict, refusal, validation, scratchAfter, roomAfter, possibleAfter}
 use Rattle.model.specs.Desk.{digits, rowLines, verdictLines, judgedLines, tableLength, linesFor, deskLines}
 use Rattle.model.specs.declared.Edition.{Edition}
 use Rattle.model.specs.declared.Edition.the-variants.{One}
@@ -26,6 +28,7 @@ use Rattle.model.specs.declared.Edition.the-variants.{One}
 -- what a run leaves: its values, the scratch and the room
 pub record Run : Type 0 where
   pub answer : Values
+  pub counts : Counts
   pub scratch : List ℕ
   pub room : List ℕ
 
@@ -36,23 +39,34 @@ dirtyRoom : List ℕ
 dirtyRoom = replicate 90 9
 
 unfoldable pub run : Edition → (table recording : List ℕ) → ℕ → Run
-unfolding dirtyScratch dirtyRoom tab joined padded holds largest leafAt guardAt changed reset fires largestIn greatest cap size among targets reachedIn isReached lowestMissing statesAnswer wholeAnswer guardIn transitionIn monitorOf framed framedRows countsOf impliedDevice deviceAt deviceFits kindRecord kindRecords apart transitionFields guardRecord transitionRecord transitionRecords transitionAt guardPlace tableParts scanWith tableScan answerWith tableAnswer clearOfBefore recordedRow recordedRows recordingFrame recordingScan recordingAnswer recordingParts packetsOf endOf capped sent missed moved stepBy recordedAt moveOf number situationOf stepNumber count firstFrom spread image layer total lastInstant cost passing leads live walk leastMoves rowsBy rowsOf preferred verdict refusal validation bind rowsBytes witnessBytes scratchAfter roomAfter
+unfolding dirtyScratch dirtyRoom tab joined padded holds largest leafAt guardAt changed reset fires largestIn greatest cap size among targets reachedIn isReached lowestMissing statesAnswer wholeAnswer guardIn transitionIn monitorOf framed framedRows countsOf impliedDevice deviceAt deviceFits kindRecord kindRecords apart transitionFields guardRecord transitionRecord transitionRecords transitionAt guardPlace tableParts scanWith tableScan answerWith tableAnswer clearOfBefore recordedRow recordedRows recordingFrame recordingScan recordingAnswer recordingParts packetsOf endOf capped sent missed moved stepBy recordedAt moveOf number situationOf stepNumber count firstFrom spread image layer total lastInstant cost passing leads live walk leastMoves rowsBy rowsOf preferred greatestBound comesBy readiness tried howMany pairs answerIn pairsAt verdict refusal validation bind rowsBytes witnessBytes scratchAfter roomAfter
 run edition table recording budget =
     record {
       answer = verdictValues (validation edition table recording budget (length dirtyScratch) (length dirtyRoom));
+      counts = verdictCounts (validation edition table recording budget (length dirtyScratch) (length dirtyRoom));
       scratch = scratchAfter edition table recording budget dirtyScratch dirtyRoom;
       room = roomAfter edition table recording budget dirtyScratch dirtyRoom;
     }
 
 -- a run that answers 0, 1 or 2: so many bytes of the scratch are zero, and these stand at the start of the room
-judged : Values → ℕ → List ℕ → Run
+judgedWith : Counts → Values → ℕ → List ℕ → Run
 unfolding dirtyScratch dirtyRoom
-judged answer zeros witness =
-    record { answer = answer; scratch = replicate zeros 0 ++ drop zeros dirtyScratch; room = witness ++ drop (length witness) dirtyRoom }
+judgedWith both answer zeros witness =
+    record { answer = answer; counts = both; scratch = replicate zeros 0 ++ drop zeros dirtyScratch; room = witness ++ drop (length witness) dirtyRoom }
+
+-- where no pair is counted: so P3 and P9, which are rejected (R-10), and all that are not
+judged : Values → ℕ → List ℕ → Run
+unfolding judgedWith
+judged = judgedWith (counts 0 0)
+
+-- a rejection with its two counts, the room untouched
+unfoldable pub rejected : Values → Counts → ℕ → Run
+unfolding judgedWith
+rejected answer both zeros = judgedWith both answer zeros []
 
 unfoldable pub refused : Values → Run
 unfolding dirtyScratch dirtyRoom
-refused answer = record { answer = answer; scratch = dirtyScratch; room = dirtyRoom }
+refused answer = record { answer = answer; counts = counts 0 0; scratch = dirtyScratch; room = dirtyRoom }
 
 unfoldable pub table : List ℕ
 table =
@@ -124,7 +138,7 @@ pub works : (table recording : List ℕ) → ℕ → List ℕ
 unfolding run
 works table recording n = tab (λ t. count (possibleAfter (monitorAt table) (packetsAt recording) t)) n
 
-pub printed : List ℕ → List ℕ
+unfoldable pub printed : List ℕ → List ℕ
 unfolding run digits rowLines verdictLines judgedLines tableLength linesFor
 printed s = deskLines s
 

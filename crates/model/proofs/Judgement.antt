@@ -20,8 +20,9 @@ use Rattle.model.specs.Rules.{broken, begin, Permits}
 use Rattle.model.specs.Order.{Before, EndsBy, Preferred}
 use Rattle.model.specs.Situation.{firstBy, uncapped, moveLimit, stepNumber, firstNumber}
 use Rattle.model.specs.Layers.{count, isEmpty}
-use Rattle.model.specs.Validation.{rowsOf, movesOf, preferred, verdict, costOf, lastOf, passingOf, possibleAfter}
+use Rattle.model.specs.Validation.{rowsOf, movesOf, preferred, verdict, costOf, lastOf, passingOf, possibleAfter, pairsAt}
 use Rattle.model.specs.Claims.{FirstEmpty, FirstPast, Judged}
+use Rattle.model.specs.declared.Readiness.the-variants.{NotYet, NoMore}
 use Rattle.model.specs.declared.Situation.{Situation}
 use Rattle.model.specs.declared.Verdict.{Verdict}
 use Rattle.model.specs.declared.Verdict.the-variants.{Accepted, Rejected, Exhausted}
@@ -35,6 +36,7 @@ use Rattle.model.proofs.LayerLaws.{reached, cost-le, last-le, last-befo
 use Rattle.model.proofs.LeastLaws.{least, length-least}
 use Rattle.model.proofs.Numbering.{first-number-below, numbered}
 use Rattle.model.proofs.Capping.{same-moves}
+use Rattle.model.proofs.PairLaws.{counted-pairs}
 use Rattle.model.proofs.Explained.{unbroken-formed, explained}
 use Rattle.model.proofs.ExplainedTraces.{explains-possible}
 use Rattle.model.proofs.Ordered.{rows-before}
@@ -46,7 +48,8 @@ use Rattle.model.proofs.EditionLaws.{times-rows}
 -- the verdict by two tests: is the cost above the budget, and is no situation left
 abbrev verdict-by : Monitor → List Packet → ℕ → (over empty : Bool) → Verdict
 verdict-by m recording budget true empty = Exhausted budget (passingOf m recording budget)
-verdict-by m recording budget false true = Rejected (costOf m recording) (lastOf m recording)
+verdict-by m recording budget false true =
+    Rejected (costOf m recording) (lastOf m recording) (pairsAt m recording NotYet (lastOf m recording)) (pairsAt m recording NoMore (lastOf m recording))
 verdict-by m recording budget false false = Accepted (costOf m recording) (length (preferred m recording))
 
 verdict-is : (m : Monitor) (recording : List Packet) (budget : ℕ) (over empty : Bool)
@@ -179,7 +182,7 @@ module _ (edition : Edition) (m : Monitor) (recording : List Packet) (sane : San
         exhausted = (λ x. absurd x, λ above. absurd (not-le-of-lt above h));
         accepted = λ _. (λ x. absurd x, λ possible. none-left q possible);
         rejected = λ _. (λ _. none-left q, λ _. tt);
-        valued = (refl, first-empty q);
+        valued = (refl, first-empty q, counted-pairs sane recording (lastOf m recording) NotYet, counted-pairs sane recording (lastOf m recording) NoMore);
         witnessed = λ x. absurd x;
         short = short;
         bounded = bounded;

@@ -20,7 +20,9 @@ pub mod SetLaws
 pub mod LayerLaws
 pub mod LeastLaws
 pub mod Numbering
+pub mod ReadinessLaws
 pub mod Capping
+pub mod PairLaws
 pub mod RowLaws
 pub mod Spacing
 pub mod Explained
@@ -42,4 +44,5 @@ pub mod Overheard
 pub mod Unreached
 pub mod TwoVersions
 pub mod TwoEditions
+pub mod EarlyLate
 pub mod AnswerLaws

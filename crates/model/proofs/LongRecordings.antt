@@ -28,7 +28,7 @@ use Rattle.model.proofs.Judgement.{sound-judged}
 -- a verdict has the number 0, 1 or 2
 verdict-number : (m : Monitor) (recording : List Packet) (budget : ℕ) (v : Verdict) → ValuesOf m recording budget v → verdictValues v .number ≤ 2
 verdict-number m recording budget (Accepted cost rows) h = omega arith
-verdict-number m recording budget (Rejected cost instant) h = omega arith
+verdict-number m recording budget (Rejected cost instant notYet noMore) h = omega arith
 verdict-number m recording budget (Exhausted limit instant) h = omega arith
 verdict-number m recording budget (Refused r) h = absurd h
 

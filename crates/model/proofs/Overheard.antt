@@ -55,8 +55,8 @@ movesBefore m recording = L.leastMoves (size m) moveLimit (stepBefore m recordin
 
 -- rejected now, by the definitions and in the paper's words; accepted before, by these least moves (64 rests, 65 adds by transition 0, 2 keeps by transition 2),
 -- with these rows as the witness
-pub record Narrowed (m : Monitor) (recording : List Packet) (moves : List ℕ) (given : List Row) (cost instant : ℕ) : Type 0 where
-  pub rejected : verdict m recording 10000 ≡ Rejected cost instant
+pub record Narrowed (m : Monitor) (recording : List Packet) (moves : List ℕ) (given : List Row) (cost instant notYet noMore : ℕ) : Type 0 where
+  pub rejected : verdict m recording 10000 ≡ Rejected cost instant notYet noMore
   pub impossible : Possible m recording → ⊥
   pub accepted : L.isEmpty (leftBefore m recording) ≡ false
   pub least : movesBefore m recording ≡ moves
@@ -92,9 +92,9 @@ inItsAirtimeGiven = marked removed 1 2 noTransition ∷ marked added 2 0 0 ∷ m
 
 -- the verdicts now
 record Verdicts : Type 0 where
-  instant : verdict (monitorAt table) (packetsAt atItsInstant) 10000 ≡ Rejected 12 5
-  another : verdict (monitorAt table) (packetsAt inAnother) 10000 ≡ Rejected 9 5
-  airtime : verdict (monitorAt longerAck) (packetsAt inItsAirtime) 10000 ≡ Rejected 13 6
+  instant : verdict (monitorAt table) (packetsAt atItsInstant) 10000 ≡ Rejected 12 5 2 0
+  another : verdict (monitorAt table) (packetsAt inAnother) 10000 ≡ Rejected 9 5 1 0
+  airtime : verdict (monitorAt longerAck) (packetsAt inItsAirtime) 10000 ≡ Rejected 13 6 2 0
 
 verdicts : Verdicts
 unfolding table longerAck atItsInstant inAnother inItsAirtime run
@@ -115,12 +115,12 @@ inbound-by m (a ∷ rows) h r i e = ⊎-elim here (λ j. inbound-by m rows (h .1
         rw (eq-eqb (r .mark) removed e) at found
 
 -- all of it from what computes: what the definitions reject is impossible
-narrowed-by : (table recording : List ℕ) (moves : List ℕ) (given : List Row) (cost instant : ℕ) → SoundRecording table recording
-    → verdict (monitorAt table) (packetsAt recording) 10000 ≡ Rejected cost instant
+narrowed-by : (table recording : List ℕ) (moves : List ℕ) (given : List Row) (cost instant notYet noMore : ℕ) → SoundRecording table recording
+    → verdict (monitorAt table) (packetsAt recording) 10000 ≡ Rejected cost instant notYet noMore
     → L.isEmpty (leftBefore (monitorAt table) (packetsAt recording)) ≡ false → movesBefore (monitorAt table) (packetsAt recording) ≡ moves
     → heard given ≡ packetsAt recording → Inbound (monitorAt table) given → PacketTrace (monitorAt table) (packets (sentRows given))
-    → CarriedBy (monitorAt table) 0 start (sentRows given) → Narrowed (monitorAt table) (packetsAt recording) moves given cost instant
-narrowed-by table recording moves given cost instant sound e accepted least accounts inbound spaced carried =
+    → CarriedBy (monitorAt table) 0 start (sentRows given) → Narrowed (monitorAt table) (packetsAt recording) moves given cost instant notYet noMore
+narrowed-by table recording moves given cost instant notYet noMore sound e accepted least accounts inbound spaced carried =
     let j = subst (λ (v : Verdict). Judged Two (monitorAt table) (packetsAt recording) 10000 v) e (sound-judged Two table recording sound (sane-recording table recording sound .last) 10000) in
     let within : 10000 < costOf (monitorAt table) (packetsAt recording) → ⊥ = j .exhausted .1 in
     record {
@@ -138,21 +138,21 @@ narrowed-by table recording moves given cost instant sound e accepted least acco
     }
 
 pub record Narrower : Type 0 where
-  pub instant : Narrowed (monitorAt table) (packetsAt atItsInstant) (65 ∷ 64 ∷ 64 ∷ 64 ∷ 2 ∷ []) atItsInstantGiven 12 5
-  pub another : Narrowed (monitorAt table) (packetsAt inAnother) (65 ∷ 64 ∷ 64 ∷ 64 ∷ 2 ∷ []) inAnotherGiven 9 5
-  pub airtime : Narrowed (monitorAt longerAck) (packetsAt inItsAirtime) (64 ∷ 65 ∷ 64 ∷ 64 ∷ 64 ∷ 2 ∷ []) inItsAirtimeGiven 13 6
+  pub instant : Narrowed (monitorAt table) (packetsAt atItsInstant) (65 ∷ 64 ∷ 64 ∷ 64 ∷ 2 ∷ []) atItsInstantGiven 12 5 2 0
+  pub another : Narrowed (monitorAt table) (packetsAt inAnother) (65 ∷ 64 ∷ 64 ∷ 64 ∷ 2 ∷ []) inAnotherGiven 9 5 1 0
+  pub airtime : Narrowed (monitorAt longerAck) (packetsAt inItsAirtime) (64 ∷ 65 ∷ 64 ∷ 64 ∷ 64 ∷ 2 ∷ []) inItsAirtimeGiven 13 6 2 0
 
 pub narrower : Narrower
 unfolding table longerAck atItsInstant inAnother inItsAirtime atItsInstantGiven inAnotherGiven inItsAirtimeGiven run movedBefore stepBefore heard sentRows packets
 narrower =
     record {
       instant =
-          narrowed-by table atItsInstant (65 ∷ 64 ∷ 64 ∷ 64 ∷ 2 ∷ []) atItsInstantGiven 12 5 refl (verdicts .instant)
+          narrowed-by table atItsInstant (65 ∷ 64 ∷ 64 ∷ 64 ∷ 2 ∷ []) atItsInstantGiven 12 5 2 0 refl (verdicts .instant)
           refl refl refl (refl, (refl, (refl, tt))) (omega arith, (omega arith, tt)) (_, refl, (_, refl, tt));
       another =
-          narrowed-by table inAnother (65 ∷ 64 ∷ 64 ∷ 64 ∷ 2 ∷ []) inAnotherGiven 9 5 refl (verdicts .another)
+          narrowed-by table inAnother (65 ∷ 64 ∷ 64 ∷ 64 ∷ 2 ∷ []) inAnotherGiven 9 5 1 0 refl (verdicts .another)
           refl refl refl (refl, (refl, (refl, tt))) (omega arith, (omega arith, tt)) (_, refl, (_, refl, tt));
       airtime =
-          narrowed-by longerAck inItsAirtime (64 ∷ 65 ∷ 64 ∷ 64 ∷ 64 ∷ 2 ∷ []) inItsAirtimeGiven 13 6 refl (verdicts .airtime)
+          narrowed-by longerAck inItsAirtime (64 ∷ 65 ∷ 64 ∷ 64 ∷ 64 ∷ 2 ∷ []) inItsAirtimeGiven 13 6 2 0 refl (verdicts .airtime)
           refl refl refl (refl, (refl, (refl, tt))) (omega arith, (omega arith, tt)) (_, refl, (_, refl, tt));
     }

@@ -16,7 +16,8 @@ use Rattle.model.specs.Size.{size}
 use Rattle.model.specs.Recording.{endOf}
 use Rattle.model.specs.Situation.{moveLimit, stepNumber, firstNumber}
 use Rattle.model.specs.Layers.{count, isEmpty, total, cost}
-use Rattle.model.specs.Validation.{verdict, preferred, costOf, lastOf, passingOf, totalOf, possibleAfter}
+use Rattle.model.specs.Validation.{verdict, preferred, costOf, lastOf, passingOf, totalOf, possibleAfter, pairsAt}
+use Rattle.model.specs.declared.Readiness.the-variants.{NotYet, NoMore}
 use Rattle.model.specs.declared.Verdict.the-variants.{Accepted, Rejected, Exhausted}
 use Rattle.model.proofs.SetLaws.{FirstOf}
 use Rattle.model.proofs.LayerLaws.{last-first, passing-first}
@@ -116,7 +117,7 @@ module _ (m : Monitor) (recording : List Packet) where
 
   -- no situation is left after instant t + 1
   pub rejected-at : (budget t : ℕ) → t < endOf recording → LeftUpTo t → totalOf m recording (suc t) ≤ budget → count (possibleAfter m recording (suc t)) ≡ 0
-      → verdict m recording budget ≡ Rejected (totalOf m recording (suc t)) (suc t)
+      → verdict m recording budget ≡ Rejected (totalOf m recording (suc t)) (suc t) (pairsAt m recording NotYet (suc t)) (pairsAt m recording NoMore (suc t))
   unfolding verdict cost
   rejected-at budget t h left fits none =
       let last : lastOf m recording ≡ suc t = last-at (suc t) h (λ i e. left i (omega arith)) (inl none) in
@@ -125,7 +126,8 @@ module _ (m : Monitor) (recording : List Packet) where
       let empty : isEmpty (possibleAfter m recording (lastOf m recording)) ≡ true =
       eq-eqb (count (possibleAfter m recording (lastOf m recording))) 0 (ap (λ (i : ℕ). count (possibleAfter m recording i)) last ∙ none)
       in
-      rw (within, empty, verdict) (ap₂ Rejected whole last)
+      rw (within, empty, verdict)
+      (ap₂ (λ (c i : ℕ). Rejected c i (pairsAt m recording NotYet i) (pairsAt m recording NoMore i)) whole last)
 
   -- a situation is left after the last instant
   pub accepted-at : (budget : ℕ) → LeftUpTo (endOf recording) → totalOf m recording (endOf recording) ≤ budget

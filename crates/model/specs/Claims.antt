@@ -15,7 +15,9 @@ use Rattle.model.specs.Witness.{Row, added, removed, isRemoved}
 use Rattle.model.specs.Order.{Preferred}
 use Rattle.model.specs.Layers.{count}
 use Rattle.model.specs.Validation.{costOf, totalOf, possibleAfter, preferred}
+use Rattle.model.specs.CountedPairs.{Pair, Counted}
 use Rattle.model.specs.declared.Edition.{Edition}
+use Rattle.model.specs.declared.Readiness.the-variants.{NotYet, NoMore}
 use Rattle.model.specs.declared.Situation.{Situation}
 use Rattle.model.specs.declared.Verdict.{Verdict}
 use Rattle.model.specs.declared.Verdict.the-variants.{Accepted, Rejected, Exhausted, Refused}
@@ -58,19 +60,19 @@ pub record Explains (m : Monitor) (recording : List Packet) (rows : List Row) : 
 
 abbrev pub IsAccepted : Verdict → Type 0
 IsAccepted (Accepted cost rows) = Unit {0}
-IsAccepted (Rejected cost instant) = ⊥
+IsAccepted (Rejected cost instant notYet noMore) = ⊥
 IsAccepted (Exhausted budget instant) = ⊥
 IsAccepted (Refused r) = ⊥
 
 abbrev pub IsRejected : Verdict → Type 0
 IsRejected (Accepted cost rows) = ⊥
-IsRejected (Rejected cost instant) = Unit {0}
+IsRejected (Rejected cost instant notYet noMore) = Unit {0}
 IsRejected (Exhausted budget instant) = ⊥
 IsRejected (Refused r) = ⊥
 
 abbrev pub IsExhausted : Verdict → Type 0
 IsExhausted (Accepted cost rows) = ⊥
-IsExhausted (Rejected cost instant) = ⊥
+IsExhausted (Rejected cost instant notYet noMore) = ⊥
 IsExhausted (Exhausted budget instant) = Unit {0}
 IsExhausted (Refused r) = ⊥
 
@@ -86,10 +88,11 @@ pub record FirstPast (m : Monitor) (recording : List Packet) (budget instant : �
   pub past : budget < totalOf m recording instant
   pub before : (t : ℕ) → t < instant → totalOf m recording t ≤ budget
 
--- the second and third values of a verdict
+-- the values of a verdict, and the two counts of a rejection
 abbrev pub ValuesOf : Monitor → List Packet → ℕ → Verdict → Type 0
 ValuesOf m recording budget (Accepted cost rows) = (cost ≡ costOf m recording) × (rows ≡ length (preferred m recording))
-ValuesOf m recording budget (Rejected cost instant) = (cost ≡ costOf m recording) × FirstEmpty m recording instant
+ValuesOf m recording budget (Rejected cost instant notYet noMore) =
+    (cost ≡ costOf m recording) × FirstEmpty m recording instant × Counted (Pair m recording instant NotYet) notYet × Counted (Pair m recording instant NoMore) noMore
 ValuesOf m recording budget (Exhausted limit instant) = (limit ≡ budget) × FirstPast m recording budget instant
 ValuesOf m recording budget (Refused r) = ⊥
 

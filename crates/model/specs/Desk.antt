@@ -76,6 +76,10 @@ addedWord = 97 ∷ 100 ∷ 100 ∷ 101 ∷ 100 ∷ []
 abbrev pub line : List ℕ → ℕ → ℕ → List ℕ
 line word a b = word ++ spaced a ++ spaced b ++ newline
 
+-- "The program prints them after the instant" (R-10)
+abbrev pub rejectedLine : (cost instant notYet noMore : ℕ) → List ℕ
+rejectedLine cost instant notYet noMore = rejectedWord ++ spaced cost ++ spaced instant ++ spaced notYet ++ spaced noMore ++ newline
+
 abbrev pub markWord : ℕ → List ℕ
 markWord mark = cond (eqb mark kept) keptWord (cond (eqb mark removed) removedWord addedWord)
 
@@ -88,7 +92,7 @@ rowLines (r ∷ rs) = rowLine r ++ rowLines rs
 
 unfoldable pub verdictLines : Verdict → List Row → List ℕ
 verdictLines (Accepted cost rows) witness = line acceptedWord cost rows ++ rowLines witness
-verdictLines (Rejected cost instant) witness = line rejectedWord cost instant
+verdictLines (Rejected cost instant notYet noMore) witness = rejectedLine cost instant notYet noMore
 verdictLines (Exhausted budget instant) witness = line exhaustedWord budget instant
 verdictLines (Refused r) witness = line refusedWord (refusalValues r .number) (refusalValues r .second)
 

@@ -4,6 +4,7 @@ pub mod First
 pub mod Edition
 pub mod Frame
 pub mod Guard
+pub mod Readiness
 pub mod Monitor
 pub mod Trace
 pub mod Room
@@ -19,7 +20,9 @@ pub mod Situation
 pub mod Sane
 pub mod Layers
 pub mod Order
+pub mod Pairs
 pub mod Validation
+pub mod CountedPairs
 pub mod Versions
 pub mod Late
 pub mod Numbers

@@ -1,11 +1,13 @@
 -- The monitor (Definition 2), and how it fires and waits. Clocks have no upper limit here.
 use Prim.Native.Nat.{ℕ, zero, suc, _+_, _*_, _/_, _%_}
-use mathlib.Core.List.{List, [], _∷_, map}
+use mathlib.Core.List.{List, [], _∷_}
 use mathlib.Core.Bool.{Bool, false, cond, _&&_}
 use mathlib.Core.Option.{Option, none, some, bind}
 use lib.ListN.{getD, getElem?}
 use lib.Dec.{eqb}
 use Rattle.model.specs.Guard.{Guard, holds}
+use Rattle.model.specs.Readiness.{waited, readiness}
+use Rattle.model.specs.declared.Readiness.{Readiness}
 pub use Rattle.model.specs.declared.Config.{Config}
 
 -- fires on its trigger, a packet kind, from its source, if its guard holds; masks name the variables that it sets and clears and the clocks that it resets
@@ -44,7 +46,7 @@ start = record { state = 0; variables = 0; clocks = 0 ∷ 0 ∷ [] }
 
 -- "A clock reads the ticks since its last reset, without upper limit"
 abbrev pub wait : ℕ → Config → Config
-wait d c = record { state = c .state; variables = c .variables; clocks = map (λ x. x + d) (c .clocks) }
+wait d c = record { state = c .state; variables = c .variables; clocks = waited d (c .clocks) }
 
 -- the first n variables after some are set and some are cleared
 unfoldable pub changed : (n v set clear : ℕ) → ℕ
@@ -71,3 +73,9 @@ enabled t k c = eqb (t .source) (c .state) && eqb (t .trigger) k && holds (t .gu
 -- transition number j on a packet of kind k: the configuration after it, or none
 unfoldable pub fires : Monitor → ℕ → ℕ → Config → Option Config
 fires m j k c = bind (getElem? (m .transitions) j) (λ t. cond (enabled t k c) (some (after m t c)) none)
+
+-- what transition number j answers to a packet of kind k: its guard's answer, none if there is no such transition or it is of another kind or from another state
+unfoldable pub tried : Monitor → ℕ → ℕ → Config → Option Readiness
+tried m j k c =
+    bind (getElem? (m .transitions) j)
+    (λ t. cond (eqb (t .source) (c .state) && eqb (t .trigger) k) (some (readiness (t .guard) (c .variables) (c .clocks))) none)

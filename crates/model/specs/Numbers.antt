@@ -58,6 +58,20 @@ checkingValues (Unchecked r) = refusalValues r
 
 abbrev pub verdictValues : Verdict → Values
 verdictValues (Accepted cost rows) = values 0 cost rows
-verdictValues (Rejected cost instant) = values 1 cost instant
+verdictValues (Rejected cost instant notYet noMore) = values 1 cost instant
 verdictValues (Exhausted budget instant) = values 2 budget instant
 verdictValues (Refused r) = refusalValues r
+
+-- "A rejection gains two counts" (R-10); any other answer has 0 and 0
+pub record Counts : Type 0 where
+  pub notYet : ℕ
+  pub noMore : ℕ
+
+abbrev pub counts : ℕ → ℕ → Counts
+counts a b = record { notYet = a; noMore = b }
+
+abbrev pub verdictCounts : Verdict → Counts
+verdictCounts (Accepted cost rows) = counts 0 0
+verdictCounts (Rejected cost instant notYet noMore) = counts notYet noMore
+verdictCounts (Exhausted budget instant) = counts 0 0
+verdictCounts (Refused r) = counts 0 0

@@ -1,6 +1,6 @@
 -- Validation: the verdict, and what scratch and room hold afterwards, for any bytes and any lengths. The edition of the witness, which the caller names, decides 31
 -- and the bytes in the room, and nothing else.
-use Prim.Native.Nat.{ℕ, suc, _+_, _*_}
+use Prim.Native.Nat.{ℕ, suc, _+_, _-_, _*_}
 use mathlib.Core.Path.{_≡_}
 use mathlib.Core.List.{List, [], _∷_, _++_}
 use mathlib.Core.Bool.{Bool, true, false}
@@ -17,10 +17,13 @@ use Rattle.model.specs.Table.{monitorAt}
 use Rattle.model.specs.Recording.{recordingAnswer, packetsAt, endOf}
 use Rattle.model.specs.Witness.{Row, kept, removed, added, noTransition, marked, witnessBytes}
 use Rattle.model.specs.Situation.{Move, keep, rest, add, moveOf, moveLimit, recordedAt, triggerOf, stepNumber, firstNumber}
+use Rattle.model.specs.Pairs.{pairs, isPair}
 use Rattle.model.specs.Layers as L
 use Rattle.model.specs.declared.Edition.{Edition}
 use Rattle.model.specs.declared.Reading.{Reading}
 use Rattle.model.specs.declared.Reading.the-variants.{Sound, Unsound}
+use Rattle.model.specs.declared.Readiness.{Readiness}
+use Rattle.model.specs.declared.Readiness.the-variants.{NotYet, NoMore}
 use Rattle.model.specs.declared.Verdict.{Verdict}
 use Rattle.model.specs.declared.Verdict.the-variants.{Accepted, Rejected, Exhausted, Refused}
 use Rattle.model.specs.declared.Refusal.the-variants.{Scratch, WitnessRoom}
@@ -71,6 +74,11 @@ passingOf m recording budget = L.passing (size m) moveLimit (stepNumber m record
 abbrev pub movesOf : Monitor → List Packet → List ℕ
 movesOf m recording = L.leastMoves (size m) moveLimit (stepNumber m recording) (firstNumber m) (endOf recording)
 
+-- how many pairs answer a "just before the moves of the rejected instant" (R-10)
+unfoldable pub pairsAt : Monitor → List Packet → Readiness → (instant : ℕ) → ℕ
+pairsAt m recording a instant =
+    pairs (isPair m (possibleAfter m recording (instant - 1)) (recordedAt recording instant) a) (size m) (length (m .transitions))
+
 -- the witness of the least moves, which is the preferred one
 unfoldable pub preferred : Monitor → List Packet → List Row
 preferred m recording = rowsOf m recording 1 (movesOf m recording)
@@ -82,7 +90,9 @@ verdict m recording budget =
       | true ↦ Exhausted budget (passingOf m recording budget)
       | false ↦
           elim (L.isEmpty (possibleAfter m recording (lastOf m recording))) [
-            | true ↦ Rejected (costOf m recording) (lastOf m recording)
+            | true ↦
+                Rejected (costOf m recording) (lastOf m recording) (pairsAt m recording NotYet (lastOf m recording))
+                (pairsAt m recording NoMore (lastOf m recording))
             | false ↦ Accepted (costOf m recording) (length (preferred m recording))
           ]
     ]
@@ -113,14 +123,14 @@ validation edition table recording budget scratchLength roomLength =
 -- "After 0, 1 or 2 the wanted part of the scratch is zero and the rest untouched"; "After a refusal every lent byte is untouched"
 abbrev pub scratchBy : Verdict → ℕ → List ℕ → List ℕ
 scratchBy (Accepted c r) wanted scratch = replicate wanted 0 ++ drop wanted scratch
-scratchBy (Rejected c i) wanted scratch = replicate wanted 0 ++ drop wanted scratch
+scratchBy (Rejected c i y n) wanted scratch = replicate wanted 0 ++ drop wanted scratch
 scratchBy (Exhausted b i) wanted scratch = replicate wanted 0 ++ drop wanted scratch
 scratchBy (Refused r) wanted scratch = scratch
 
 -- "After 0 the witness stands at the start of its room, the rest untouched; after 1 and 2 that room is untouched"
 abbrev pub roomBy : Verdict → List ℕ → List ℕ → List ℕ
 roomBy (Accepted c r) witness room = over witness room
-roomBy (Rejected c i) witness room = room
+roomBy (Rejected c i y n) witness room = room
 roomBy (Exhausted b i) witness room = room
 roomBy (Refused r) witness room = room
 

@@ -143,10 +143,29 @@ pub enum Checking {
     Unchecked(Refusal),
 }
 
+// What a guard answers (R-10): it holds; it does not, but waiting alone would make it hold; it does not, and no wait would.
+pub enum Readiness {
+    Yes,
+    NotYet,
+    NoMore,
+}
+
+// not_yet, no_more: the pairs of a situation and a transition that answer so just before the instant's moves.
 pub enum Verdict {
-    Accepted { cost: u64, rows: u64 },
-    Rejected { cost: u64, instant: u64 },
-    Exhausted { budget: u64, instant: u64 },
+    Accepted {
+        cost: u64,
+        rows: u64,
+    },
+    Rejected {
+        cost: u64,
+        instant: u64,
+        not_yet: u64,
+        no_more: u64,
+    },
+    Exhausted {
+        budget: u64,
+        instant: u64,
+    },
     Refused(Refusal),
 }
 

@@ -1,6 +1,7 @@
 -- What the bytes of a table's records say of the monitor that they give.
 use Prim.Native.Nat.{ℕ, zero, suc, _+_, _/_, _%_, _<_, _≤_}
 use native.Mathlib.Omega.{arith}
+use native.Mathlib.Decide.{decLt}
 use mathlib.Core.Path.{_≡_, refl, sym, ap, _∙_}
 use mathlib.Core.List.{List, [], _∷_}
 use mathlib.Core.Bool.{Bool, true, false, cond, _&&_}
@@ -11,58 +12,91 @@ use Rattle.model.specs.Limits.{guardLimit}
 use Rattle.model.specs.Bytes.{byteAt}
 use borrow.Author.Tests.{eq-eqb, ne-eqb}
 use Rattle.model.specs.Guard.{guardAt, guardOf, holds}
-use Rattle.model.specs.Monitor.{Monitor, Transition, fires, enabled, after, changed, reset}
+use Rattle.model.specs.Monitor.{Monitor, Transition, fires, tried, enabled, after, changed, reset}
+use Rattle.model.specs.Readiness.{readiness}
+use Rattle.model.specs.Pairs.{isAnswer}
+use Rattle.model.specs.declared.Readiness.{Readiness}
+use Rattle.model.specs.declared.Readiness.the-variants.{Yes}
 use Rattle.model.specs.declared.Config.{Config}
 use Rattle.model.specs.Table.{variablesAt, clocksAt, guardLengthAt, transitionsAt}
 use Rattle.model.proofs.Basics.{getElem-tab, getElem-tab-past}
+use Rattle.model.proofs.ReadinessLaws.{yes-holds}
 use Rattle.monitor.specs.declared.Fired.{Fired}
-use Rattle.monitor.specs.From.{firing, firedOf, guardFrom, transitionFrom, monitorFrom, afterFrom}
+use Rattle.monitor.specs.From.{firing, firedOf, guardFrom, transitionFrom, triedFrom, monitorFrom, afterFrom}
 
 module _ (b offsets : List ℕ) (j k : ℕ) (c : Config) where
-  pub fires-there : j < transitionsAt b →
+  fires-there : j < transitionsAt b →
       fires (monitorFrom b offsets) j k c ≡ cond (enabled (transitionFrom b (getD offsets j 0)) k c) (some (afterFrom b (getD offsets j 0) c)) none
   unfolding monitorFrom fires bind
   fires-there h = rw (getElem-tab (λ i. transitionFrom b (getD offsets i 0)) (transitionsAt b) j h)
 
-  pub fires-past : transitionsAt b ≤ j → fires (monitorFrom b offsets) j k c ≡ none
+  fires-past : transitionsAt b ≤ j → fires (monitorFrom b offsets) j k c ≡ none
   unfolding monitorFrom fires bind
   fires-past h = rw (getElem-tab-past (λ i. transitionFrom b (getD offsets i 0)) (transitionsAt b) j h)
 
-  pub fires-some : (at : ℕ) (d : Config) → j < transitionsAt b → at ≡ getD offsets j 0 → enabled (transitionFrom b at) k c ≡ true → d ≡ afterFrom b at c →
-      fires (monitorFrom b offsets) j k c ≡ some d
-  fires-some at d h e t g =
-      fires-there h
-      ∙ ap (λ (x : ℕ). cond (enabled (transitionFrom b x) k c) (some (afterFrom b x c)) none) (sym e)
-      ∙ ap (λ (t : Bool). cond t (some (afterFrom b at c)) none) t
-      ∙ ap {B = Option Config} some (sym g)
+  tried-there : j < transitionsAt b → tried (monitorFrom b offsets) j k c ≡ triedFrom b (getD offsets j 0) k c
+  unfolding monitorFrom tried bind
+  tried-there h = rw (getElem-tab (λ i. transitionFrom b (getD offsets i 0)) (transitionsAt b) j h)
 
-  pub fires-none : (at : ℕ) → j < transitionsAt b → at ≡ getD offsets j 0 → enabled (transitionFrom b at) k c ≡ false → fires (monitorFrom b offsets) j k c ≡ none
-  fires-none at h e t =
-      fires-there h
-      ∙ ap (λ (x : ℕ). cond (enabled (transitionFrom b x) k c) (some (afterFrom b x c)) none) (sym e)
-      ∙ ap (λ (t : Bool). cond t (some (afterFrom b at c)) none) t
+  -- there is no transition of that number
+  pub tried-past : transitionsAt b ≤ j → tried (monitorFrom b offsets) j k c ≡ none
+  unfolding monitorFrom tried bind
+  tried-past h = rw (getElem-tab-past (λ i. transitionFrom b (getD offsets i 0)) (transitionsAt b) j h)
+
+  pub tried-at : (at : ℕ) → j < transitionsAt b → at ≡ getD offsets j 0 → triedFrom b at k c ≡ tried (monitorFrom b offsets) j k c
+  tried-at at h e = ap (λ (x : ℕ). triedFrom b x k c) e ∙ sym (tried-there h)
+
+  -- a transition fires just where it answers yes
+  yes-enabled : (t : Transition) → isAnswer Yes (cond (eqb (t .source) (c .state) && eqb (t .trigger) k) (some (readiness (t .guard) (c .variables) (c .clocks))) none) ≡ enabled t k c
+  yes-enabled t = by (eqb (t .source) (c .state)) (eqb (t .trigger) k)
+    where
+      by : (s u : Bool) → isAnswer Yes (cond (s && u) (some (readiness (t .guard) (c .variables) (c .clocks))) none) ≡ s && u && holds (t .guard) (c .variables) (c .clocks)
+      by true true = yes-holds (t .guard) (c .variables) (c .clocks)
+      by true false = refl
+      by false u = refl
+
+  fires-by : (ready : Bool) → isAnswer Yes (tried (monitorFrom b offsets) j k c) ≡ ready → fires (monitorFrom b offsets) j k c ≡ cond ready (some (afterFrom b (getD offsets j 0) c)) none
+  fires-by ready e = on (decLt j (transitionsAt b))
+    where
+      on : Dec (j < transitionsAt b) → fires (monitorFrom b offsets) j k c ≡ cond ready (some (afterFrom b (getD offsets j 0) c)) none
+      on (yes h) =
+          fires-there h
+          ∙ ap (λ (t : Bool). cond t (some (afterFrom b (getD offsets j 0) c)) none)
+          (sym (yes-enabled (transitionFrom b (getD offsets j 0))) ∙ ap (isAnswer Yes) (sym (tried-there h)) ∙ e)
+      on (no h) =
+          let past : transitionsAt b ≤ j = omega arith in
+          fires-past past ∙ ap (λ (t : Bool). cond t (some (afterFrom b (getD offsets j 0) c)) none) (ap (isAnswer Yes) (sym (tried-past past)) ∙ e)
+
+  pub fires-some : (at : ℕ) (d : Config) → isAnswer Yes (tried (monitorFrom b offsets) j k c) ≡ true → at ≡ getD offsets j 0 → d ≡ afterFrom b at c → fires (monitorFrom b offsets) j k c ≡ some d
+  fires-some at d t e g = fires-by true t ∙ ap {B = Option Config} (λ (x : ℕ). some (afterFrom b x c)) (sym e) ∙ ap {B = Option Config} some (sym g)
+
+  pub fires-none : isAnswer Yes (tried (monitorFrom b offsets) j k c) ≡ false → fires (monitorFrom b offsets) j k c ≡ none
+  fires-none t = fires-by false t
 
 -- the tests of a record's transition, in the order of the code
 
-and-no : (s g : Bool) → s && false && g ≡ false
-and-no true g = refl
-and-no false g = refl
+and-no : (s : Bool) → s && false ≡ false
+and-no true = refl
+and-no false = refl
 
 module _ (b : List ℕ) (at k : ℕ) (c : Config) where
-  pub not-from : (byteAt b at ≡ c .state → ⊥) → false ≡ enabled (transitionFrom b at) k c
+  answering : Bool → Option Readiness
+  answering fits = cond fits (some (readiness (guardFrom b at) (c .variables) (c .clocks))) none
+
+  pub not-from : (byteAt b at ≡ c .state → ⊥) → none ≡ triedFrom b at k c
   unfolding transitionFrom
   not-from h = rw (ne-eqb (byteAt b at) (c .state) h)
 
-  pub not-on : (byteAt b (at + 2) ≡ k → ⊥) → false ≡ enabled (transitionFrom b at) k c
-  unfolding transitionFrom
-  not-on h = rw (ne-eqb (byteAt b (at + 2)) k h) (sym (and-no (eqb (byteAt b at) (c .state)) (holds (guardFrom b at) (c .variables) (c .clocks))))
+  pub not-on : (byteAt b (at + 2) ≡ k → ⊥) → none ≡ triedFrom b at k c
+  unfolding transitionFrom answering
+  not-on h = rw (ne-eqb (byteAt b (at + 2)) k h) (ap answering (sym (and-no (eqb (byteAt b at) (c .state)))))
 
-  pub if-guard : byteAt b at ≡ c .state → byteAt b (at + 2) ≡ k → holds (guardFrom b at) (c .variables) (c .clocks) ≡ enabled (transitionFrom b at) k c
+  pub if-guard : byteAt b at ≡ c .state → byteAt b (at + 2) ≡ k → some (readiness (guardFrom b at) (c .variables) (c .clocks)) ≡ triedFrom b at k c
   unfolding transitionFrom
   if-guard e g = rw (eq-eqb (byteAt b at) (c .state) e, eq-eqb (byteAt b (at + 2)) k g)
 
-  pub guard-with : (variables clocks length : ℕ) (r : Bool) → variables ≡ variablesAt b → clocks ≡ clocksAt b → length ≡ guardLengthAt b at →
-      r ≡ holds (guardOf (guardAt guardLimit variables clocks b (at + 7) (at + 7 + length))) (c .variables) (c .clocks) → r ≡ holds (guardFrom b at) (c .variables) (c .clocks)
+  pub guard-with : (variables clocks length : ℕ) (r : Readiness) → variables ≡ variablesAt b → clocks ≡ clocksAt b → length ≡ guardLengthAt b at →
+      r ≡ readiness (guardOf (guardAt guardLimit variables clocks b (at + 7) (at + 7 + length))) (c .variables) (c .clocks) → r ≡ readiness (guardFrom b at) (c .variables) (c .clocks)
   unfolding guardFrom
   guard-with variables clocks length r ev ec el e = cc
 

@@ -1,18 +1,22 @@
 -- The monitor of a table's bytes, given where the transition records start. Of a sound table it is the monitor that the table describes.
 use Prim.Native.Nat.{ℕ, _+_, min}
 use mathlib.Core.List.{List, []}
-use mathlib.Core.Bool.{true, false, cond}
+use mathlib.Core.Bool.{true, false, cond, _&&_}
 use mathlib.Core.Option.{Option, none, some}
 use lib.ListN.{getD}
 use lib.Dec.{eqb}
 use Rattle.model.specs.Limits.{transitionLimit, guardLimit}
 use Rattle.model.specs.Bytes.{byteAt, tab, padded}
 use Rattle.model.specs.Guard.{Guard, guardAt, guardOf}
+use Rattle.model.specs.Readiness.{readiness}
 use Rattle.model.specs.Monitor.{Monitor, Transition, after}
+use Rattle.model.specs.declared.Readiness.{Readiness}
 use Rattle.model.specs.Kinds.{versionAt, kindAt, deviceAt}
 use Rattle.model.specs.Table.{statesAt, variablesAt, clocksAt, kindsAt, transitionsAt, guardLengthAt, transitionAt}
 use Rattle.model.specs.declared.Config.{Config}
 use Rattle.monitor.specs.declared.Fired.{Fired}
+use Rattle.monitor.specs.declared.Attempt.{Attempt}
+use Rattle.monitor.specs.declared.Attempt.the-variants.{Unfit, Answer}
 
 -- what a firing answers, tried from the configuration c; unfired, c stands there
 abbrev pub firing : Config → Option Config → Fired
@@ -21,6 +25,11 @@ firing c (some d) = record { fired = true; to = d }
 
 abbrev pub firedOf : Fired → Option Config
 firedOf f = cond (f .fired) (some (f .to)) none
+
+-- the answer of a transition, none if it is unfit
+abbrev pub attemptOf : Attempt → Option Readiness
+attemptOf Unfit = none
+attemptOf (Answer a) = some a
 
 -- the guard, and the transition, whose record starts at an offset
 
@@ -54,6 +63,12 @@ monitorFrom b offsets =
 -- where the transition records start: as many as the table counts, at most the limit, and zeros behind them
 unfoldable pub offsetsOf : List ℕ → List ℕ
 offsetsOf b = padded transitionLimit (tab (transitionAt b) (min (transitionsAt b) transitionLimit))
+
+-- what the transition whose record starts at an offset answers to a packet of kind k
+abbrev pub triedFrom : List ℕ → ℕ → ℕ → Config → Option Readiness
+triedFrom b at k c =
+    let t = transitionFrom b at in
+    cond (eqb (t .source) (c .state) && eqb (t .trigger) k) (some (readiness (t .guard) (c .variables) (c .clocks))) none
 
 -- the configuration after the transition whose record starts at an offset
 abbrev pub afterFrom : List ℕ → ℕ → Config → Config

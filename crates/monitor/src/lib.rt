@@ -1,9 +1,10 @@
 // The monitor, straight from a table's bytes: which transition fires, and what a kind's record says. Each function takes any bytes.
-use guard::guard_holds;
+use guard::guard_answer;
 use kinds::device_at;
 use kinds::record_at;
 use kinds::transitions_at;
 use model::Config;
+use model::Readiness;
 use model::TRANSITION_LIMIT;
 use wire::byte;
 use wire::short;
@@ -13,15 +14,24 @@ ghost use mathlib.Core.Bool.{cond};
 ghost use Prim.Native.Nat.{ℕ, _+_, _%_, _<_, min};
 ghost use lib.Dec.{eqb};
 ghost use Rattle.model.specs.Limits.{transitionLimit};
-ghost use Rattle.model.specs.Guard.{holds};
-ghost use Rattle.model.specs.Monitor.{changed, enabled, fires, toUnit, airtime, device};
+ghost use Rattle.model.specs.Readiness.{readiness};
+ghost use Rattle.model.specs.Monitor as Monitor;
+ghost use Rattle.model.specs.Monitor.{changed, fires, toUnit, airtime, device};
+ghost use Rattle.model.specs.Pairs.{isAnswer};
+ghost use Rattle.model.specs.declared.Readiness.the-variants.{Yes};
 ghost use Rattle.model.specs.Table.{transitionsAt};
-ghost use Rattle.monitor.specs.From.{firing, guardFrom, transitionFrom, monitorFrom, offsetsOf, afterFrom};
+ghost use Rattle.monitor.specs.From.{firing, attemptOf, guardFrom, triedFrom, monitorFrom, offsetsOf, afterFrom};
 
 // Whether a transition fired, and where it led; unfired, the configuration before.
 pub struct Fired {
     pub fired: bool,
     pub to: Config,
+}
+
+// What a transition answers to a packet: its guard's answer; unfit if it is of another kind or from another state, or the table has no such transition.
+pub enum Attempt {
+    Unfit,
+    Answer(Readiness),
 }
 
 // How many transitions the table counts, at most as many as a sound one has.
@@ -115,14 +125,14 @@ fn after_record(table: &[u8], at: usize, c: Config) -> Config
     }
 }
 
-fn guard_at_holds(table: &[u8], at: usize, c: Config) -> bool
+fn guard_at_answer(table: &[u8], at: usize, c: Config) -> Readiness
     requires { ⌜ at < 65536 ⌝ }
-    ensures { λ r. ⌜ r ≡ holds (guardFrom (now (table .entry)) at) (c .variables) (c .clocks) ⌝ }
+    ensures { λ r. ⌜ r ≡ readiness (guardFrom (now (table .entry)) at) (c .variables) (c .clocks) ⌝ }
 {
     let clocks = c.clocks;
     let start = at + 7;
     let end = start + byte(table, at + 6) as usize;
-    guard_holds(
+    guard_answer(
         table,
         start,
         end,
@@ -133,34 +143,51 @@ fn guard_at_holds(table: &[u8], at: usize, c: Config) -> bool
     )
 }
 
-fn is_enabled(table: &[u8], at: usize, kind: u8, c: Config) -> bool
+// The transition whose record is at an offset.
+fn record_tried(table: &[u8], at: usize, kind: u8, c: Config) -> Attempt
     requires { ⌜ at < 65536 ⌝ }
-    ensures { λ r. ⌜ r ≡ enabled (transitionFrom (now (table .entry)) at) kind c ⌝ }
+    ensures { λ r. ⌜ attemptOf r ≡ triedFrom (now (table .entry)) at kind c ⌝ }
 {
     if byte(table, at) != c.state {
-        return false;
+        return Attempt::Unfit;
     }
     if byte(table, at + 2) != kind {
-        return false;
+        return Attempt::Unfit;
     }
-    guard_at_holds(table, at, c)
+    Attempt::Answer(guard_at_answer(table, at, c))
 }
 
 // Transition j on a packet of a kind.
+pub fn tried<'a>(table: &'a [u8], offsets: &'a [u16], j: usize, kind: u8, c: Config) -> Attempt
+    ensures { λ r. ⌜ attemptOf r ≡ Monitor.tried (monitorFrom (now (table .entry)) (now (offsets .entry))) j kind c ⌝ }
+{
+    if byte(table, 7) as usize <= j {
+        return Attempt::Unfit;
+    }
+    record_tried(table, short(offsets, j) as usize, kind, c)
+}
+
+fn is_yes(t: Attempt) -> bool
+    ensures { λ r. ⌜ r ≡ isAnswer Yes (attemptOf t) ⌝ }
+{
+    let Attempt::Answer(answer) = t else {
+        return false;
+    };
+    match answer {
+        Readiness::Yes => true,
+        Readiness::NotYet => false,
+        Readiness::NoMore => false,
+    }
+}
+
+// The same transition, fired where its guard answers yes.
 pub fn fire<'a>(table: &'a [u8], offsets: &'a [u16], j: usize, kind: u8, c: Config) -> Fired
     ensures { λ r. ⌜ r ≡ firing c (fires (monitorFrom (now (table .entry)) (now (offsets .entry))) j kind c) ⌝ }
 {
-    if byte(table, 7) as usize <= j {
-        return Fired {
-            fired: false,
-            to: c,
-        };
-    }
-    let at = short(offsets, j) as usize;
-    if is_enabled(table, at, kind, c) {
+    if is_yes(tried(table, offsets, j, kind, c)) {
         return Fired {
             fired: true,
-            to: after_record(table, at, c),
+            to: after_record(table, short(offsets, j) as usize, c),
         };
     }
     Fired {

@@ -1,7 +1,7 @@
 // Document 01's table of numbers, and those of document 02's requests: the number, second and third value of each answer.
 ghost use mathlib.Core.Path.{_≡_};
-ghost use Rattle.model.specs.Numbers.{values, refusalValues, readingValues, writingValues, checkingValues, verdictValues};
-ghost use Rattle.numbers.specs.Told.{told};
+ghost use Rattle.model.specs.Numbers.{values, refusalValues, readingValues, writingValues, checkingValues, verdictValues, counts, verdictCounts};
+ghost use Rattle.numbers.specs.Told.{told, verdictTold, countsTold};
 use model::Checking;
 use model::Reading;
 use model::Refusal;
@@ -14,6 +14,16 @@ pub struct Answer {
     pub number: u64,
     pub second: u64,
     pub third: u64,
+}
+
+// A verdict as they see it: besides, the two counts of a rejection, 0 where nothing is rejected.
+#[repr(C)]
+pub struct VerdictAnswer {
+    pub number: u64,
+    pub second: u64,
+    pub third: u64,
+    pub not_yet: u64,
+    pub no_more: u64,
 }
 
 fn numbered(number: u64, second: u64, third: u64) -> Answer
@@ -80,13 +90,30 @@ pub fn checking_numbers(checking: Checking) -> Answer
     }
 }
 
-pub fn verdict_numbers(verdict: Verdict) -> Answer
-    ensures { λ r. ⌜ told r ≡ verdictValues verdict ⌝ }
+fn with_counts(answer: Answer, early: u64, late: u64) -> VerdictAnswer
+    ensures { λ r. ⌜ (verdictTold r ≡ told answer) × (countsTold r ≡ counts early late) ⌝ }
+{
+    VerdictAnswer {
+        number: answer.number,
+        second: answer.second,
+        third: answer.third,
+        not_yet: early,
+        no_more: late,
+    }
+}
+
+pub fn verdict_numbers(verdict: Verdict) -> VerdictAnswer
+    ensures { λ r. ⌜ (verdictTold r ≡ verdictValues verdict) × (countsTold r ≡ verdictCounts verdict) ⌝ }
 {
     match verdict {
-        Verdict::Accepted { cost, rows } => numbered(0, cost, rows),
-        Verdict::Rejected { cost, instant } => numbered(1, cost, instant),
-        Verdict::Exhausted { budget, instant } => numbered(2, budget, instant),
-        Verdict::Refused(refusal) => refusal_numbers(refusal),
+        Verdict::Accepted { cost, rows } => with_counts(numbered(0, cost, rows), 0, 0),
+        Verdict::Rejected {
+            cost,
+            instant,
+            not_yet,
+            no_more,
+        } => with_counts(numbered(1, cost, instant), not_yet, no_more),
+        Verdict::Exhausted { budget, instant } => with_counts(numbered(2, budget, instant), 0, 0),
+        Verdict::Refused(refusal) => with_counts(refusal_numbers(refusal), 0, 0),
     }
 }

@@ -58,7 +58,7 @@ fn ticked(h: Shape, c: Config, air: u8) -> Situation
     }
 }
 
-fn config_of(s: Situation) -> Config
+pub fn config_of(s: Situation) -> Config
     ensures { λ r. ⌜ r ≡ configOf s ⌝ }
 {
     let clocks = s.clocks;

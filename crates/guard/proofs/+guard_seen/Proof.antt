@@ -88,11 +88,11 @@ guard-seen-sub-guard-seen-3 t c = search needs
 guard-seen-guard-seen-requires-3 : (t : ℕ) → guard-seen-lts.Need-guard-seen-requires-3 (byte-reads.Asked, byte-reads.Learnt, guard-seen-below t, guard-seen.Post, negated-reads.Asked, negated-reads.Learnt, joined-reads.Asked, joined-reads.Learnt, leaf-seen-reads.Asked, leaf-seen-reads.Learnt) (guard-seen-at t) guard-seen.Post
 guard-seen-guard-seen-requires-3 t c κs = let a = c .before .before .before .before .before .before .before .before .before .before .before .args in
     let p = c .before .first .given .0 in
-    let e : c .before .before .before .guard-seen2 .result ≡ UpTo (p .0) (p .1 .0) (p .1 .1 .0) = cc in (
+    let e : c .before .before .before .guard-seen2 .result ≡ UpTo (p .0) (p .1 .0) (p .1 .1 .0) (p .1 .1 .1 .0) = cc in (
       omega (
         arith,
         c .before .before .before .before .before .before .before .before .before .before .before .pre .0,
-        seen-past (a .q .variables) (a .q .clocks) (a .b .now) (a .end) (a .q .clock) (a .q .mask) (a .c .now) (a .depth - 1) (a .at + 1) (p .0) (p .1 .1 .0) (p .1 .0) (sym (c .before .before .before .guard-seen2 .ensures) ∙ e),
+        seen-past (a .q .variables) (a .q .clocks) (a .b .now) (a .end) (a .q .clock) (a .q .mask) (a .c .now) (a .depth - 1) (a .at + 1) (p .0) (p .1 .1 .1 .0) (p .1 .0) (p .1 .1 .0) (sym (c .before .before .before .guard-seen2 .ensures) ∙ e),
       ),
       tt,
     )
@@ -103,14 +103,14 @@ guard-seen-joined-requires t c κs = tt
 guard-seen-returns-5 : (t : ℕ) → guard-seen-lts.Need-returns-5 (byte-reads.Asked, byte-reads.Learnt, guard-seen-below t, guard-seen.Post, negated-reads.Asked, negated-reads.Learnt, joined-reads.Asked, joined-reads.Learnt, leaf-seen-reads.Asked, leaf-seen-reads.Learnt) (guard-seen-at t) guard-seen.Post
 guard-seen-returns-5 t c = let a = c .before .before .before .before .before .before .before .before .before .before .before .before .before .args in
     let p = c .before .before .before .first .given .0 in
-    let e : c .before .before .before .before .before .guard-seen2 .result ≡ UpTo (p .0) (p .1 .0) (p .1 .1 .0) = cc in
+    let e : c .before .before .before .before .before .guard-seen2 .result ≡ UpTo (p .0) (p .1 .0) (p .1 .1 .0) (p .1 .1 .1 .0) = cc in
     let code = sym (c .before .before .before .before .before .before .before .before .byte .ensures .0) ∙ c .before .before .before .before .before .before .if4 .taken in
     let at : ℕ → GuardRead = λ k. guardAt (a .depth - 1) (a .q .variables) (a .q .clocks) (a .b .now) k (a .end) in
     rw (
       guard-and (a .q .variables) (a .q .clocks) (a .b .now) (a .at) (a .end) (a .depth) (a .depth - 1) (omega arith) (omega arith) code,
-      seen-and (a .q .clock) (a .q .mask) (a .c .now) (at (a .at + 1)) at (p .0) (p .1 .1 .0) (p .1 .0) (sym (c .before .before .before .before .before .guard-seen2 .ensures) ∙ e),
+      seen-and (a .q .clock) (a .q .mask) (a .c .now) (at (a .at + 1)) at (p .0) (p .1 .1 .1 .0) (p .1 .0) (p .1 .1 .0) (sym (c .before .before .before .before .before .guard-seen2 .ensures) ∙ e),
     )
-    (c .joined .ensures ∙ ap (both (p .1 .0) (p .1 .1 .0)) (c .before .guard-seen3 .ensures))
+    (c .joined .ensures ∙ ap (both (p .1 .0) (p .1 .1 .0) (p .1 .1 .1 .0)) (c .before .guard-seen3 .ensures))
 
 guard-seen-leaf-seen-requires : (t : ℕ) → guard-seen-lts.Need-leaf-seen-requires (byte-reads.Asked, byte-reads.Learnt, guard-seen-below t, guard-seen.Post, negated-reads.Asked, negated-reads.Learnt, joined-reads.Asked, joined-reads.Learnt, leaf-seen-reads.Asked, leaf-seen-reads.Learnt) (guard-seen-at t) guard-seen.Post
 guard-seen-leaf-seen-requires t c κs = search needs

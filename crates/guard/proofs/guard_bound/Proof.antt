@@ -29,8 +29,8 @@ returns-2 : tie.Need-returns-2
 returns-2 c = let a = c .before .before .before .before .before .before .args in
     let x = guardAt guardLimit (a .variables) (a .clocks) (a .b .now) (a .at) (a .end) in
     let p = c .before .all .given .0 in
-    let e : c .before .before .before .guard-seen .result ≡ UpTo (p .0) (p .1 .0) (p .1 .1 .0) = cc in
-    sym (one-bound (a .clock) 0 (0 ∷ 0 ∷ []) x (p .0) (p .1 .1 .0) (p .1 .0) (sym (c .before .before .before .guard-seen .ensures) ∙ e))
+    let e : c .before .before .before .guard-seen .result ≡ UpTo (p .0) (p .1 .0) (p .1 .1 .0) (p .1 .1 .1 .0) = cc in
+    sym (one-bound (a .clock) 0 (0 ∷ 0 ∷ []) x (p .0) (p .1 .1 .1 .0) (p .1 .0) (p .1 .1 .0) (sym (c .before .before .before .guard-seen .ensures) ∙ e))
 
 pub guard-bound-spec : {M : Type 1} → statement M
 guard-bound-spec =

@@ -17,10 +17,13 @@ byte-requires c κs = search needs
 add-t9 : tie.Need-add-t9
 add-t9 c = search needs
 
+constant-requires : tie.Need-constant-requires
+constant-requires c κs = search needs
+
 returns : tie.Need-returns
 unfolding holds largest
-returns c = let a = c .before .before .before .before .args in
-    rw (leaf-always (a .q .variables) (a .q .clocks) (a .b .now) (a .at) (a .end) (sym (c .before .byte .ensures .0) ∙ c .if1 .taken))
+returns c = let a = c .before .before .before .before .before .args in
+    rw (leaf-always (a .q .variables) (a .q .clocks) (a .b .now) (a .at) (a .end) (sym (c .before .before .byte .ensures .0) ∙ c .before .if1 .taken), c .constant .ensures)
 
 has-variable-requires : tie.Need-has-variable-requires
 has-variable-requires c κs = search needs
@@ -34,16 +37,19 @@ byte-requires-2 c κs = search needs
 has-bit-requires : tie.Need-has-bit-requires
 has-bit-requires c κs = search needs
 
-add-t12 : tie.Need-add-t12
-add-t12 c = let a = c .before .before .before .before .before .before .before .before .before .args in
+add-t13 : tie.Need-add-t13
+add-t13 c = let a = c .before .before .before .before .before .before .before .before .before .args in
     omega (arith, leb-true (a .at + 2) (a .end) (and-left _ (ltb (byteAt (a .b .now) (a .at + 1)) (a .q .variables)) (sym (c .before .before .before .has-variable .ensures) ∙ c .before .before .if3 .taken)))
+
+constant-requires-2 : tie.Need-constant-requires-2
+constant-requires-2 c κs = search needs
 
 returns-2 : tie.Need-returns-2
 unfolding holds largest
-returns-2 c = let a = c .before .before .before .before .before .before .before .before .before .args in
-    let e = sym (c .before .before .before .before .before .before .byte .ensures .0) ∙ c .before .before .before .before .if2 .taken in
-    let h = sym (c .before .before .before .has-variable .ensures) ∙ c .before .before .if3 .taken in
-    rw (leaf-variable (a .q .variables) (a .q .clocks) (a .b .now) (a .at) (a .end) e h, ← c .before .byte2 .ensures .0, c .has-bit .ensures)
+returns-2 c = let a = c .before .before .before .before .before .before .before .before .before .before .args in
+    let e = sym (c .before .before .before .before .before .before .before .byte .ensures .0) ∙ c .before .before .before .before .before .if2 .taken in
+    let h = sym (c .before .before .before .before .has-variable .ensures) ∙ c .before .before .before .if3 .taken in
+    rw (leaf-variable (a .q .variables) (a .q .clocks) (a .b .now) (a .at) (a .end) e h, ← c .before .before .byte2 .ensures .0, c .constant2 .ensures, c .before .has-bit .ensures)
 
 returns-3 : tie.Need-returns-3
 returns-3 c = let a = c .before .before .before .before .before .before .before .args in
@@ -93,12 +99,14 @@ leaf-seen-spec =
     (tie.spec
     byte-requires
     add-t9
+    constant-requires
     returns
     has-variable-requires
     add-byte
     byte-requires-2
     has-bit-requires
-    add-t12
+    add-t13
+    constant-requires-2
     returns-2
     returns-3
     has-clock-requires

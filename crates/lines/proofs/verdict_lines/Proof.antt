@@ -31,20 +31,17 @@ row-lines-requires c κs =
 enum-known-verdict-2 : tie.Need-enum-known-verdict-2
 enum-known-verdict-2 c = search needs
 
+rejected-line-requires : tie.Need-rejected-line-requires
+rejected-line-requires c κs = search needs
+
+enum-known-verdict-3 : tie.Need-enum-known-verdict-3
+enum-known-verdict-3 c = search needs
+
 slice-aggregate-short-line-2 : tie.Need-slice-aggregate-short-line-2
 slice-aggregate-short-line-2 c = search needs
 
 short-line-requires-2 : tie.Need-short-line-requires-2
 short-line-requires-2 c κs = search needs
-
-enum-known-verdict-3 : tie.Need-enum-known-verdict-3
-enum-known-verdict-3 c = search needs
-
-slice-aggregate-short-line-3 : tie.Need-slice-aggregate-short-line-3
-slice-aggregate-short-line-3 c = search needs
-
-short-line-requires-3 : tie.Need-short-line-requires-3
-short-line-requires-3 c κs = search needs
 
 enum-known-verdict-4 : tie.Need-enum-known-verdict-4
 enum-known-verdict-4 c = search needs
@@ -52,11 +49,11 @@ enum-known-verdict-4 c = search needs
 refusal-numbers-requires : tie.Need-refusal-numbers-requires
 refusal-numbers-requires c κs = search needs
 
-slice-aggregate-short-line-4 : tie.Need-slice-aggregate-short-line-4
-slice-aggregate-short-line-4 c = search needs
+slice-aggregate-short-line-3 : tie.Need-slice-aggregate-short-line-3
+slice-aggregate-short-line-3 c = search needs
 
-short-line-requires-4 : tie.Need-short-line-requires-4
-short-line-requires-4 c κs = search needs
+short-line-requires-3 : tie.Need-short-line-requires-3
+short-line-requires-3 c κs = search needs
 
 same-length : tie.Need-same-length
 same-length c = search needs
@@ -74,9 +71,9 @@ same-length-2 c = search needs
 returns-2 : tie.Need-returns-2
 unfolding verdictLines
 returns-2 c =
-    let a = c .before .before .before .before .before .before .before .before .before .before .args in
-    subst (λ (v : Verdict). Wrote (verdictLines v (rowsStanding v (a .witness .now))) (a .at) (a .text .now) (c .before .before .short-line2 .last .1 .1 .1 .0) (c .before .before .short-line2 .result))
-    (sym (c .before .before .before .before .before .before .verdict2 .given .1)) (c .before .before .short-line2 .ensures)
+    let a = c .before .before .before .before .before .before .before .before .before .args in
+    subst (λ (v : Verdict). Wrote (verdictLines v (rowsStanding v (a .witness .now))) (a .at) (a .text .now) (c .before .before .rejected-line .last .1 .1 .1 .1 .0) (c .before .before .rejected-line .result))
+    (sym (c .before .before .before .before .before .verdict2 .given .1)) (c .before .before .rejected-line .ensures)
 
 same-length-3 : tie.Need-same-length-3
 same-length-3 c = search needs
@@ -85,8 +82,8 @@ returns-3 : tie.Need-returns-3
 unfolding verdictLines
 returns-3 c =
     let a = c .before .before .before .before .before .before .before .before .before .before .args in
-    subst (λ (v : Verdict). Wrote (verdictLines v (rowsStanding v (a .witness .now))) (a .at) (a .text .now) (c .before .before .short-line3 .last .1 .1 .1 .0) (c .before .before .short-line3 .result))
-    (sym (c .before .before .before .before .before .before .verdict3 .given .1)) (c .before .before .short-line3 .ensures)
+    subst (λ (v : Verdict). Wrote (verdictLines v (rowsStanding v (a .witness .now))) (a .at) (a .text .now) (c .before .before .short-line2 .last .1 .1 .1 .0) (c .before .before .short-line2 .result))
+    (sym (c .before .before .before .before .before .before .verdict3 .given .1)) (c .before .before .short-line2 .ensures)
 
 same-length-4 : tie.Need-same-length-4
 same-length-4 c = search needs
@@ -95,10 +92,10 @@ returns-4 : tie.Need-returns-4
 unfolding verdictLines
 returns-4 c =
     let a = c .before .before .before .before .before .before .before .before .before .before .before .args in
-    subst (λ (v : Verdict). Wrote (verdictLines v (rowsStanding v (a .witness .now))) (a .at) (a .text .now) (c .before .before .short-line4 .last .1 .1 .1 .0) (c .before .before .short-line4 .result))
+    subst (λ (v : Verdict). Wrote (verdictLines v (rowsStanding v (a .witness .now))) (a .at) (a .text .now) (c .before .before .short-line3 .last .1 .1 .1 .0) (c .before .before .short-line3 .result))
     (sym (c .before .before .before .before .before .before .before .verdict4 .given .1))
-    (subst (λ (x : Values). Wrote (line refusedWord (x .number) (x .second)) (a .at) (a .text .now) (c .before .before .short-line4 .last .1 .1 .1 .0) (c .before .before .short-line4 .result))
-    (c .before .before .before .before .before .refusal-numbers .ensures) (c .before .before .short-line4 .ensures))
+    (subst (λ (x : Values). Wrote (line refusedWord (x .number) (x .second)) (a .at) (a .text .now) (c .before .before .short-line3 .last .1 .1 .1 .0) (c .before .before .short-line3 .result))
+    (c .before .before .before .before .before .refusal-numbers .ensures) (c .before .before .short-line3 .ensures))
 
 pub verdict-lines-spec : {M : Type 1} → statement M
 verdict-lines-spec =
@@ -109,15 +106,14 @@ verdict-lines-spec =
     short-line-requires
     row-lines-requires
     enum-known-verdict-2
+    rejected-line-requires
+    enum-known-verdict-3
     slice-aggregate-short-line-2
     short-line-requires-2
-    enum-known-verdict-3
-    slice-aggregate-short-line-3
-    short-line-requires-3
     enum-known-verdict-4
     refusal-numbers-requires
-    slice-aggregate-short-line-4
-    short-line-requires-4
+    slice-aggregate-short-line-3
+    short-line-requires-3
     same-length
     returns
     same-length-2

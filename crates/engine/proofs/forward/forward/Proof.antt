@@ -1,9 +1,10 @@
 -- `forward::forward` meets its contract. The invariant: what is known after t instants.
 use Prim.Native.Nat.{_-_}
 use native.Mathlib.Omega.{arith}
-use mathlib.Core.Path.{_∙_}
+use mathlib.Core.Path.{sym, subst, _∙_}
 use borrow.Author.Needs.{needs}
-use Rattle.engine.proofs.ForwardPass.{Passing, started, through, cost-fits, turn, spent, emptied, again}
+use Rattle.engine.specs.Forwarding.{Ended}
+use Rattle.engine.proofs.ForwardPass.{Passing, started, through, cost-fits, turn, spent, emptying, emptied, again}
 use Rattle.engine.proofs.forward.forward.Statement.{statement}
 use Rattle.engine.proofs.forward.forward.Tie as tie
 
@@ -42,17 +43,17 @@ instant-requires c κs =
     let at-loop = c .before .before .before .before in
     turn (at-loop .before .before .before .before .before .before .before .before .before .pre) (at-loop .loop .inv) (omega arith) (at-loop .before .before .before .put .ensures .size)
 
+emptied-requires : tie.Need-emptied-requires Inv-loop μ-loop
+emptied-requires c κs = emptying (c .before .before .before .before .before .before .before .before .before .before .before .before .before .before .before .before .before .before .pre) (c .before .before .before .before .before .before .before .before .before .loop .inv) (omega arith) (omega arith) (c .before .before .before .before .instant .ensures)
+
 same-length-2 : tie.Need-same-length-2 Inv-loop μ-loop
 same-length-2 c = search needs
 
 returns-2 : tie.Need-returns-2 Inv-loop μ-loop
-returns-2 c =
-    let filled = c .before .before .before in
-    let at-loop = filled .before .before .before .before .before in
-    let given = at-loop .before .before .before .before .before .before .before .before .before .pre in (
-      filled .instant .ensures .long ∙ at-loop .loop .inv .long ∙ at-loop .before .before .before .put .ensures .size,
-      emptied given (at-loop .loop .inv) (omega arith) (omega arith) (filled .instant .ensures) (c .if3 .taken),
-    )
+returns-2 c = (
+  c .before .before .before .before .before .instant .ensures .long ∙ c .before .before .before .before .before .before .before .before .before .before .loop .inv .long ∙ c .before .before .before .before .before .before .before .before .before .before .before .before .before .put .ensures .size,
+  subst (Ended _ _ _ _ _ _) (sym (c .emptied .ensures)) (emptied (c .before .before .before .before .before .before .before .before .before .before .before .before .before .before .before .before .before .before .before .pre) (c .before .before .before .before .before .before .before .before .before .before .loop .inv) (omega arith) (omega arith) (c .before .before .before .before .before .instant .ensures) (c .before .before .if3 .taken)),
+)
 
 passed-requires : tie.Need-passed-requires Inv-loop μ-loop
 passed-requires c κs = search needs
@@ -93,6 +94,7 @@ forward-spec =
     same-length
     returns
     instant-requires
+    emptied-requires
     same-length-2
     returns-2
     passed-requires

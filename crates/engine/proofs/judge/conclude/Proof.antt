@@ -33,7 +33,7 @@ returns : tie.Need-returns
 returns c = spent _ _ _ _ _ _ _ _ _ (c .before .before .before .before .before .before .before .before .pre) _ (c .before .outcome .given .1)
 
 returns-2 : tie.Need-returns-2
-returns-2 c = emptied _ _ _ _ _ _ _ _ _ (c .before .before .before .before .before .before .before .before .pre) _ _ (c .before .outcome2 .given .1)
+returns-2 c = emptied _ _ _ _ _ _ _ _ _ (c .before .before .before .before .before .before .before .before .pre) _ _ _ _ (c .before .outcome2 .given .1)
 
 same-length : tie.Need-same-length
 same-length c = search needs

@@ -1,8 +1,10 @@
-use mathlib.Core.Path.{sym, _∙_}
+use mathlib.Core.Path.{sym, ap, _∙_}
+use mathlib.Core.Option.{Option, some}
+use Rattle.model.specs.declared.Readiness.{Readiness}
 use Rattle.monitor.proofs.Records.{not-from, not-on, if-guard}
 use borrow.Author.Needs.{needs}
-use Rattle.monitor.proofs.is_enabled.Statement.{statement}
-use Rattle.monitor.proofs.is_enabled.Tie as tie
+use Rattle.monitor.proofs.record_tried.Statement.{statement}
+use Rattle.monitor.proofs.record_tried.Tie as tie
 
 byte-requires : tie.Need-byte-requires
 byte-requires c κs = search needs
@@ -23,18 +25,17 @@ returns-2 c =
     let a = c .before .before .before .before .before .before .args in
     not-on (a .table .now) (a .at) (a .kind) (a .c) (λ e. c .if2 .taken (c .before .byte2 .ensures .0 ∙ e))
 
-guard-at-holds-requires : tie.Need-guard-at-holds-requires
-guard-at-holds-requires c κs = search needs
+guard-at-answer-requires : tie.Need-guard-at-answer-requires
+guard-at-answer-requires c κs = search needs
 
 returns-3 : tie.Need-returns-3
 returns-3 c =
     let a = c .before .before .before .before .before .before .before .args in
-    c .guard-at-holds .ensures ∙ if-guard (a .table .now) (a .at) (a .kind) (a .c)
-    (sym (c .before .before .before .before .before .byte .ensures .0) ∙ c .before .before .before .if1 .left)
-    (sym (c .before .before .byte2 .ensures .0) ∙ c .before .if2 .left)
+    ap {B = Option Readiness} some (c .guard-at-answer .ensures)
+    ∙ if-guard (a .table .now) (a .at) (a .kind) (a .c) (sym (c .before .before .before .before .before .byte .ensures .0) ∙ c .before .before .before .if1 .left) (sym (c .before .before .byte2 .ensures .0) ∙ c .before .if2 .left)
 
-pub is-enabled-spec : {M : Type 1} → statement M
-is-enabled-spec =
+pub record-tried-spec : {M : Type 1} → statement M
+record-tried-spec =
     tie.close
     (tie.spec
     byte-requires
@@ -42,5 +43,5 @@ is-enabled-spec =
     add-byte
     byte-requires-2
     returns-2
-    guard-at-holds-requires
+    guard-at-answer-requires
     returns-3)
