@@ -2,7 +2,7 @@
 
 use std::time::{Duration, Instant};
 
-use crate::answer::Answer;
+use crate::answer::Verdict;
 use crate::call::{Engine, ORDINARY};
 use crate::edition::Edition;
 use crate::situation::Space;
@@ -23,7 +23,7 @@ struct Desk {
 /// and on the processor alone, which other work on the computer changes less.
 #[derive(Default)]
 struct Timed {
-    answer: Option<Answer>,
+    answer: Option<Verdict>,
     room: Vec<u8>,
     wall: Vec<Duration>,
     processor: Vec<Duration>,
@@ -83,7 +83,7 @@ impl Desk {
     fn describe(&self, timed: &Timed) -> (String, bool) {
         let situations = table::read(&self.table).map_or(0, |it| Space::of(&it).count());
         let most = situations as u64 * u64::from(LAST_TIME);
-        let Some(Answer { number, second: cost, third: rows }) = timed.answer else {
+        let Some(Verdict { number, second: cost, third: rows, .. }) = timed.answer else {
             return (String::new(), false);
         };
         let share = 100 * cost / most.max(1);

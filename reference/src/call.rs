@@ -1,6 +1,6 @@
 //! A call of one of the five public functions with all that is lent to it, and its outcome.
 
-use crate::answer::Answer;
+use crate::answer::{Answer, Verdict};
 use crate::check::check_witness;
 use crate::edition::Edition;
 use crate::lent::Lent;
@@ -8,7 +8,7 @@ use crate::rewrite::{rewrite_recording, rewrite_table, rewrite_witness};
 use crate::validate::validate;
 
 /// Edition of the witness, table, recording, budget, scratch and room.
-pub type Validate = fn(Edition, &[u8], &[u8], u32, &mut [u8], &mut [u8]) -> Answer;
+pub type Validate = fn(Edition, &[u8], &[u8], u32, &mut [u8], &mut [u8]) -> Verdict;
 
 /// The five functions of a program: this one's, or those of the library behind C.
 #[derive(Clone, Copy)]
@@ -56,10 +56,10 @@ pub enum Call {
     },
 }
 
-/// The answer, and every lent byte as the call left it.
+/// The answer, with counts if it is a validation's, and every lent byte as the call left it.
 #[derive(Clone, Debug, PartialEq, Eq)]
 pub struct Outcome {
-    pub answer: Answer,
+    pub answer: Verdict,
     pub scratch: Vec<u8>,
     pub room: Vec<u8>,
     /// Whether all that was not lent is as it was.
@@ -77,20 +77,20 @@ impl Call {
         Outcome { answer, scratch, room, margins_kept }
     }
 
-    fn call(&self, engine: &Engine, scratch: &mut [u8], room: &mut [u8]) -> Answer {
+    fn call(&self, engine: &Engine, scratch: &mut [u8], room: &mut [u8]) -> Verdict {
         match self {
             Call::Validate { edition, table, recording, budget, .. } => {
                 (engine.validate)(*edition, table, recording, *budget, scratch, room)
             }
             Call::Check { edition, table, recording, witness } => {
-                (engine.check)(*edition, table, recording, witness)
+                (engine.check)(*edition, table, recording, witness).into()
             }
-            Call::RewriteTable { bytes, .. } => (engine.rewrite_table)(bytes, room),
+            Call::RewriteTable { bytes, .. } => (engine.rewrite_table)(bytes, room).into(),
             Call::RewriteRecording { table, bytes, .. } => {
-                (engine.rewrite_recording)(table, bytes, room)
+                (engine.rewrite_recording)(table, bytes, room).into()
             }
             Call::RewriteWitness { edition, bytes, .. } => {
-                (engine.rewrite_witness)(*edition, bytes, room)
+                (engine.rewrite_witness)(*edition, bytes, room).into()
             }
         }
     }

@@ -2,7 +2,7 @@
 
 use crate::answer::{settle, Answer, Refusal};
 use crate::edition::Edition;
-use crate::guard::Clocks;
+use crate::guard::{Clocks, Readiness};
 use crate::recording::{self, Heard, Recording};
 use crate::table::Table;
 use crate::witness::{self, in_form, Row, ADDED, KEPT, REMOVED};
@@ -96,7 +96,8 @@ impl<'a> Follower<'a> {
         }
         let clocks = self.last_reset.map(|reset| time - reset);
         let guard = self.table.guard(it);
-        if !guard.is_some_and(|guard| guard.holds(self.variables, &clocks)) {
+        let readiness = guard.map(|guard| guard.readiness(self.variables, &clocks));
+        if readiness != Some(Readiness::Yes) {
             return false;
         }
         self.state = it.to;

@@ -1,7 +1,8 @@
 //! Comparing another engine with this program on random calls.
 
 use crate::call::{Call, Engine, Outcome, ORDINARY};
-use crate::generate::{calls, Rng};
+use crate::generate::{calls, rejections, Rng};
+use crate::pair_tally::PairTally;
 
 /// Every file is shown whole; only a large scratch is cut. The seed brings it back.
 const MOST_SHOWN: usize = 100_000;
@@ -9,11 +10,14 @@ const MOST_SHOWN: usize = 100_000;
 /// long recording could take half an hour.
 const LARGE_SCRATCH: usize = 2_000_000;
 const FOR_LARGE: u32 = 10_000_000;
+/// Once in so many times the calls turn on the counts of a rejection.
+const REJECTIONS: usize = 3;
 
 /// How many calls were compared, by the number of the answer.
 #[derive(Default)]
 pub struct Tally {
     pub calls: u64,
+    pub pairs: PairTally,
     pub by_number: std::collections::BTreeMap<(&'static str, u64), u64>,
 }
 
@@ -33,7 +37,8 @@ pub fn compare(
     let mut rng = Rng::new(seed);
     let mut tally = Tally::default();
     while go_on(&tally) {
-        for call in calls(&mut rng) {
+        let calls = if rng.one_in(REJECTIONS) { rejections(&mut rng) } else { calls(&mut rng) };
+        for call in calls {
             if let Some(difference) = compare_call(other, affordable(call), &mut tally) {
                 return (tally, Some(difference));
             }
@@ -55,6 +60,9 @@ fn compare_call(other: &Engine, call: Call, tally: &mut Tally) -> Option<Box<Dif
     let ordinary = call.run(&ORDINARY);
     let theirs = call.run(other);
     tally.calls += 1;
+    if matches!((&call, ordinary.answer.number), (Call::Validate { .. }, 1)) {
+        tally.pairs.note(ordinary.answer.counts);
+    }
     *tally.by_number.entry((call.name(), ordinary.answer.number)).or_default() += 1;
     (ordinary != theirs).then(|| Box::new(Difference { call, ordinary, other: theirs }))
 }
@@ -65,7 +73,7 @@ impl Tally {
         for ((name, number), count) in &self.by_number {
             text.push_str(&format!("  {name}: answer {number}: {count}\n"));
         }
-        text
+        text + &self.pairs.line()
     }
 }
 

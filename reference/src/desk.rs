@@ -2,7 +2,7 @@
 
 use std::io::{self, Read, Write};
 
-use crate::answer::Answer;
+use crate::answer::{Counts, Verdict};
 use crate::edition::Edition;
 use crate::frame::big_endian;
 use crate::validate::validate;
@@ -33,8 +33,8 @@ pub fn report(input: &[u8]) -> String {
     let mut scratch = vec![0; SCRATCH];
     let mut room = vec![0; ROOM];
     let budget = u32::from_be_bytes(*budget);
-    let answer = validate(EDITION, table, recording, budget, &mut scratch, &mut room);
-    lines(answer, &room)
+    let verdict = validate(EDITION, table, recording, budget, &mut scratch, &mut room);
+    lines(verdict, &room)
 }
 
 /// The table is what its length states, or all there is.
@@ -46,11 +46,11 @@ fn split(files: &[u8]) -> (&[u8], &[u8]) {
     files.split_at(stated.min(files.len()))
 }
 
-fn lines(answer: Answer, room: &[u8]) -> String {
-    let Answer { number, second, third } = answer;
+fn lines(verdict: Verdict, room: &[u8]) -> String {
+    let Verdict { number, second, third, counts: Counts { not_yet, no_more } } = verdict;
     match number {
         0 => accepted(second, third, room),
-        1 => format!("rejected {second} {third}\n"),
+        1 => format!("rejected {second} {third} {not_yet} {no_more}\n"),
         2 => format!("exhausted {second} {third}\n"),
         _ => format!("refused {number} {second}\n"),
     }

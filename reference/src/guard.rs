@@ -3,6 +3,18 @@
 /// The values of both clocks; a clock that a table lacks is never asked for.
 pub type Clocks = [u32; 2];
 
+/// Whether a guard holds now, would hold after some wait, or neither.
+#[derive(Clone, Copy, Debug, PartialEq, Eq)]
+pub enum Readiness {
+    Yes,
+    NotYet,
+    NoMore,
+}
+
+/// The limits are bytes, so after this wait every clock is above them all, and no longer one
+/// changes anything.
+const LONGEST_WAIT: u32 = 256;
+
 #[derive(Clone, Debug, PartialEq, Eq)]
 pub enum Guard {
     True,
@@ -20,16 +32,26 @@ impl Guard {
         rest.is_empty().then_some(guard)
     }
 
-    /// Bit x of `variables` is variable x.
-    pub fn holds(&self, variables: u8, clocks: &Clocks) -> bool {
+    /// What waiting alone does for it: every clock gains the same, and no variable changes.
+    pub fn readiness(&self, variables: u8, clocks: &Clocks) -> Readiness {
+        match (0..=LONGEST_WAIT).find(|wait| self.holds_after(*wait, variables, clocks)) {
+            Some(0) => Readiness::Yes,
+            Some(_) => Readiness::NotYet,
+            None => Readiness::NoMore,
+        }
+    }
+
+    /// Whether it holds so many ticks later. Bit x of `variables` is variable x.
+    pub fn holds_after(&self, wait: u32, variables: u8, clocks: &Clocks) -> bool {
         match self {
             Guard::True => true,
-            Guard::AtMost { clock, limit } => clocks[*clock] <= *limit,
-            Guard::AtLeast { clock, limit } => clocks[*clock] >= *limit,
+            Guard::AtMost { clock, limit } => clocks[*clock] + wait <= *limit,
+            Guard::AtLeast { clock, limit } => clocks[*clock] + wait >= *limit,
             Guard::Variable(variable) => variables >> variable & 1 == 1,
-            Guard::Not(inner) => !inner.holds(variables, clocks),
+            Guard::Not(inner) => !inner.holds_after(wait, variables, clocks),
             Guard::And(left, right) => {
-                left.holds(variables, clocks) && right.holds(variables, clocks)
+                left.holds_after(wait, variables, clocks)
+                    && right.holds_after(wait, variables, clocks)
             }
         }
     }

@@ -2,7 +2,7 @@
 
 #![allow(unsafe_code)]
 
-use crate::answer::Answer;
+use crate::answer::{Answer, Verdict};
 use crate::call::Engine;
 use crate::edition::Edition;
 
@@ -20,7 +20,7 @@ macro_rules! of_each_edition {
                 scratch_length: usize,
                 room: *mut u8,
                 room_length: usize,
-            ) -> Answer;
+            ) -> Verdict;
             fn $check(
                 table: *const u8,
                 table_length: usize,
@@ -78,7 +78,7 @@ fn validate(
     budget: u32,
     scratch: &mut [u8],
     room: &mut [u8],
-) -> Answer {
+) -> Verdict {
     let function = match edition {
         Edition::One => lutarosa_validate,
         Edition::Two => lutarosa_validate_edition2,

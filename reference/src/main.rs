@@ -103,6 +103,7 @@ fn write_cases(folder: &Path) -> Result<(), String> {
         println!("tables {from} of the versions 0, 1, 2, 3 and 255: {versions:?}");
         println!("devices refused in tables {from}: {:?}", tally.reasons());
     }
+    print!("{}", made.pairs.line());
     Ok(())
 }
 

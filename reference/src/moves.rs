@@ -3,7 +3,7 @@
 //! What a situation can do does not depend on the instant, only which of it is allowed
 //! does. So each situation's moves are worked out when it is first met, and then looked up.
 
-use crate::guard::Guard;
+use crate::guard::{Guard, Readiness};
 use crate::situation::Space;
 use crate::table::{Table, Transition};
 
@@ -26,7 +26,7 @@ struct Known {
 }
 
 /// A transition with its guard read.
-struct Ready<'a> {
+struct Guarded<'a> {
     number: u8,
     parts: &'a Transition,
     guard: Guard,
@@ -37,7 +37,7 @@ pub struct Moves<'a> {
     table: &'a Table,
     space: &'a Space,
     /// The transitions from each state, in the order of their numbers.
-    by_state: Vec<Vec<Ready<'a>>>,
+    by_state: Vec<Vec<Guarded<'a>>>,
     known: Vec<Known>,
     fired: Vec<Fired>,
 }
@@ -45,13 +45,13 @@ pub struct Moves<'a> {
 impl<'a> Moves<'a> {
     /// Of a sound table.
     pub fn new(table: &'a Table, space: &'a Space) -> Self {
-        let mut by_state: Vec<Vec<Ready>> = Vec::new();
+        let mut by_state: Vec<Vec<Guarded>> = Vec::new();
         by_state.resize_with(usize::from(table.states), Vec::new);
         for (number, parts) in table.transitions.iter().enumerate() {
             let guard = table.guard(parts).expect("a sound table has sound guards");
             let airtime = table.airtime(parts.kind);
-            let ready = Ready { number: number as u8, parts, guard, airtime };
-            by_state[usize::from(parts.from)].push(ready);
+            let guarded = Guarded { number: number as u8, parts, guard, airtime };
+            by_state[usize::from(parts.from)].push(guarded);
         }
         let known = vec![Known::default(); space.count()];
         Moves { table, space, by_state, known, fired: Vec::new() }
@@ -83,6 +83,16 @@ impl<'a> Moves<'a> {
             .then(|| self.space.number(&self.space.removed(&it, airtime)))
     }
 
+    /// Of the transitions of this kind from the situation's state, what each guard answers; nothing
+    /// if the air is taken.
+    pub fn readiness(&self, situation: usize, kind: u8) -> impl Iterator<Item = Readiness> + '_ {
+        let it = self.space.situation(situation);
+        self.by_state[usize::from(it.state)]
+            .iter()
+            .filter(move |by| it.air == 0 && by.parts.kind == kind)
+            .map(move |by| by.guard.readiness(it.variables, &it.clocks))
+    }
+
     /// Once for each situation, while looking up is the innermost step of the search.
     #[cold]
     fn work_out(&mut self, number: usize) -> Known {
@@ -90,13 +100,14 @@ impl<'a> Moves<'a> {
         let idle = self.space.number(&self.space.idle(&it)) as u16;
         let fired_start = self.fired.len();
         if it.air == 0 {
+            // What fires is yes, and the waits after 0 make no difference to that.
             let able = self.by_state[usize::from(it.state)]
                 .iter()
-                .filter(|ready| ready.guard.holds(it.variables, &it.clocks));
-            self.fired.extend(able.map(|ready| Fired {
-                next: self.space.number(&self.space.fired(&it, ready.parts, ready.airtime)) as u16,
-                kind: ready.parts.kind,
-                transition: ready.number,
+                .filter(|by| by.guard.holds_after(0, it.variables, &it.clocks));
+            self.fired.extend(able.map(|by| Fired {
+                next: self.space.number(&self.space.fired(&it, by.parts, by.airtime)) as u16,
+                kind: by.parts.kind,
+                transition: by.number,
             }));
         }
         let fired_count = (self.fired.len() - fired_start) as u8;

@@ -1,6 +1,6 @@
 //! The desk's small monitor and its twelve recordings, with the values the paper gives.
 
-use crate::answer::Answer;
+use crate::answer::Verdict;
 use crate::edition::Edition;
 use crate::recording::FILE;
 
@@ -41,7 +41,8 @@ pub struct Paper {
     pub name: &'static str,
     pub rows: &'static [(u16, u8)],
     pub budget: u32,
-    pub answer: Answer,
+    /// P3 and P9, which are rejected, have no transition on what was heard: nothing is counted.
+    pub answer: Verdict,
     /// After acceptance, the witness as a whole, in edition 1.
     pub witness: &'static [u8],
 }
@@ -84,7 +85,7 @@ const fn paper(
     answer: (u64, u64, u64),
     witness: &'static [u8],
 ) -> Paper {
-    let answer = Answer::new(answer.0, answer.1, answer.2);
+    let answer = Verdict::new(answer.0, answer.1, answer.2);
     Paper { name, rows, budget, answer, witness }
 }
 

@@ -2,7 +2,8 @@
 //!
 //! Layer t-1 of the lent bytes is the set of situations possible just before instant t.
 
-use crate::answer::Answer;
+use crate::answer::{Counts, Verdict};
+use crate::guard::Readiness;
 use crate::moves::{Fired, Moves};
 use crate::set;
 use crate::witness::{Row, Witness, ADDED, KEPT, NO_TRANSITION, REMOVED};
@@ -17,8 +18,8 @@ pub struct Search<'a> {
 }
 
 impl Search<'_> {
-    /// Cost and preferred witness; or the answer where the recording is not accepted.
-    pub fn run(mut self, first: usize, budget: u32) -> Result<(u64, Witness), Answer> {
+    /// Cost and preferred witness; or the verdict where the recording is not accepted.
+    pub fn run(mut self, first: usize, budget: u32) -> Result<(u64, Witness), Verdict> {
         let cost = self.forward(first, budget)?;
         self.prune();
         Ok((cost, self.walk(first)))
@@ -28,7 +29,7 @@ impl Search<'_> {
     ///
     /// The running total only grows, so the cost passes the budget exactly if some running
     /// total does, and the work of an instant counts before its moves can reject.
-    fn forward(&mut self, first: usize, budget: u32) -> Result<u64, Answer> {
+    fn forward(&mut self, first: usize, budget: u32) -> Result<u64, Verdict> {
         let first_layer = &mut self.layers[..self.set_size];
         first_layer.fill(0);
         set::insert(first_layer, first);
@@ -38,12 +39,14 @@ impl Search<'_> {
             let (now, next) = two_layers(self.layers, self.set_size, place);
             cost += set::count(now);
             if cost > u64::from(budget) {
-                return Err(Answer::new(2, u64::from(budget), number));
+                return Err(Verdict::new(2, u64::from(budget), number));
             }
             next.fill(0);
             advance(&mut self.moves, *heard, now, next);
             if set::is_empty(next) {
-                return Err(Answer::new(1, cost, number));
+                // Where nothing is heard, each situation idles.
+                let kind = heard.expect("a rejected instant has a row");
+                return Err(Verdict::rejected(cost, number, counts(&self.moves, kind, now)));
             }
         }
         Ok(cost)
@@ -117,6 +120,21 @@ fn advance(moves: &mut Moves, heard: Option<u8>, now: &[u8], next: &mut [u8]) {
             }
         }),
     }
+}
+
+/// Of the situations just before an instant that a row of this kind cannot pass.
+fn counts(moves: &Moves, kind: u8, now: &[u8]) -> Counts {
+    let mut counts = Counts::default();
+    set::for_each(now, |situation| {
+        for readiness in moves.readiness(situation, kind) {
+            match readiness {
+                Readiness::Yes => unreachable!("it would have passed"),
+                Readiness::NotYet => counts.not_yet += 1,
+                Readiness::NoMore => counts.no_more += 1,
+            }
+        }
+    });
+    counts
 }
 
 fn keep_lasting(moves: &Moves, heard: Option<u8>, now: &mut [u8], next: &[u8]) {

@@ -1,6 +1,6 @@
 //! The validation of a recording: verdict, cost and preferred witness.
 
-use crate::answer::{settle, Answer, Refusal};
+use crate::answer::{settle, Refusal, Verdict};
 use crate::edition::Edition;
 use crate::frame::put;
 use crate::moves::Moves;
@@ -19,7 +19,7 @@ pub fn validate(
     budget: u32,
     scratch: &mut [u8],
     room: &mut [u8],
-) -> Answer {
+) -> Verdict {
     let read = recording::read(table, recording);
     settle(
         read.and_then(|(table, heard)| {
@@ -36,7 +36,7 @@ pub fn validate_read(
     budget: u32,
     scratch: &mut [u8],
     room: &mut [u8],
-) -> Result<Answer, Refusal> {
+) -> Result<Verdict, Refusal> {
     let space = Space::of(table);
     let last_time = recording.last_time();
     let set_size = set::size(space.count());
@@ -51,14 +51,14 @@ pub fn validate_read(
     let instants = recording.instants();
     let moves = Moves::new(table, &space);
     let first = space.number(&space.first());
-    let answer = match (Search { instants: &instants, moves, layers, set_size }).run(first, budget)
-    {
+    let search = Search { instants: &instants, moves, layers, set_size };
+    let verdict = match search.run(first, budget) {
         Err(verdict) => verdict,
         Ok((cost, found)) => {
             put(&witness::bytes_of(edition, &found), room)?;
-            Answer::new(0, cost, found.rows.len() as u64)
+            Verdict::new(0, cost, found.rows.len() as u64)
         }
     };
     layers.fill(0);
-    Ok(answer)
+    Ok(verdict)
 }

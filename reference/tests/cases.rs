@@ -37,7 +37,7 @@ fn every_number_comes_often_and_p5_is_printed_whole() {
         assert!(times.is_some_and(|times| *times >= 20), "a last word of {bytes} bytes");
     }
     let output = String::from_utf8(made.output).expect("lines are text");
-    assert!(output.contains("accepted 13 3\nkept 1 0 0\nremoved 3 2 255\nkept 6 1 2\n0 13 3 "));
+    assert!(output.contains("accepted 13 3\nkept 1 0 0\nremoved 3 2 255\nkept 6 1 2\n0 13 3 0 0 "));
 }
 
 #[test]

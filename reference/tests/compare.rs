@@ -3,10 +3,11 @@
 mod before;
 
 use before::air::{BEFORE, NEEDS_NO_AIR, TAKES_NO_AIR};
+use before::counts;
 use before::devices;
 use before::editions;
 use before::states::{Rule, OTHERS};
-use lutarosa_reference::answer::Answer;
+use lutarosa_reference::answer::{Answer, Verdict};
 use lutarosa_reference::call::{Engine, Validate, ORDINARY};
 use lutarosa_reference::check::check_witness;
 use lutarosa_reference::compare::compare;
@@ -40,21 +41,21 @@ fn wrong_answers_of_validation() {
     finds_validate("one less is exhausted", |edition, table, heard, budget, scratch, room| {
         let it = validate(edition, table, heard, budget, scratch, room);
         match it.number {
-            0 if it.second == u64::from(budget) => Answer::new(2, it.second, 1),
+            0 if it.second == u64::from(budget) => Verdict::new(2, it.second, 1),
             _ => it,
         }
     });
     finds_validate("budget above, cost unsaid", |edition, table, heard, budget, scratch, room| {
         let it = validate(edition, table, heard, budget, scratch, room);
         match it.number {
-            1 if it.second > 100 => Answer::new(1, 100, it.third),
+            1 if it.second > 100 => Verdict { second: 100, ..it },
             _ => it,
         }
     });
     finds_validate("30 and 31 changed over", |edition, table, heard, budget, scratch, room| {
         match validate(edition, table, heard, budget, scratch, room) {
-            Answer { number: 31, second, .. } if scratch.is_empty() => Answer::new(30, second, 0),
-            Answer { number: 30, second, .. } if room.len() < 6 => Answer::new(31, second, 0),
+            Verdict { number: 31, second, .. } if scratch.is_empty() => Verdict::new(30, second, 0),
+            Verdict { number: 30, second, .. } if room.len() < 6 => Verdict::new(31, second, 0),
             it => it,
         }
     });
@@ -104,9 +105,14 @@ fn lent_bytes_of_validation() {
 }
 
 /// 23 where this is the last time.
-fn without(last: usize, table: &[u8], heard: &[u8], otherwise: impl FnOnce() -> Answer) -> Answer {
+fn without(
+    last: usize,
+    table: &[u8],
+    heard: &[u8],
+    otherwise: impl FnOnce() -> Verdict,
+) -> Verdict {
     match recording::read(table, heard) {
-        Ok((_, it)) if it.last_time() == last => Answer::new(23, 0, 0),
+        Ok((_, it)) if it.last_time() == last => Verdict::new(23, 0, 0),
         _ => otherwise(),
     }
 }
@@ -251,6 +257,13 @@ fn editions_and_late_times() {
     finds(name, Engine { check: engine.check, ..ORDINARY });
     finds(name, Engine { rewrite_recording: engine.rewrite_recording, ..ORDINARY });
     finds(name, Engine { rewrite_witness: engine.rewrite_witness, ..ORDINARY });
+}
+
+#[test]
+fn too_early_and_too_late() {
+    for other in &counts::OTHERS {
+        finds_validate(other.name, other.engine.validate);
+    }
 }
 
 #[test]

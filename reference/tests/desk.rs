@@ -18,7 +18,13 @@ fn lines(rows: &[(u16, u8)], budget: u32) -> String {
 fn verdicts() {
     assert_eq!(lines(&[], 0), "accepted 0 0\n");
     assert_eq!(lines(&[(1, DATA)], 1), "accepted 1 1\nkept 1 0 0\n");
-    assert_eq!(lines(&[(1, RETRY)], 1), "rejected 1 1\n");
+    assert_eq!(lines(&[(1, RETRY)], 1), "rejected 1 1 0 0\n");
+    assert_eq!(lines(&[(1, DATA), (3, RETRY)], 3), "rejected 3 3 1 0\n");
+    assert_eq!(lines(&[(1, DATA), (3, RETRY)], 2), "exhausted 2 3\n");
+    let late = &[(1, DATA), (5, ACK), (6, ACK), (8, RETRY)];
+    assert_eq!(lines(late, 16), "rejected 16 8 0 1\n");
+    assert_eq!(lines(late, 15), "exhausted 15 8\n");
+    assert_eq!(lines(&[(1, DATA), (5, ACK), (8, RETRY)], 20), "rejected 20 8 1 1\n");
     assert_eq!(lines(&[(1, DATA), (3, ACK), (6, RETRY)], 7), "exhausted 7 5\n");
     assert_eq!(lines(&[(1, DATA), (2, DATA)], 7), "refused 24 1\n");
     let unreached = input(&monitor_with(&[(3, 4)]), &recording(&[(1, DATA), (2, DATA)]), 7);

@@ -7,7 +7,7 @@ mod recorded;
 use std::collections::BTreeMap;
 
 use before::editions::{Other, AGAIN, OTHERS};
-use lutarosa_reference::answer::Answer;
+use lutarosa_reference::answer::{Answer, Verdict};
 use lutarosa_reference::back::witness_back;
 use lutarosa_reference::call::{Call, Outcome, ORDINARY};
 use lutarosa_reference::cases::{MOST_IN_FILES, MOST_ROOM, MOST_SCRATCH};
@@ -152,11 +152,11 @@ fn judged_as_is_said(it: &Handover, edition: Edition) {
         assert!(outcome.scratch == [&vec![0; scratch][..], &[0xC3; 3]].concat(), "{}", it.name);
     }
     // The last work is what the budget lacks, so it is exhausted at the last instant.
-    let exhausted = Answer::new(2, cost - 1, it.last_time() as u64);
+    let exhausted = Verdict::new(2, cost - 1, it.last_time() as u64);
     assert_eq!(run(it, edition, cost as u32 - 1, scratch, room).answer, exhausted, "{}", it.name);
-    let short = Answer::new(31, room as u64, 0);
+    let short = Verdict::new(31, room as u64, 0);
     assert_eq!(run(it, edition, 0, scratch, room - 1).answer, short, "{}", it.name);
-    let short = Answer::new(30, scratch as u64, 0);
+    let short = Verdict::new(30, scratch as u64, 0);
     assert_eq!(run(it, edition, 0, scratch - 1, 0).answer, short, "{}", it.name);
 }
 
@@ -176,9 +176,9 @@ fn handovers_are_judged_as_is_said() {
         }
         for room in [0, 5, 23_045, 331_000] {
             let refused = |short: usize| run(&it, Edition::One, 0, it.scratch() - short, room);
-            assert_eq!(refused(0).answer, Answer::new(31, 0, 0), "{}", it.name);
+            assert_eq!(refused(0).answer, Verdict::new(31, 0, 0), "{}", it.name);
             assert!(refused(0).room.iter().chain(&refused(0).scratch).all(|byte| *byte == 0xC3));
-            assert_eq!(refused(1).answer, Answer::new(30, it.scratch() as u64, 0), "{}", it.name);
+            assert_eq!(refused(1).answer, Verdict::new(30, it.scratch() as u64, 0), "{}", it.name);
         }
     }
 }

@@ -7,11 +7,12 @@ mod recorded;
 use std::collections::BTreeMap;
 
 use before::air::{BEFORE, NEEDS_NO_AIR, NOW, TAKES_NO_AIR};
-use lutarosa_reference::answer::Answer;
-use lutarosa_reference::brute::{first_dead_instant, works};
+use lutarosa_reference::answer::{Answer, Verdict};
+use lutarosa_reference::brute::{counts, first_dead_instant, possible_before, works};
 use lutarosa_reference::call::{Call, Engine, Outcome, ORDINARY};
 use lutarosa_reference::edition::Edition;
 use lutarosa_reference::narrowed::{CHECKED, NARROWED};
+use lutarosa_reference::papers::RETRY;
 use lutarosa_reference::recording::read;
 use lutarosa_reference::witness::{read_rows, REMOVED};
 use recorded::RECORDED;
@@ -109,7 +110,7 @@ fn the_rules_written_again_are_the_same() {
 fn preferred_witnesses_have_at_most_a_row_an_instant() {
     for (call, outcome) in RECORDED.outcomes() {
         let Call::Validate { table, recording, .. } = call else { continue };
-        let Answer { number: 0, third: rows, .. } = outcome.answer else { continue };
+        let Verdict { number: 0, third: rows, .. } = outcome.answer else { continue };
         let (_, heard) = read(table, recording).expect("accepted");
         assert!(rows <= heard.last_time() as u64);
     }
@@ -131,12 +132,15 @@ fn recordings_accepted_before_and_rejected_now() {
         let (parts, heard) = read(&table, &recording).expect("sound");
         assert_eq!(first_dead_instant(&parts, &heard), Some(it.now.third));
         assert_eq!(works(&parts, &heard).iter().sum::<u64>(), it.now.second);
+        let instant = it.now.third as u32;
+        let possible = possible_before(&parts, &heard, instant);
+        assert_eq!(counts(&parts, &possible, instant, RETRY), it.now.counts);
         let check = Call::Check { edition, table, recording, witness: it.witness.to_vec() };
         let now = validation.run(&ORDINARY);
         assert_eq!((now.answer, now.room), (it.now, vec![0; 45]));
-        assert_eq!(check.run(&ORDINARY).answer, CHECKED);
+        assert_eq!(check.run(&ORDINARY).answer, CHECKED.into());
         let before = validation.run(&BEFORE);
         assert_eq!((before.answer, &before.room[..20]), (it.before, it.witness));
-        assert_eq!(check.run(&BEFORE).answer, Answer::new(0, 2, 3));
+        assert_eq!(check.run(&BEFORE).answer, Answer::new(0, 2, 3).into());
     }
 }

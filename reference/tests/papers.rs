@@ -2,8 +2,8 @@
 
 mod common;
 
-use common::answer;
-use lutarosa_reference::answer::Answer;
+use common::{answer, verdict};
+use lutarosa_reference::answer::Verdict;
 use lutarosa_reference::check::check_witness;
 use lutarosa_reference::desk::report;
 use lutarosa_reference::edition::Edition;
@@ -14,8 +14,8 @@ use lutarosa_reference::validate::validate;
 
 const DIRT: u8 = 0xC3;
 
-/// Answer, scratch and room.
-type Outcome = (Answer, Vec<u8>, Vec<u8>);
+/// Verdict, scratch and room.
+type Outcome = (Verdict, Vec<u8>, Vec<u8>);
 
 /// N is 48, so S is 6; (T+1) x 6 of scratch, and 5 + 5(T+n) or 9 + 5(T+n) of room.
 fn run_in(edition: Edition, rows: &[(u16, u8)], budget: u32) -> Outcome {
@@ -65,10 +65,10 @@ fn works_of_p5_are_1_1_1_2_3_5() {
     let totals = [1, 2, 3, 5, 8, 13];
     for (place, total) in totals.into_iter().enumerate() {
         let instant = place as u64 + 1;
-        assert_eq!(run(rows, total - 1).0, answer(2, u64::from(total) - 1, instant));
+        assert_eq!(run(rows, total - 1).0, verdict(2, u64::from(total) - 1, instant));
         let next = match totals.get(place + 1) {
-            Some(_) => answer(2, u64::from(total), instant + 1),
-            None => answer(0, 13, 3),
+            Some(_) => verdict(2, u64::from(total), instant + 1),
+            None => verdict(0, 13, 3),
         };
         assert_eq!(run(rows, total).0, next);
     }
@@ -78,9 +78,9 @@ fn works_of_p5_are_1_1_1_2_3_5() {
 #[test]
 fn rejection_at_its_cost_and_exhaustion_below() {
     let rows = &[(1, DATA), (3, DATA)];
-    assert_eq!(run(rows, 3).0, answer(1, 3, 3));
-    assert_eq!(run(rows, 2).0, answer(2, 2, 3));
-    assert_eq!(run(rows, 0).0, answer(2, 0, 1));
+    assert_eq!(run(rows, 3).0, verdict(1, 3, 3));
+    assert_eq!(run(rows, 2).0, verdict(2, 2, 3));
+    assert_eq!(run(rows, 0).0, verdict(2, 0, 1));
 }
 
 #[test]
@@ -89,7 +89,7 @@ fn nothing_recorded_costs_nothing_and_wants_one_set() {
     let mut room = [DIRT; 5];
     let empty = recording(&[]);
     let it = validate(Edition::One, &SMALL_MONITOR, &empty, 0, &mut scratch, &mut room);
-    assert_eq!((it, scratch, room), (answer(0, 0, 0), [0; 6], [0, 3, 1, 0, 0]));
+    assert_eq!((it, scratch, room), (verdict(0, 0, 0), [0; 6], [0, 3, 1, 0, 0]));
 }
 
 #[test]

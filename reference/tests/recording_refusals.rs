@@ -2,7 +2,7 @@
 
 mod common;
 
-use common::{answer, chain, file, monitor_with, resized};
+use common::{answer, chain, file, monitor_with, resized, verdict};
 use lutarosa_reference::answer::Refusal;
 use lutarosa_reference::edition::Edition;
 use lutarosa_reference::papers::{recording, ACK, DATA, RETRY, SMALL_MONITOR};
@@ -16,7 +16,7 @@ fn refused_with(table: &[u8], bytes: &[u8], number: u64, value: usize) {
     let mut room = [0x5A; 40];
     let expected = answer(number, value as u64, 0);
     assert_eq!(rewrite_recording(table, bytes, &mut room), expected);
-    assert_eq!(validate(Edition::One, table, bytes, 9, &mut [], &mut room), expected);
+    assert_eq!(validate(Edition::One, table, bytes, 9, &mut [], &mut room), expected.into());
     assert_eq!(room, [0x5A; 40]);
 }
 
@@ -125,13 +125,13 @@ fn numbers_30_and_31() {
         let clean = scratch.iter().chain(&room).all(|byte| *byte == 0x5A);
         (it, clean)
     };
-    assert_eq!(run(41, 0), (answer(30, 42, 0), true));
-    assert_eq!(run(0, 50), (answer(30, 42, 0), true));
-    assert_eq!(run(42, 49), (answer(31, 50, 0), true));
-    assert_eq!(run(42, 50), (answer(0, 13, 3), false));
+    assert_eq!(run(41, 0), (verdict(30, 42, 0), true));
+    assert_eq!(run(0, 50), (verdict(30, 42, 0), true));
+    assert_eq!(run(42, 49), (verdict(31, 50, 0), true));
+    assert_eq!(run(42, 50), (verdict(0, 13, 3), false));
     // The budget is looked at only after them.
     let it = validate(Edition::One, &SMALL_MONITOR, &bytes, 0, &mut [0; 42], &mut [0; 49]);
-    assert_eq!(it, answer(31, 50, 0));
+    assert_eq!(it, verdict(31, 50, 0));
 }
 
 /// N 10 is not a multiple of 8: S is 2.
@@ -140,9 +140,9 @@ fn a_set_is_rounded_up() {
     let table = chain(5, 0, &[0]);
     let empty = recording(&[]);
     let it = validate(Edition::One, &table, &empty, 0, &mut [0; 1], &mut [0; 5]);
-    assert_eq!(it, answer(30, 2, 0));
+    assert_eq!(it, verdict(30, 2, 0));
     let it = validate(Edition::One, &table, &empty, 0, &mut [0; 2], &mut [0; 5]);
-    assert_eq!(it, answer(0, 0, 0));
+    assert_eq!(it, verdict(0, 0, 0));
 }
 
 /// T is 4,096 or 4,097 and n is 1: T + 1 sets of 6 bytes. Past 4,096 no room is enough for edition 1,
@@ -156,24 +156,24 @@ fn numbers_30_and_31_around_edition_1s_last_time() {
         let clean = scratch.iter().chain(&room).all(|byte| *byte == 0x5A);
         (it, clean)
     };
-    let exhausted = (answer(2, 0, 1), false);
+    let exhausted = (verdict(2, 0, 1), false);
     assert_eq!(run(Edition::One, 4_096, 24_582, 20_490), exhausted);
-    assert_eq!(run(Edition::One, 4_096, 24_582, 20_489), (answer(31, 20_490, 0), true));
-    assert_eq!(run(Edition::One, 4_096, 24_581, 20_490), (answer(30, 24_582, 0), true));
+    assert_eq!(run(Edition::One, 4_096, 24_582, 20_489), (verdict(31, 20_490, 0), true));
+    assert_eq!(run(Edition::One, 4_096, 24_581, 20_490), (verdict(30, 24_582, 0), true));
     for room in [0, 5, 20_494, 20_495, 331_000] {
-        assert_eq!(run(Edition::One, 4_097, 24_588, room), (answer(31, 0, 0), true));
-        assert_eq!(run(Edition::One, 4_097, 24_587, room), (answer(30, 24_588, 0), true));
-        assert_eq!(run(Edition::One, 65_535, 393_216, room), (answer(31, 0, 0), true));
-        assert_eq!(run(Edition::One, 65_535, 393_215, room), (answer(30, 393_216, 0), true));
+        assert_eq!(run(Edition::One, 4_097, 24_588, room), (verdict(31, 0, 0), true));
+        assert_eq!(run(Edition::One, 4_097, 24_587, room), (verdict(30, 24_588, 0), true));
+        assert_eq!(run(Edition::One, 65_535, 393_216, room), (verdict(31, 0, 0), true));
+        assert_eq!(run(Edition::One, 65_535, 393_215, room), (verdict(30, 393_216, 0), true));
     }
     for (last, scratch, room) in
         [(4_096, 24_582, 20_494), (4_097, 24_588, 20_499), (65_535, 393_216, 327_689)]
     {
         let [wanted_scratch, wanted_room] = [scratch as u64, room as u64];
         assert_eq!(run(Edition::Two, last, scratch, room), exhausted);
-        let short = (answer(31, wanted_room, 0), true);
+        let short = (verdict(31, wanted_room, 0), true);
         assert_eq!(run(Edition::Two, last, scratch, room - 1), short);
-        let short = (answer(30, wanted_scratch, 0), true);
+        let short = (verdict(30, wanted_scratch, 0), true);
         assert_eq!(run(Edition::Two, last, scratch - 1, room - 1), short);
     }
 }

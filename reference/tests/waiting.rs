@@ -2,7 +2,7 @@
 //! the same and moves the witness by one. So short waits, which the brute-force search can judge,
 //! say what long ones give.
 
-use lutarosa_reference::answer::Answer;
+use lutarosa_reference::answer::Verdict;
 use lutarosa_reference::brute::works;
 use lutarosa_reference::edition::Edition;
 use lutarosa_reference::papers::{recording, Paper, PAPERS, SMALL_MONITOR};
@@ -14,7 +14,7 @@ use lutarosa_reference::witness::{self, Row};
 const SHORT: u16 = 40;
 
 /// The paper's recording so much later, in edition 2: the answer and the rows of the witness.
-fn judged(paper: &Paper, wait: u16) -> (Answer, Vec<Row>) {
+fn judged(paper: &Paper, wait: u16) -> (Verdict, Vec<Row>) {
     let bytes = delayed(paper, wait);
     let last = usize::from(wait + paper.rows[paper.rows.len() - 1].0);
     let mut scratch = vec![0x5A; 6 * (last + 1)];
@@ -55,7 +55,8 @@ fn a_longer_wait_moves_the_rows_and_costs_the_same_each_tick() {
         for wait in [SHORT + 1, 4_084, 4_085, 4_090, 4_096, 9_999, 65_523] {
             let more = wait - SHORT;
             let third = if short.number == 1 { short.third + u64::from(more) } else { short.third };
-            let expected = Answer::new(short.number, short.second + u64::from(more) * each, third);
+            let second = short.second + u64::from(more) * each;
+            let expected = Verdict { second, third, ..short };
             assert_eq!(judged(paper, wait), (expected, later(&rows, more)), "{}", paper.name);
         }
     }

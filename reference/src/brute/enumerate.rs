@@ -2,7 +2,8 @@
 //! witness that tells of it.
 
 use super::monitor::Monitor;
-use super::trace::{is_mutation, is_packet_trace, shares_the_air, traces, Trace};
+use super::trace::{is_mutation, is_packet_trace, shares_the_air, together, traces, Trace};
+use super::works::Possible;
 use crate::recording::{Heard, Recording};
 use crate::table::Table;
 use crate::witness::{Row, Witness, ADDED, KEPT, NO_TRANSITION, REMOVED};
@@ -22,12 +23,30 @@ pub fn witnesses(table: &Table, recording: &Recording) -> Vec<Witness> {
 /// to it and satisfies the monitor.
 pub fn first_dead_instant(table: &Table, recording: &Recording) -> Option<u64> {
     let last = recording.last_time() as u32;
-    (1..=last).map(u64::from).find(|instant| {
-        let mut heard = recording.clone();
-        heard.rows.retain(|row| u64::from(row.time) <= *instant);
-        let mut traces = mutation_traces(table, &heard, *instant as u32);
+    let dead = (1..=last).find(|instant| {
+        let heard = up_to(recording, *instant);
+        let mut traces = mutation_traces(table, &heard, *instant);
         !traces.any(|trace| Monitor::satisfies(table, &trace))
-    })
+    });
+    dead.map(u64::from)
+}
+
+/// What is possible just before an instant: every trace before it that is a mutation trace of the
+/// rows before it leaves some monitors, and the air free from some tick on.
+pub fn possible_before(table: &Table, recording: &Recording, instant: u32) -> Possible {
+    let heard = up_to(recording, instant - 1);
+    let left = |trace: Trace| {
+        let airtime = |kind: u8| u32::from(table.kinds[usize::from(kind)].airtime);
+        let last = together(&heard, &trace).pop();
+        let free_from = last.map_or(0, |(time, kind)| time + airtime(kind) + 1);
+        Monitor::after(table, &trace).into_iter().map(move |it| (it, free_from))
+    };
+    mutation_traces(table, &heard, instant - 1).flat_map(left).collect()
+}
+
+fn up_to(recording: &Recording, instant: u32) -> Recording {
+    let heard = |row: &&Heard| u32::from(row.time) <= instant;
+    Recording { rows: recording.rows.iter().filter(heard).copied().collect() }
 }
 
 /// Whether some trace would be a satisfying mutation trace if removed packets took no air.

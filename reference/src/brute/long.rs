@@ -1,17 +1,17 @@
 //! Long recordings without situations: sets of real monitors, whose clocks have no upper limit, as
 //! long as these sets stay small.
 
-use std::collections::BTreeSet;
-
-use super::works::{heard, moves, start, work, Real};
+use super::counts::counts;
+use super::works::{heard, moves, start, work, Possible};
+use crate::answer::Counts;
 use crate::recording::Recording;
 use crate::table::Table;
 use crate::witness::Witness;
 
 pub struct Judged {
     pub works: Vec<u64>,
-    /// The instant after whose moves nothing is left.
-    pub dead: Option<u64>,
+    /// The instant after whose moves nothing is left, and the counts there.
+    pub dead: Option<(u64, Counts)>,
     pub preferred: Option<Witness>,
 }
 
@@ -24,9 +24,10 @@ pub fn judge_long(table: &Table, recording: &Recording, most: usize) -> Option<J
         works.push(work(table, now, time));
         let heard = heard(recording, time);
         let after = now.iter().flat_map(|it| moves(table, heard, it, time)).map(|it| it.1);
-        let next: BTreeSet<Real> = after.collect();
+        let next: Possible = after.collect();
         if next.is_empty() {
-            return Some(Judged { works, dead: Some(time.into()), preferred: None });
+            let counts = counts(table, now, time, heard?.kind);
+            return Some(Judged { works, dead: Some((time.into(), counts)), preferred: None });
         }
         if next.len() > most {
             return None;
@@ -39,7 +40,7 @@ pub fn judge_long(table: &Table, recording: &Recording, most: usize) -> Option<J
 
 /// Layer t-1 is what is possible just before instant t. What cannot last is taken out, and then
 /// the first move that stays is made.
-fn preferred(table: &Table, recording: &Recording, mut layers: Vec<BTreeSet<Real>>) -> Witness {
+fn preferred(table: &Table, recording: &Recording, mut layers: Vec<Possible>) -> Witness {
     let last = recording.last_time();
     for time in (1..=last).rev() {
         let (now, next) = layers.split_at_mut(time);

@@ -3,6 +3,7 @@
 //! recordings and witnesses with the program, and none of its reading or searching.
 
 mod checker;
+mod counts;
 mod devices;
 mod enumerate;
 mod long;
@@ -10,16 +11,19 @@ mod monitor;
 mod permitted;
 mod preference;
 mod reach;
+mod readiness;
 mod trace;
 mod works;
 
 pub use checker::expected_check;
+pub use counts::counts;
 pub use devices::{first_bad_kind, kinds_refused, kinds_told, with_devices, without_devices};
-pub use enumerate::{first_dead_instant, ruled_out, witnesses};
+pub use enumerate::{first_dead_instant, possible_before, ruled_out, witnesses};
 pub use long::{judge_long, Judged};
-pub use monitor::Monitor;
+pub use monitor::{largest_limit, Monitor};
 pub use permitted::permitted_by_checker;
 pub use preference::preference;
 pub use reach::lowest_unreached;
+pub use readiness::readiness;
 pub use trace::{is_mutation, is_packet_trace, shares_the_air, traces, Trace};
-pub use works::works;
+pub use works::{work, works};

@@ -1,6 +1,8 @@
-//! The monitor of Definition 2 with real clocks, evaluating guards from their bytes.
+//! The monitor of Definition 2 with real clocks.
 
+use super::readiness::readiness;
 use super::trace::Trace;
+use crate::guard::Readiness;
 use crate::table::Table;
 
 #[derive(Clone, Copy, Debug, PartialEq, Eq, PartialOrd, Ord)]
@@ -21,8 +23,10 @@ impl Monitor {
         let (time, kind) = packet;
         let it = table.transitions.get(usize::from(number))?;
         let clocks = [time - self.last_reset[0], time - self.last_reset[1]];
-        let (holds, _) = evaluate(&it.guard, self.variables, clocks);
-        if it.kind != kind || it.from != self.state || !holds {
+        if it.kind != kind || it.from != self.state {
+            return None;
+        }
+        if readiness(&it.guard, self.variables, clocks) != Readiness::Yes {
             return None;
         }
         let mut after = *self;
@@ -63,6 +67,11 @@ impl Monitor {
 
     /// Whether some choice of transitions carries the monitor along all of this trace.
     pub fn satisfies(table: &Table, trace: &Trace) -> bool {
+        !Monitor::after(table, trace).is_empty()
+    }
+
+    /// What each choice of transitions along all of this trace leaves.
+    pub fn after(table: &Table, trace: &Trace) -> Vec<Monitor> {
         let mut possible = vec![Monitor::start()];
         for packet in trace {
             let numbers = 0..table.transitions.len() as u8;
@@ -73,26 +82,7 @@ impl Monitor {
             possible.sort();
             possible.dedup();
         }
-        !possible.is_empty()
-    }
-}
-
-/// The value of the guard at the front of these bytes, and how many bytes it takes.
-fn evaluate(guard: &[u8], variables: u8, clocks: [u32; 2]) -> (bool, usize) {
-    match guard[0] {
-        0 => (true, 1),
-        1 => (clocks[usize::from(guard[1])] <= u32::from(guard[2]), 3),
-        2 => (clocks[usize::from(guard[1])] >= u32::from(guard[2]), 3),
-        3 => (variables & (1 << guard[1]) != 0, 2),
-        4 => {
-            let (value, used) = evaluate(&guard[1..], variables, clocks);
-            (!value, 1 + used)
-        }
-        _ => {
-            let (left, left_used) = evaluate(&guard[1..], variables, clocks);
-            let (right, right_used) = evaluate(&guard[1 + left_used..], variables, clocks);
-            (left && right, 1 + left_used + right_used)
-        }
+        possible
     }
 }
 

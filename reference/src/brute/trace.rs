@@ -49,9 +49,14 @@ pub fn is_mutation(table: &Table, recording: &Recording, trace: &Trace) -> bool 
 /// The entries of the recording and of the trace together are those of one packet trace: what was
 /// heard was on the air, whether the unit got it or not.
 pub fn shares_the_air(table: &Table, recording: &Recording, trace: &Trace) -> bool {
+    is_packet_trace(table, &together(recording, trace))
+}
+
+/// The entries of both, in the order of their times.
+pub fn together(recording: &Recording, trace: &Trace) -> Trace {
     let mut together = trace.clone();
     together.extend(recording.rows.iter().map(|row| (u32::from(row.time), row.kind)));
     together.sort();
     together.dedup();
-    is_packet_trace(table, &together)
+    together
 }

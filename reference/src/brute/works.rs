@@ -9,6 +9,7 @@ use crate::witness::{Row, ADDED, KEPT, NO_TRANSITION, REMOVED};
 
 /// A monitor and the first tick at which the air is free, from the next one on.
 pub type Real = (Monitor, u32);
+pub type Possible = BTreeSet<Real>;
 
 /// The work of each instant from 1 to T, or to the first that leaves nothing.
 pub fn works(table: &Table, recording: &Recording) -> Vec<u64> {
@@ -27,8 +28,8 @@ pub fn works(table: &Table, recording: &Recording) -> Vec<u64> {
 }
 
 /// What is possible just before instant 1.
-pub fn start() -> BTreeSet<Real> {
-    BTreeSet::from([(Monitor::start(), 0)])
+pub fn start() -> Possible {
+    Possible::from([(Monitor::start(), 0)])
 }
 
 pub fn heard(recording: &Recording, time: u32) -> Option<Heard> {
@@ -36,13 +37,16 @@ pub fn heard(recording: &Recording, time: u32) -> Option<Heard> {
 }
 
 /// How many distinct situations these are just before this instant.
-pub fn work(table: &Table, possible: &BTreeSet<Real>, time: u32) -> u64 {
-    let capped: BTreeSet<_> = possible.iter().map(|real| cap(table, real, time)).collect();
-    capped.len() as u64
+pub fn work(table: &Table, possible: &Possible, time: u32) -> u64 {
+    let distinct: BTreeSet<_> = possible.iter().map(|it| situation(table, it, time)).collect();
+    distinct.len() as u64
 }
 
+/// State, variables, clocks and air.
+pub type Situation = (u8, u8, Vec<u32>, u32);
+
 /// The situation of the paper: clock values above M as M+1, and the ticks of taken air.
-fn cap(table: &Table, (monitor, free_from): &Real, time: u32) -> (u8, u8, Vec<u32>, u32) {
+pub fn situation(table: &Table, (monitor, free_from): &Real, time: u32) -> Situation {
     let clocks = (0..usize::from(table.clocks)).map(|clock| {
         let limits = table.transitions.iter().map(|it| largest_limit(&it.guard, clock).0);
         let highest = limits.max().unwrap_or(0) + 1;

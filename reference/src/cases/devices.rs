@@ -3,7 +3,7 @@
 
 use std::collections::BTreeMap;
 
-use crate::answer::Answer;
+use crate::answer::Verdict;
 use crate::call::Call;
 use crate::frame::{length_matches, LENGTH_BYTES};
 use crate::parts::TableParts;
@@ -29,7 +29,7 @@ pub struct Tally {
 
 impl Tally {
     /// Of a call that takes a table, with a frame in order.
-    pub fn note_call(&mut self, call: &Call, answer: Answer) {
+    pub fn note_call(&mut self, call: &Call, answer: Verdict) {
         let bytes = match call {
             Call::Validate { table, .. }
             | Call::Check { table, .. }
@@ -51,11 +51,11 @@ impl Tally {
         self.note(version, (0..count).map_while(kind), answer);
     }
 
-    pub fn note_parts(&mut self, parts: &TableParts, answer: Answer) {
+    pub fn note_parts(&mut self, parts: &TableParts, answer: Verdict) {
         self.note(parts.version, parts.covered().kinds.into_iter(), answer);
     }
 
-    fn note(&mut self, version: u8, kinds: impl Iterator<Item = Kind>, answer: Answer) {
+    fn note(&mut self, version: u8, kinds: impl Iterator<Item = Kind>, answer: Verdict) {
         *self.versions.entry(version).or_default() += 1;
         let named = |number: usize| answer.second == kind_offset(version, number) as u64;
         let kind = kinds.enumerate().find(|(number, _)| answer.number == 14 && named(*number));

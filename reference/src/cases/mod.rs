@@ -1,14 +1,15 @@
 //! The recorded cases: a batch of calls as one file, and what they must answer as another.
 //!
-//! A case is a head of 25 bytes and the files behind it. The head: what is called (0 validate,
-//! 1 check, 2 rewrite table, 3 rewrite recording, 4 rewrite witness, 5 the desk, 6 write table,
-//! 7 write recording, 8 write witness, 9 to 11 the same and reading back, and in edition 2
-//! 12 validate, 13 check, 14 rewrite witness, 15 write witness, 16 the same and reading back; all
-//! before are in edition 1), then six four-byte numbers, big-endian: budget, length of the scratch, length of the room, and the lengths of the
-//! first, second and third file. Before a call byte i of scratch and room is (7 i + 1) modulo 256.
-//! The answer is a line: number, second value, third value, and a sum over every number of the
-//! parts that were read back and every byte of scratch and then room after the call. A case of the
-//! desk answers its own lines. `given` says how files give parts.
+//! A case is a head of 25 bytes and the files behind it. The head: what is called (0 validate, 1
+//! check, 2 rewrite table, 3 rewrite recording, 4 rewrite witness, 5 the desk, 6 write table, 7
+//! write recording, 8 write witness, 9 to 11 the same and reading back, and in edition 2 12
+//! validate, 13 check, 14 rewrite witness, 15 write witness, 16 the same and reading back; all
+//! before are in edition 1), then six four-byte numbers, big-endian: budget, length of the scratch,
+//! length of the room, and the lengths of the first, second and third file. Before a call byte i of
+//! scratch and room is (7 i + 1) modulo 256. The answer is a line: number, second value, third
+//! value, how many pairs are not yet and how many no more (both 0 but for a rejection), and a sum
+//! over every number of the parts that were read back and every byte of scratch and then room after
+//! the call. A case of the desk answers its own lines. `given` says how files give parts.
 
 mod batch;
 mod devices;
@@ -19,14 +20,16 @@ pub use devices::{Tally, IN_FILES, IN_PARTS};
 use std::collections::BTreeMap;
 use std::io::{self, Write};
 
-use crate::answer::Answer;
+use crate::answer::{Counts, Verdict};
 use crate::call::{Call, ORDINARY};
+use crate::counted;
 use crate::desk;
 use crate::edition::Edition;
-use crate::generate::{calls, writings, Rng};
+use crate::generate::{calls, rejections, writings, Rng};
 use crate::limits;
 use crate::longer::handovers;
 use crate::narrowed::NARROWED;
+use crate::pair_tally::PairTally;
 use crate::papers::{recording, PAPERS, SMALL_MONITOR, SMALL_MONITOR_2};
 use crate::reaching;
 use crate::set;
@@ -41,6 +44,8 @@ const MOST_LONG: usize = 25;
 const LONGEST: usize = 70_000;
 const MUCH_LENT: usize = 20_000;
 const MOST_LENT_MUCH: usize = 260;
+/// As many random calls that turn on the counts of a rejection.
+const REJECTIONS: usize = 1_200;
 /// What the batch program takes at most: all files of a case together, and what it lends.
 pub const MOST_IN_FILES: usize = 400_000;
 pub const MOST_SCRATCH: usize = 400_000;
@@ -72,6 +77,8 @@ pub struct Cases {
     /// How often a set was counted that has so many bytes behind its whole words, one or more.
     /// The first work is always 1; a cost above it had a set counted.
     pub last_words: BTreeMap<usize, usize>,
+    /// Of the rejected validations, but for the desk's.
+    pub pairs: PairTally,
 }
 
 pub fn cases(seed: u64) -> io::Result<Cases> {
@@ -124,6 +131,10 @@ impl Cases {
         for it in reaching::tables() {
             self.desk_files(&it.bytes, &recording(&limits::HEARD), 10_000)?;
         }
+        // Some of these; they are called without the desk too.
+        for it in counted::recordings().iter().step_by(3) {
+            self.desk_files(&it.table, &it.recording(), u32::MAX)?;
+        }
         // Those for which the desk has no witness, or one of few lines.
         for it in handovers() {
             if it.is_late() || it.witness.rows.len() < 10 {
@@ -136,7 +147,8 @@ impl Cases {
         for call in limits::calls() {
             self.call(call)?;
         }
-        self.random_calls(seed)
+        self.random_calls(seed)?;
+        self.random_rejections(seed)
     }
 
     fn random_calls(&mut self, seed: u64) -> io::Result<()> {
@@ -147,6 +159,19 @@ impl Cases {
                 if !large.takes(&call) {
                     continue;
                 }
+                made += 1;
+                self.desk_of(&call, made)?;
+                self.call(call)?;
+            }
+        }
+        Ok(())
+    }
+
+    fn random_rejections(&mut self, seed: u64) -> io::Result<()> {
+        let mut rng = Rng::new(seed);
+        let mut made = 0;
+        while made < REJECTIONS {
+            for call in rejections(&mut rng) {
                 made += 1;
                 self.desk_of(&call, made)?;
                 self.call(call)?;
@@ -194,12 +219,15 @@ impl Cases {
         batch::head(&mut self.input, kind, budget, lent, &files)?;
         let outcome = call.run(&ORDINARY);
         *self.from_files.entry(outcome.answer.number).or_default() += 1;
+        if matches!((&call, outcome.answer.number), (Call::Validate { .. }, 1)) {
+            self.pairs.note(outcome.answer.counts);
+        }
         self.note_last_word(&call, outcome.answer);
         self.read.note_call(&call, outcome.answer);
         self.answer(outcome.answer, outcome.scratch.iter().chain(&outcome.room))
     }
 
-    fn note_last_word(&mut self, call: &Call, answer: Answer) {
+    fn note_last_word(&mut self, call: &Call, answer: Verdict) {
         let Call::Validate { table, .. } = call else { return };
         let size = table::read(table).map_or(0, |it| set::size(Space::of(&it).count()));
         if answer.number <= 1 && answer.second > 1 && size > set::WORD_BYTES {
@@ -214,6 +242,7 @@ impl Cases {
         batch::head(&mut self.input, kind, 0, (0, writing.room), &files)?;
         let mut room = batch::pattern(writing.room);
         let (answer, numbers) = writing.run(&mut room);
+        let answer = Verdict::from(answer);
         let tally = if writing.back { &mut self.from_back } else { &mut self.from_writing };
         *tally.entry(answer.number).or_default() += 1;
         if let Parts::Table(parts) = &writing.parts {
@@ -224,14 +253,15 @@ impl Cases {
 
     fn answer<'a>(
         &mut self,
-        answer: Answer,
+        answer: Verdict,
         bytes: impl Iterator<Item = &'a u8>,
     ) -> io::Result<()> {
         if answer.number == 17 {
             *self.unreached_states.entry(answer.second).or_default() += 1;
         }
         let sum = bytes.fold(1, |sum, byte| batch::add(sum, *byte));
-        writeln!(self.output, "{} {} {} {sum}", answer.number, answer.second, answer.third)
+        let Verdict { number, second, third, counts: Counts { not_yet, no_more } } = answer;
+        writeln!(self.output, "{number} {second} {third} {not_yet} {no_more} {sum}")
     }
 
     fn desk(&mut self, input: &[u8]) -> io::Result<()> {

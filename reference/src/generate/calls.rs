@@ -12,7 +12,7 @@ use super::spoil_tables::{spoil_devices, spoil_layout, spoil_table};
 use super::tables::{any_table, sound_table, Shape};
 use super::unreached_states::unreached_states;
 use super::witnesses::{guessed, spoil_witness};
-use crate::answer::Answer;
+use crate::answer::Verdict;
 use crate::call::Call;
 use crate::edition::Edition;
 use crate::recording::Recording;
@@ -171,7 +171,7 @@ fn validations(rng: &mut Rng, base: &Base, calls: &mut Vec<Call>) -> Option<Vec<
     learnt.preferred
 }
 
-fn budgets(rng: &mut Rng, learnt: Answer, most: usize) -> Vec<u32> {
+fn budgets(rng: &mut Rng, learnt: Verdict, most: usize) -> Vec<u32> {
     if learnt.number > 2 {
         return vec![rng.draw() as u32];
     }

@@ -1,6 +1,6 @@
 //! What the program itself says of two files, for inputs that turn on it.
 
-use crate::answer::Answer;
+use crate::answer::Verdict;
 use crate::edition::Edition;
 use crate::validate::validate;
 
@@ -10,7 +10,7 @@ pub struct Learnt {
     pub scratch: usize,
     pub room: usize,
     /// With every budget.
-    pub answer: Answer,
+    pub answer: Verdict,
     /// After acceptance, the preferred witness.
     pub preferred: Option<Vec<u8>>,
 }

@@ -1,5 +1,6 @@
 //! Calls at the limits of the paper, and one beyond each.
 
+mod counted;
 mod devices;
 mod longer;
 mod parts;
@@ -8,7 +9,7 @@ mod states;
 pub use parts::writings;
 pub use states::HEARD;
 
-use crate::answer::Answer;
+use crate::answer::Verdict;
 use crate::call::{Call, ORDINARY};
 use crate::edition::Edition;
 use crate::generate::encode_table;
@@ -100,6 +101,7 @@ pub fn calls() -> Vec<Call> {
     calls.extend(states::calls());
     calls.extend(devices::calls());
     calls.extend(longer::calls());
+    calls.extend(counted::calls());
     let one = recording(&[(1, DATA)]);
     for table in changed_tables() {
         calls.push(validation(&table, &one, 10_000));
@@ -131,7 +133,7 @@ fn validation(table: &[u8], recording: &[u8], budget: u32) -> Call {
 fn judged(calls: &mut Vec<Call>, table: &[u8], recording: &[u8]) {
     let whole = validation(table, recording, u32::MAX);
     let outcome = whole.run(&ORDINARY);
-    let Answer { number, second: cost, third: rows } = outcome.answer;
+    let Verdict { number, second: cost, third: rows, .. } = outcome.answer;
     calls.push(whole);
     if number > 1 {
         return;

@@ -1,6 +1,6 @@
 //! Recordings with late last times, of tables so small that works and witness can be said.
 
-use crate::answer::Answer;
+use crate::answer::{Counts, Verdict};
 use crate::edition::Edition;
 use crate::generate::encode_table;
 use crate::papers::recording;
@@ -12,7 +12,7 @@ pub struct Handover {
     pub table: Vec<u8>,
     pub rows: Vec<(u16, u8)>,
     /// With every budget, and where its edition is written.
-    pub answer: Answer,
+    pub answer: Verdict,
     /// After acceptance. Of a recording that is refused, all its rows kept.
     pub witness: Witness,
     /// S.
@@ -102,7 +102,7 @@ fn filled(last: u16) -> Handover {
         name: format!("every tick up to {last}"),
         table: one_state(1, &[0], NONE, &[transition(0, &[1, 0, 1], 1)]),
         rows: vec![(last, 0)],
-        answer: Answer::new(0, 2 * u64::from(last) - 1, last.into()),
+        answer: Verdict::new(0, 2 * u64::from(last) - 1, last.into()),
         witness: Witness { rows },
         set_size: with_limit(1),
     }
@@ -120,7 +120,7 @@ fn waited(last: u16, limit: u8) -> Handover {
         name: format!("at least {limit} at {last}"),
         table: waiting(limit),
         rows: vec![(last, 0)],
-        answer: Answer::new(0, last.into(), 1),
+        answer: Verdict::new(0, last.into(), 1),
         witness: Witness { rows: vec![row(KEPT, last, 0)] },
         set_size: with_limit(limit),
     }
@@ -130,7 +130,7 @@ fn waited_too_long(last: u16, limit: u8) -> Handover {
     Handover {
         name: format!("at most {limit} at {last}"),
         rows: vec![(last, 1)],
-        answer: Answer::new(1, last.into(), last.into()),
+        answer: Verdict::rejected(last.into(), last.into(), Counts::new(0, 1)),
         witness: Witness::default(),
         ..waited(last, limit)
     }
@@ -146,7 +146,7 @@ fn ticking(last: u16, kind: u8, limit: u8) -> Handover {
         name: format!("kind {kind} at {last} with a reset"),
         table: one_state(1, &[0, 0, 0], NONE, &[at_least, at_most, transition(2, &[0], 1)]),
         rows: vec![(last, kind)],
-        answer: Answer::new(0, works.sum(), 1),
+        answer: Verdict::new(0, works.sum(), 1),
         witness: Witness { rows: vec![row(KEPT, last, kind)] },
         set_size: with_limit(limit),
     }
@@ -161,7 +161,7 @@ fn long_ago(last: u16, limit: u8) -> Handover {
 fn just_before(last: u16, limit: u8) -> Handover {
     let rows = vec![row(ADDED, last - 1, 2), row(KEPT, last, 1)];
     let it = ticking(last, 1, limit);
-    let answer = Answer::new(0, it.answer.second, 2);
+    let answer = Verdict::new(0, it.answer.second, 2);
     Handover { answer, witness: Witness { rows }, ..it }
 }
 
@@ -184,7 +184,7 @@ fn slow(rows: &[(u16, u8)]) -> Handover {
         name: format!("slow packets {rows:?}"),
         table: slow_table(),
         rows: rows.to_vec(),
-        answer: Answer::new(0, (1..=last).map(work).sum(), rows.len() as u64),
+        answer: Verdict::new(0, (1..=last).map(work).sum(), rows.len() as u64),
         witness: Witness { rows: kept },
         set_size: 2,
     }
@@ -203,7 +203,7 @@ fn overlapping() -> Vec<Handover> {
     ];
     let refused = |(first, last): (u16, u16)| {
         let rows = [(first, 0), (last, 2)];
-        Handover { answer: Answer::new(24, 1, 0), ..slow(&rows) }
+        Handover { answer: Verdict::new(24, 1, 0), ..slow(&rows) }
     };
     pairs.into_iter().map(refused).collect()
 }

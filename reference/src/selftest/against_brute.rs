@@ -2,12 +2,13 @@
 
 use super::truth::{validate_one, Input};
 use super::{same, Counts};
+use crate::answer;
 use crate::brute::{
-    first_dead_instant, permitted_by_checker, preference, ruled_out, witnesses, works, Judged,
+    self, first_dead_instant, permitted_by_checker, possible_before, preference, ruled_out,
+    witnesses, work, works, Judged,
 };
-use crate::compare::hex;
 use crate::edition::Edition;
-use crate::generate::{any_rows, busy_air, overheard, sound_table, Rng, Shape};
+use crate::generate::{any_rows, busy_air, overheard, rejection, sound_table, Rng, Shape};
 use crate::recording::Recording;
 use crate::table::Table;
 
@@ -20,21 +21,22 @@ const MOST_CHECKS: u32 = 10_000;
 
 pub fn test(rng: &mut Rng, counts: &mut Counts) -> Result<(), String> {
     let small = small(rng);
-    test_one(rng, &small, counts).map_err(|text| {
-        let (table, recording) = (hex(&small.table_bytes), hex(&small.recording_bytes));
-        format!("{text}\ntable: {table}\nrecording: {recording}")
-    })
+    test_one(rng, &small, counts).map_err(|text| small.describe(&text))
 }
 
 fn small(rng: &mut Rng) -> Input {
-    let (table, recording) = match rng.one_in(3) {
-        true => {
+    let (table, recording) = match rng.below(4) {
+        0 => {
             // Three kinds, and guards that leave few runs: not too many traces up to 7.
             let last = rng.between(4, 7) as u16;
             let (table, recording, _) = busy_air(rng, last);
             (table, recording)
         }
-        false => any(rng),
+        1 => {
+            let last = rng.between(3, 5) as u16;
+            rejection(rng, last)
+        }
+        _ => any(rng),
     };
     Input::new(table, recording)
 }
@@ -58,7 +60,10 @@ fn test_one(rng: &mut Rng, small: &Input, counts: &mut Counts) -> Result<(), Str
     counts.inputs += 1;
     match truth.dead {
         None => counts.accepted += 1,
-        Some(_) => counts.rejected += 1,
+        Some((_, unready)) => {
+            counts.rejected += 1;
+            counts.pairs.note(unready);
+        }
     }
     let mut total = 0;
     let mut budgets = vec![u32::MAX];
@@ -105,5 +110,25 @@ fn truth(small: &Input, counts: &mut Counts) -> Result<Judged, String> {
         by_checker.sort_by_cached_key(|witness| preference(witness, last));
         same("permitted lists", &by_checker, &permitted)?;
     }
+    let dead = match (dead, works.last()) {
+        (Some(instant), Some(work)) => {
+            Some((instant, counted(table, recording, instant as u32, *work)?))
+        }
+        _ => None,
+    };
     Ok(Judged { works, dead, preferred: permitted.into_iter().next() })
+}
+
+/// The counts of a dead instant with this work, from whole traces.
+fn counted(
+    table: &Table,
+    recording: &Recording,
+    instant: u32,
+    expected: u64,
+) -> Result<answer::Counts, String> {
+    let possible = possible_before(table, recording, instant);
+    same("situations left by traces", work(table, &possible, instant), expected)?;
+    let row = recording.rows.iter().find(|row| u32::from(row.time) == instant);
+    let kind = row.ok_or("a dead instant without a row")?.kind;
+    Ok(brute::counts(table, &possible, instant, kind))
 }

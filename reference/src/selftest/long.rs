@@ -5,7 +5,6 @@ use super::{same, Counts};
 use crate::answer::Answer;
 use crate::brute::judge_long;
 use crate::check::check_witness;
-use crate::compare::hex;
 use crate::edition::Edition;
 use crate::generate::{encode_witness, late_time, long_handover, narrow_table, Rng};
 use crate::witness::{Witness, KEPT};
@@ -24,10 +23,7 @@ pub fn test(rng: &mut Rng, counts: &mut Counts) -> Result<(), String> {
     }
     let recording = long_handover(rng, &table, last);
     let input = Input::new(table, recording);
-    test_one(rng, &input, counts).map_err(|text| {
-        let (table, recording) = (hex(&input.table_bytes), hex(&input.recording_bytes));
-        format!("{text}\ntable: {table}\nrecording: {recording}")
-    })
+    test_one(rng, &input, counts).map_err(|text| input.describe(&text))
 }
 
 fn test_one(rng: &mut Rng, input: &Input, counts: &mut Counts) -> Result<(), String> {
@@ -38,7 +34,10 @@ fn test_one(rng: &mut Rng, input: &Input, counts: &mut Counts) -> Result<(), Str
     let written_in_1 = input.recording.last_time() <= 4_096;
     counts.long += 1;
     counts.long_in_2_alone += u64::from(!written_in_1);
-    counts.long_accepted += u64::from(truth.dead.is_none());
+    match truth.dead {
+        None => counts.long_accepted += 1,
+        Some((_, unready)) => counts.pairs.note(unready),
+    }
     let cost = truth.works.iter().sum::<u64>() as u32;
     for edition in Edition::BOTH {
         for budget in [u32::MAX, cost, cost - 1] {

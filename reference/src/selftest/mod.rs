@@ -5,14 +5,17 @@ mod against_brute;
 mod checks;
 mod devices;
 mod files;
+mod guards;
 mod long;
 mod papers;
+mod rejections;
 mod states;
 mod truth;
 
 use std::time::{Duration, Instant};
 
 use crate::generate::Rng;
+use crate::pair_tally::PairTally;
 
 /// A long handover takes long.
 const ROUNDS_TO_LONG: usize = 2;
@@ -50,6 +53,9 @@ pub struct Counts {
     pub long_in_2_alone: u64,
     pub long_accepted: u64,
     pub long_left: u64,
+    /// Guards asked what waiting does for them: yes, not yet, no more.
+    pub guards: [u64; 3],
+    pub pairs: PairTally,
 }
 
 /// Runs until the time is up; an error says what differed.
@@ -64,6 +70,8 @@ pub fn selftest(time: Duration, seed: u64) -> Result<Counts, String> {
         files::test(&mut rng, &mut counts)?;
         states::test(&mut rng, &mut counts)?;
         devices::test(&mut rng, &mut counts)?;
+        guards::test(&mut rng, &mut counts)?;
+        rejections::test(&mut rng, &mut counts)?;
         if rng.one_in(ROUNDS_TO_LONG) {
             long::test(&mut rng, &mut counts)?;
         }
@@ -73,6 +81,10 @@ pub fn selftest(time: Duration, seed: u64) -> Result<Counts, String> {
 
 impl Counts {
     pub fn report(&self) -> String {
+        [&self.searched(), &self.read(), &self.pairs.line(), "no difference\n"].concat()
+    }
+
+    fn searched(&self) -> String {
         format!(
             "papers: {} as stated\n\
              small inputs against brute force: {} ({} accepted, {} rejected)\n\
@@ -81,12 +93,7 @@ impl Counts {
              a removed packet's air rules traces out in: {} inputs ({} left with none)\n\
              all lists the checker permits enumerated: {} inputs ({} left as too many)\n\
              witnesses checked rule by rule: {}\n\
-             files read and written: {}\n\
-             tables' reach against brute force: {} ({} with unreached states)\n\
-             tables' kinds against the list of all: {} read ({} refused), {} written ({} refused)\n\
-             calls with a table in either version: {}\n\
-             long handovers against real monitors: {} ({} past 4,096, {} accepted, {} left as too many)\n\
-             no difference\n",
+             long handovers against real monitors: {} ({} past 4,096, {} accepted, {} left as too many)\n",
             self.papers,
             self.inputs,
             self.accepted,
@@ -98,6 +105,20 @@ impl Counts {
             self.checker_hunts,
             self.hunts_left,
             self.checks,
+            self.long,
+            self.long_in_2_alone,
+            self.long_accepted,
+            self.long_left
+        )
+    }
+
+    fn read(&self) -> String {
+        format!(
+            "files read and written: {}\n\
+             tables' reach against brute force: {} ({} with unreached states)\n\
+             tables' kinds against the list of all: {} read ({} refused), {} written ({} refused)\n\
+             calls with a table in either version: {}\n\
+             guards against the waits at which they change: {} yes, {} not yet, {} no more\n",
             self.files,
             self.tables,
             self.unreached,
@@ -106,10 +127,9 @@ impl Counts {
             self.kinds_written,
             self.kinds_not_written,
             self.both_versions,
-            self.long,
-            self.long_in_2_alone,
-            self.long_accepted,
-            self.long_left
+            self.guards[0],
+            self.guards[1],
+            self.guards[2]
         )
     }
 }

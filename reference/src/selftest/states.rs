@@ -46,7 +46,7 @@ fn test_one(table: &Table, bytes: &[u8], expected: Option<Refusal>) -> Result<()
     let no_recording = or(Answer::new(20, 0, 0));
     same("recording", rewrite_recording(bytes, &[], &mut []), no_recording)?;
     for edition in Edition::BOTH {
-        same("validate", validate(edition, bytes, &[], 0, &mut [], &mut []), no_recording)?;
+        same("validate", validate(edition, bytes, &[], 0, &mut [], &mut []), no_recording.into())?;
         same("check", check_witness(edition, bytes, &[], &[]), no_recording)?;
     }
     Ok(())

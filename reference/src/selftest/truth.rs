@@ -1,9 +1,10 @@
 //! What the definitions say of an input, and a validation held against it.
 
 use super::same;
-use crate::answer::Answer;
+use crate::answer::Verdict;
 use crate::brute::Judged;
 use crate::call::{Call, ORDINARY};
+use crate::compare::hex;
 use crate::edition::Edition;
 use crate::generate::{dirty, encode_recording, encode_table, encode_witness, Rng};
 use crate::recording::Recording;
@@ -22,21 +23,27 @@ impl Input {
         let (table_bytes, recording_bytes) = (encode_table(&table), encode_recording(&recording));
         Input { table, recording, table_bytes, recording_bytes }
     }
+
+    /// What was found of it, with its files.
+    pub fn describe(&self, found: &str) -> String {
+        let (table, recording) = (hex(&self.table_bytes), hex(&self.recording_bytes));
+        format!("{found}\ntable: {table}\nrecording: {recording}")
+    }
 }
 
 /// The answer that the truth asks for at this budget.
-fn expected(truth: &Judged, budget: u32) -> Answer {
+fn expected(truth: &Judged, budget: u32) -> Verdict {
     let budget = u64::from(budget);
     let mut cost = 0;
     for (place, work) in truth.works.iter().enumerate() {
         cost += work;
         if cost > budget {
-            return Answer::new(2, budget, place as u64 + 1);
+            return Verdict::new(2, budget, place as u64 + 1);
         }
     }
     match (truth.dead, &truth.preferred) {
-        (Some(instant), _) => Answer::new(1, cost, instant),
-        (None, Some(witness)) => Answer::new(0, cost, witness.rows.len() as u64),
+        (Some((instant, counts)), _) => Verdict::rejected(cost, instant, counts),
+        (None, Some(witness)) => Verdict::new(0, cost, witness.rows.len() as u64),
         (None, None) => unreachable!("a trace was found where no instant is dead"),
     }
 }
@@ -105,7 +112,7 @@ fn call(input: &Input, edition: Edition, budget: u32, scratch: &[u8], room: &[u8
 /// Every lent byte is as it was.
 fn refused(call: &Call, number: u64, value: usize) -> Result<(), String> {
     let outcome = call.run(&ORDINARY);
-    same("refusal", outcome.answer, Answer::new(number, value as u64, 0))?;
+    same("refusal", outcome.answer, Verdict::new(number, value as u64, 0))?;
     let Call::Validate { scratch, room, .. } = call else { unreachable!("a validation") };
     same("scratch and room kept", outcome.scratch == *scratch && outcome.room == *room, true)
 }

@@ -2,11 +2,12 @@
 
 use std::collections::BTreeSet;
 
-use lutarosa_reference::answer::Answer;
+use lutarosa_reference::answer::{Answer, Counts, Verdict};
 use lutarosa_reference::brute::Monitor;
 use lutarosa_reference::call::{Engine, ORDINARY};
 use lutarosa_reference::check::check_witness;
 use lutarosa_reference::edition::Edition;
+use lutarosa_reference::guard::Readiness;
 use lutarosa_reference::moves::{Fired, Moves};
 use lutarosa_reference::recording::{self, Heard, Recording};
 use lutarosa_reference::rewrite::rewrite_witness as rewrite_witness_now;
@@ -57,7 +58,7 @@ fn validate(
     budget: u32,
     scratch: &mut [u8],
     room: &mut [u8],
-) -> Answer {
+) -> Verdict {
     let refused_or_empty = validate_now(edition, table, recording, 0, scratch, room);
     if refused_or_empty.number != 2 {
         return refused_or_empty;
@@ -70,7 +71,7 @@ fn validate(
         Ok((cost, found)) => {
             let bytes = bytes_of(edition, &found);
             room[..bytes.len()].copy_from_slice(&bytes);
-            Answer::new(0, cost, found.rows.len() as u64)
+            Verdict::new(0, cost, found.rows.len() as u64)
         }
     }
 }
@@ -89,7 +90,7 @@ struct Step {
 }
 
 impl Search<'_> {
-    fn run(mut self, recording: &Recording, budget: u32) -> Result<(u64, Witness), Answer> {
+    fn run(mut self, recording: &Recording, budget: u32) -> Result<(u64, Witness), Verdict> {
         let instants = recording.instants();
         let (layers, cost) = self.layers(&instants, budget)?;
         let mut witness = Witness::default();
@@ -109,19 +110,19 @@ impl Search<'_> {
         &mut self,
         instants: &[Option<u8>],
         budget: u32,
-    ) -> Result<(Vec<BTreeSet<usize>>, u64), Answer> {
+    ) -> Result<(Vec<BTreeSet<usize>>, u64), Verdict> {
         let mut layers = vec![BTreeSet::from([self.space.number(&self.space.first())])];
         let mut cost = 0;
         for (place, heard) in instants.iter().enumerate() {
             let instant = place as u64 + 1;
             cost += layers[place].len() as u64;
             if cost > u64::from(budget) {
-                return Err(Answer::new(2, budget.into(), instant));
+                return Err(Verdict::new(2, budget.into(), instant));
             }
             let steps = layers[place].iter().flat_map(|it| self.steps(*it, *heard));
             let next: BTreeSet<usize> = steps.map(|it| it.next).collect();
             if next.is_empty() {
-                return Err(Answer::new(1, cost, instant));
+                return Err(Verdict::rejected(cost, instant, self.counts(&layers[place], *heard)));
             }
             layers.push(next);
         }
@@ -131,6 +132,14 @@ impl Search<'_> {
             now[place].retain(|it| self.steps(*it, *heard).iter().any(lasts));
         }
         Ok((layers, cost))
+    }
+
+    fn counts(&self, situations: &BTreeSet<usize>, heard: Option<u8>) -> Counts {
+        let each =
+            situations.iter().flat_map(|it| heard.map(|kind| self.moves.readiness(*it, kind)));
+        let all: Vec<Readiness> = each.flatten().collect();
+        let times = |of: Readiness| all.iter().filter(|it| **it == of).count() as u64;
+        Counts::new(times(Readiness::NotYet), times(Readiness::NoMore))
     }
 
     /// In the order of preference.

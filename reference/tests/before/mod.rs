@@ -4,6 +4,7 @@
 #![allow(dead_code)]
 
 pub mod air;
+pub mod counts;
 pub mod devices;
 pub mod editions;
 pub mod states;

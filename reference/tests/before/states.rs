@@ -171,5 +171,5 @@ fn may_hold(table: &Table, it: &Transition) -> bool {
     let near = |byte: &u8| (u32::from(*byte).saturating_sub(1)..).take(3);
     let values: BTreeSet<u32> = it.guard.iter().flat_map(near).chain([0]).collect();
     let pairs = || values.iter().flat_map(|first| values.iter().map(|second| [*first, *second]));
-    (0..1 << table.variables).any(|it| pairs().any(|clocks| guard.holds(it, &clocks)))
+    (0..1 << table.variables).any(|it| pairs().any(|clocks| guard.holds_after(0, it, &clocks)))
 }

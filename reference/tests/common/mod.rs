@@ -2,11 +2,16 @@
 
 #![allow(dead_code)]
 
-use lutarosa_reference::answer::Answer;
+use lutarosa_reference::answer::{Answer, Verdict};
 use lutarosa_reference::papers::SMALL_MONITOR;
 
 pub fn answer(number: u64, second: u64, third: u64) -> Answer {
     Answer::new(number, second, third)
+}
+
+/// Of a validation where there is nothing to count.
+pub fn verdict(number: u64, second: u64, third: u64) -> Verdict {
+    Verdict::new(number, second, third)
 }
 
 /// The small monitor with some bytes changed.

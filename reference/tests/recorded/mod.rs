@@ -28,6 +28,8 @@ pub struct Recorded {
 
 /// What is lent to most calls; long handovers are lent more.
 const USUALLY_LENT: usize = 30_000;
+/// Each such pair takes a wait after the other.
+const USUALLY_COUNTED: u64 = 100;
 
 impl Recorded {
     /// The calls and their outcomes.
@@ -35,9 +37,13 @@ impl Recorded {
         self.calls.iter().zip(OUTCOMES.iter())
     }
 
-    /// Those that are no long handovers, for rules that say nothing of them.
+    /// Those that are no long handovers and have few pairs to count, for rules that say nothing of
+    /// them.
     pub fn usual(&self) -> impl Iterator<Item = (&Call, &Outcome)> {
-        self.outcomes().filter(|(_, it)| it.scratch.len() + it.room.len() <= USUALLY_LENT)
+        self.outcomes().filter(|(_, it)| {
+            it.scratch.len() + it.room.len() <= USUALLY_LENT
+                && it.answer.counts.no_more <= USUALLY_COUNTED
+        })
     }
 
     pub fn tables(&self) -> impl Iterator<Item = &TableParts> {

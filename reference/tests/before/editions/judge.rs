@@ -3,9 +3,10 @@
 use std::collections::HashMap;
 use std::sync::{LazyLock, Mutex};
 
-use lutarosa_reference::answer::{Answer, Refusal};
+use lutarosa_reference::answer::{Answer, Refusal, Verdict};
 use lutarosa_reference::call::ORDINARY;
 use lutarosa_reference::edition::Edition;
+use lutarosa_reference::guard::Readiness;
 use lutarosa_reference::recording::{read_against, Heard, Recording};
 use lutarosa_reference::situation::Space;
 use lutarosa_reference::table::{self, Table};
@@ -109,8 +110,8 @@ impl<'a> Follower<'a> {
         let time = u32::from(row.time);
         let it = self.table.transitions.get(usize::from(row.transition))?;
         let clocks = self.last_reset.map(|reset| (self.rule.reads)(time - reset));
-        let holds = self.table.guard(it)?.holds(self.variables, &clocks);
-        if it.from != self.state || it.kind != row.kind || !holds {
+        let readiness = self.table.guard(it)?.readiness(self.variables, &clocks);
+        if it.from != self.state || it.kind != row.kind || readiness != Readiness::Yes {
             return None;
         }
         self.state = it.to;
@@ -130,7 +131,7 @@ pub fn validate(
     budget: u32,
     scratch: &mut [u8],
     room: &mut [u8],
-) -> Result<Answer, Refusal> {
+) -> Result<Verdict, Refusal> {
     let (parts, heard) = read_both(rule, table, recording)?;
     let last = heard.last_time();
     let wanted = (rule.room)(edition, last + heard.rows.len());
@@ -159,7 +160,7 @@ pub fn validate(
     Ok(answer)
 }
 
-type Judgement = (Answer, Vec<Row>);
+type Judgement = (Verdict, Vec<Row>);
 type Judgements = Mutex<HashMap<(Vec<u8>, Vec<u8>, u32), Judgement>>;
 
 /// What the search says, kept for the next rule.
