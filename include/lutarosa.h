@@ -54,10 +54,26 @@ struct lutarosa_answer {
     uint64_t third;
 };
 
+/* A verdict has two counts besides (R-10), both 0 where nothing is rejected: over the situations that were possible just
+ * before the moves of the rejected instant and had the air free, and the transitions of the recorded kind from their
+ * state, the pairs whose guard did not hold
+ *
+ *    not_yet    but would after waiting for some ticks: the packet came too early
+ *    no_more    and would not after any wait: the packet came too late, or never fits
+ */
+struct lutarosa_verdict {
+    uint64_t number;
+    uint64_t second;
+    uint64_t third;
+    uint64_t not_yet;
+    uint64_t no_more;
+};
+
 /* Judges a recording against a table, at a cost of at most the budget.
  *
  *    0   accepted     second: cost     third: rows of the witness
  *    1   rejected     second: cost     third: instant after whose moves nothing is left
+ *                     not_yet, no_more: as above
  *    2   exhausted    second: budget   third: instant at which the cost passes it
  *
  * Lent, whatever they hold: a scratch of (T + 1) * S bytes and a room of 5 + 5 * (T + n) bytes, in edition 2 of
@@ -67,17 +83,17 @@ struct lutarosa_answer {
  * After 0, 1 and 2 the wanted part of the scratch is zero. After 0 the preferred witness stands at the start of the room,
  * 5 + 5 * rows bytes, in edition 2 9 + 5 * rows. All other lent bytes are as they were.
  */
-struct lutarosa_answer lutarosa_validate(const uint8_t *table, size_t table_length,
-                                         const uint8_t *recording, size_t recording_length,
-                                         uint32_t budget,
-                                         uint8_t *scratch, size_t scratch_length,
-                                         uint8_t *room, size_t room_length);
+struct lutarosa_verdict lutarosa_validate(const uint8_t *table, size_t table_length,
+                                          const uint8_t *recording, size_t recording_length,
+                                          uint32_t budget,
+                                          uint8_t *scratch, size_t scratch_length,
+                                          uint8_t *room, size_t room_length);
 
-struct lutarosa_answer lutarosa_validate_edition2(const uint8_t *table, size_t table_length,
-                                                  const uint8_t *recording, size_t recording_length,
-                                                  uint32_t budget,
-                                                  uint8_t *scratch, size_t scratch_length,
-                                                  uint8_t *room, size_t room_length);
+struct lutarosa_verdict lutarosa_validate_edition2(const uint8_t *table, size_t table_length,
+                                                   const uint8_t *recording, size_t recording_length,
+                                                   uint32_t budget,
+                                                   uint8_t *scratch, size_t scratch_length,
+                                                   uint8_t *room, size_t room_length);
 
 /* Checks a witness against a table and a recording.
  *

@@ -25,8 +25,8 @@ static const uint8_t recording[] = {0x00, 0x06, 0x01, 0x00, 0x01, 0x00, 0x01, 0x
 
 int main(void) {
     uint8_t scratch[12], room[15];
-    struct lutarosa_answer a = lutarosa_validate(table, sizeof table, recording, sizeof recording, 10000,
-                                                 scratch, sizeof scratch, room, sizeof room);
+    struct lutarosa_verdict a = lutarosa_validate(table, sizeof table, recording, sizeof recording, 10000,
+                                                  scratch, sizeof scratch, room, sizeof room);
     printf("%" PRIu64 " %" PRIu64 " %" PRIu64 "\n", a.number, a.second, a.third);
     for (size_t i = 0; a.number == 0 && i < 5 + 5 * a.third; i++) {
         printf(i == 0 ? "%02x" : " %02x", room[i]);

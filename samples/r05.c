@@ -5,9 +5,9 @@
  * gcc -std=c11 -Wall -Wextra -pedantic -Iinclude samples/r05.c target/staticlib/liblutarosa.a -o /tmp/r05
  * /tmp/r05 samples/small.table samples/r05.recording
  *
- * It prints, for judging and for checking, number, second and third value:
+ * It prints number, second and third value, for judging also the two counts of a rejection, and for checking:
  *
- *    0 1139872 3
+ *    0 1139872 3 0 0
  *    0 1 3
  */
 #include <inttypes.h>
@@ -29,10 +29,6 @@ static size_t read_file(const char *name, uint8_t *bytes) {
     return length;
 }
 
-static void print(struct lutarosa_answer a) {
-    printf("%" PRIu64 " %" PRIu64 " %" PRIu64 "\n", a.number, a.second, a.third);
-}
-
 static uint8_t *lent(size_t length) {
     uint8_t *bytes = malloc(length == 0 ? 1 : length);
     if (bytes == NULL) {
@@ -48,7 +44,7 @@ int main(int count, char **names) {
         return 1;
     }
     size_t t = read_file(names[1], table), r = read_file(names[2], recording), s = 0, w = 0;
-    struct lutarosa_answer a;
+    struct lutarosa_verdict a;
     uint8_t *scratch = lent(0), *room = lent(0);
     for (;;) {
         a = lutarosa_validate_edition2(table, t, recording, r, UINT32_MAX, scratch, s, room, w);
@@ -62,9 +58,11 @@ int main(int count, char **names) {
             break;
         }
     }
-    print(a);
+    printf("%" PRIu64 " %" PRIu64 " %" PRIu64 " ", a.number, a.second, a.third);
+    printf("%" PRIu64 " %" PRIu64 "\n", a.not_yet, a.no_more);
     if (a.number == 0) {
-        print(lutarosa_check_edition2(table, t, recording, r, room, 9 + 5 * a.third));
+        struct lutarosa_answer c = lutarosa_check_edition2(table, t, recording, r, room, 9 + 5 * a.third);
+        printf("%" PRIu64 " %" PRIu64 " %" PRIu64 "\n", c.number, c.second, c.third);
     }
     free(scratch);
     free(room);

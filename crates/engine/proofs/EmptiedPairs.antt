@@ -1,12 +1,11 @@
 -- The pairs that the code counts in a row of the scratch are those of the definition.
-use Prim.Native.Nat.{ℕ, zero, suc, _+_, _-_, _*_, _<_, _≤_, min}
+use Prim.Native.Nat.{ℕ, zero, suc, _+_, _-_, _*_, _<_, min}
 use native.Mathlib.Omega.{arith}
-use native.Mathlib.Numerals.{add-one}
-use mathlib.Core.Path.{_≡_, refl, sym, ap, ap₂, subst, _∙_}
+use mathlib.Core.Path.{_≡_, refl, sym, ap, ap₂, _∙_}
 use mathlib.Core.List.{List}
-use mathlib.Core.Bool.{Bool, false, _&&_}
+use mathlib.Core.Bool.{Bool, _&&_}
 use mathlib.Core.Option.{Option}
-use lib.ListN.{length, getD}
+use lib.ListN.{length}
 use Rattle.model.specs.Limits.{sizeLimit}
 use Rattle.model.specs.Monitor.{Monitor}
 use Rattle.model.specs.Table.{monitorAt}
@@ -17,8 +16,6 @@ use Rattle.model.specs.Validation.{pairsAt}
 use Rattle.model.specs.declared.Readiness.{Readiness}
 use Rattle.model.specs.declared.Readiness.the-variants.{NotYet, NoMore}
 use Rattle.model.specs.declared.Situation.{Situation}
-use Rattle.bits.specs.Member.{mem}
-use Rattle.monitor.specs.From.{monitorFrom}
 use Rattle.situation.specs.Rows.{heardAt}
 use Rattle.situation.specs.Numbering.{situationBy}
 use Rattle.situation.proofs.Cursors.{heard-recorded}
@@ -26,7 +23,6 @@ use Rattle.layers.specs.Pairing.{few, saysIn, CountedIn}
 use Rattle.layers.specs.declared.pairs.Pairs.{Pairs}
 use Rattle.layers.proofs.PairCounts.{same-pass}
 use Rattle.engine.specs.declared.measures.Measures.{Measures}
-use Rattle.engine.specs.declared.forward.Outcome.{Outcome}
 use Rattle.engine.specs.declared.forward.Outcome.the-variants.{Emptied}
 use Rattle.engine.specs.Forwarding.{Emptying, emptiedAt}
 use Rattle.engine.proofs.Rows.{sizeOf, possible}

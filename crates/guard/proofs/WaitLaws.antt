@@ -14,7 +14,6 @@ use Rattle.model.specs.Readiness.{waited}
 use Rattle.model.proofs.Basics.{leb-same}
 use Rattle.model.proofs.ReadinessLaws.{waited-there, waited-past}
 use Rattle.guard.specs.Waits.{bitsOf, wordOf, waitsOf, rest, others, common, isNone}
-use Rattle.guard.specs.declared.waits.Waits.{Waits}
 
 -- bits
 

@@ -2,8 +2,6 @@
 // Bounds are bytes: where no wait up to 256 makes a guard hold, none will.
 use wire::short;
 ghost use mathlib.Core.Path.{_≡_};
-ghost use mathlib.Core.Bool.{not, _&&_};
-ghost use Prim.Native.Nat.{_≤_};
 ghost use lib.ListN.{getD};
 ghost use lib.Dec.{leb};
 ghost use Rattle.model.specs.Readiness.{waited};

@@ -8,7 +8,7 @@ use Rattle.model.specs.Numbers.{values, counts}
 use Rattle.model.specs.declared.Readiness.{Readiness}
 use Rattle.model.specs.declared.Readiness.the-variants.{Yes, NotYet, NoMore}
 use Rattle.model.specs.declared.Edition.the-variants.{One}
-use Rattle.model.proofs.Examples.{Run, run, rejected, printed, table, two}
+use Rattle.model.proofs.Examples.{run, rejected, printed, table, two}
 
 -- a guard, variables, what the clocks read, and the answer
 pub guards : List (Guard × ℕ × List ℕ × Readiness)

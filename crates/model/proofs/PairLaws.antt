@@ -15,7 +15,7 @@ use Rattle.model.specs.Readiness.{GuardAnswers, readiness}
 use Rattle.model.specs.Monitor.{Monitor, Config, Transition, tried}
 use Rattle.model.specs.Trace.{Packet}
 use Rattle.model.specs.Size.{size}
-use Rattle.model.specs.Situation.{TwoClocks, InRange, configOf, capped, situationOf, recordedAt, moveLimit, stepNumber, firstNumber}
+use Rattle.model.specs.Situation.{InRange, configOf, situationOf, recordedAt, moveLimit, stepNumber, firstNumber}
 use Rattle.model.specs.Pairs.{howMany, pairs, sameAnswer, isAnswer, answerIn, isPair}
 use Rattle.model.specs.Validation.{possibleAfter, pairsAt}
 use Rattle.model.specs.CountedPairs.{Pair, OnceEach, Counted}

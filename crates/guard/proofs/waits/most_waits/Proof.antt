@@ -1,8 +1,7 @@
-use Prim.Native.Nat.{_-_}
+use Prim.Native.Nat.{ℕ, _-_}
 use native.Mathlib.Omega.{arith}
 use mathlib.Core.Path.{ap, _∙_}
 use lib.Dec.{leb}
-use Prim.Native.Nat.{ℕ}
 use Rattle.guard.specs.Waits.{waitsOf}
 use Rattle.guard.proofs.WaitLaws.{absent-most, past-most, still-most}
 use borrow.Author.Needs.{needs}

@@ -1,7 +1,6 @@
 -- `pairs::count_pairs` meets its contract. The invariant: the pairs of the situations before n are counted.
 use Prim.Native.Nat.{_-_, _≤_, min}
 use native.Mathlib.Omega.{arith}
-use mathlib.Core.Path.{_≡_}
 use Rattle.model.specs.Limits.{sizeLimit}
 use Rattle.situation.specs.Stepping.{heardOf}
 use Rattle.layers.specs.Pairing.{few, saysIn}

@@ -1,6 +1,5 @@
-use mathlib.Core.Path.{_≡_, refl, sym, ap, _∙_}
-use mathlib.Core.Bool.{Bool, true, false, _&&_}
-use Rattle.model.specs.declared.Readiness.{Readiness}
+use mathlib.Core.Path.{sym, ap, _∙_}
+use mathlib.Core.Bool.{Bool, _&&_}
 use Rattle.model.specs.declared.Situation.{Situation}
 use Rattle.situation.specs.Stepping.{heardOf, situationBy}
 use Rattle.layers.specs.Pairing.{few, says, saysIn}

@@ -1,9 +1,8 @@
-use mathlib.Core.Path.{_≡_, refl, sym, ap, subst}
-use mathlib.Core.Option.{Option, none, some}
-use Prim.Native.Nat.{ℕ}
+use mathlib.Core.Path.{_≡_}
+use mathlib.Core.Option.{none}
 use Rattle.situation.specs.declared.Heard.the-variants.{Nothing, Kind}
 use Rattle.situation.specs.Stepping.{heardOf}
-use Rattle.layers.specs.Pairing.{few, says, Tallied}
+use Rattle.layers.specs.Pairing.{few, says}
 use Rattle.layers.proofs.PairCounts.{no-answers, says-nothing, says-taken}
 use borrow.Author.Needs.{needs}
 use Rattle.layers.proofs.pairs.situation_pairs.Statement.{statement}

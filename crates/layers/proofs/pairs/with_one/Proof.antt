@@ -1,4 +1,3 @@
-use native.Mathlib.Omega.{arith}
 use mathlib.Core.Path.{_≡_}
 use Rattle.model.specs.declared.Readiness.the-variants.{Yes, NotYet, NoMore}
 use Rattle.monitor.specs.declared.Attempt.the-variants.{Unfit, Answer}
