@@ -14,20 +14,20 @@ use situation::step::config_of;
 ghost use mathlib.Core.Path.{_≡_};
 ghost use mathlib.Core.Option.{some};
 ghost use Prim.Native.Nat.{_<_, min};
-ghost use Rattle.model.specs.Limits.{sizeLimit};
+ghost use Rattle.model.specs.Limits.{transitionLimit, sizeLimit};
 ghost use Rattle.monitor.specs.From.{attemptOf};
 ghost use Rattle.situation.specs.Stepping.{heardOf};
 ghost use Rattle.layers.specs.Pairing.{few, says, saysIn, OneMore, Tallied, CountedIn};
 
-// How many pairs answer not yet, and how many no more.
+// How many pairs answer not yet (too early), and how many no more (too late).
 pub struct Pairs {
     pub early: u64,
     pub late: u64,
 }
 
-// One pair more.
+// One transition more of a situation.
 fn with_one(found: Pairs, tried: Attempt) -> Pairs
-    requires { ⌜ (found .early < 4194304) × (found .late < 4194304) ⌝ }
+    requires { ⌜ (found .early < transitionLimit) × (found .late < transitionLimit) ⌝ }
     ensures { λ r. ⌜ OneMore found (attemptOf tried) r ⌝ }
 {
     let Attempt::Answer(answer) = tried else {

@@ -20,9 +20,10 @@ use Rattle.model.specs.Layers.{count, firstFrom, spread, image, layer, t
 use Rattle.model.specs.Pairs.{howMany, pairs, answerIn}
 use Rattle.model.specs.Numbers.{Values, values, verdictValues, Counts, counts, verdictCounts}
 use Rattle.model.specs.Witness.{rowsBytes, witnessBytes}
-use Rattle.model.specs.Validation.{rowsBy, rowsOf, preferred, pairsAt, verdict, refusal, validation, scratchAfter, roomAfter, possibleAfter}
+use Rattle.model.specs.Validation.{rowsBy, rowsOf, preferred, pairsAt, verdict, scratchWanted, refusal, validation, scratchBy, roomBy, scratchAfter, roomAfter, possibleAfter}
 use Rattle.model.specs.Desk.{digits, rowLines, verdictLines, judgedLines, tableLength, linesFor, deskLines}
 use Rattle.model.specs.declared.Edition.{Edition}
+use Rattle.model.specs.declared.Verdict.{Verdict}
 use Rattle.model.specs.declared.Edition.the-variants.{One}
 
 -- what a run leaves: its values, the scratch and the room
@@ -32,20 +33,32 @@ pub record Run : Type 0 where
   pub scratch : List ℕ
   pub room : List ℕ
 
-dirtyScratch : List ℕ
+pub dirtyScratch : List ℕ
 dirtyScratch = replicate 100 7
 
-dirtyRoom : List ℕ
+pub dirtyRoom : List ℕ
 dirtyRoom = replicate 90 9
 
-unfoldable pub run : Edition → (table recording : List ℕ) → ℕ → Run
-unfolding dirtyScratch dirtyRoom tab joined padded holds largest leafAt guardAt changed reset fires largestIn greatest cap size among targets reachedIn isReached lowestMissing statesAnswer wholeAnswer guardIn transitionIn monitorOf framed framedRows countsOf impliedDevice deviceAt deviceFits kindRecord kindRecords apart transitionFields guardRecord transitionRecord transitionRecords transitionAt guardPlace tableParts scanWith tableScan answerWith tableAnswer clearOfBefore recordedRow recordedRows recordingFrame recordingScan recordingAnswer recordingParts packetsOf endOf capped sent missed moved stepBy recordedAt moveOf number situationOf stepNumber count firstFrom spread image layer total lastInstant cost passing leads live walk leastMoves rowsBy rowsOf preferred greatestBound comesBy readiness tried howMany pairs answerIn pairsAt verdict refusal validation bind rowsBytes witnessBytes scratchAfter roomAfter
-run edition table recording budget =
+-- a run as the definitions give it
+abbrev pub defined : Edition → (table recording : List ℕ) → ℕ → Run
+defined edition table recording budget =
     record {
       answer = verdictValues (validation edition table recording budget (length dirtyScratch) (length dirtyRoom));
       counts = verdictCounts (validation edition table recording budget (length dirtyScratch) (length dirtyRoom));
       scratch = scratchAfter edition table recording budget dirtyScratch dirtyRoom;
       room = roomAfter edition table recording budget dirtyScratch dirtyRoom;
+    }
+
+-- the same, with the verdict worked out once
+unfoldable pub run : Edition → (table recording : List ℕ) → ℕ → Run
+unfolding dirtyScratch dirtyRoom tab joined padded holds largest leafAt guardAt changed reset fires largestIn greatest cap size among targets reachedIn isReached lowestMissing statesAnswer wholeAnswer guardIn transitionIn monitorOf framed framedRows countsOf impliedDevice deviceAt deviceFits kindRecord kindRecords apart transitionFields guardRecord transitionRecord transitionRecords transitionAt guardPlace tableParts scanWith tableScan answerWith tableAnswer clearOfBefore recordedRow recordedRows recordingFrame recordingScan recordingAnswer recordingParts packetsOf endOf capped sent missed moved stepBy recordedAt moveOf number situationOf stepNumber count firstFrom spread image layer total lastInstant cost passing leads live walk leastMoves rowsBy rowsOf preferred greatestBound comesBy readiness tried howMany pairs answerIn pairsAt verdict refusal validation bind rowsBytes witnessBytes
+run edition table recording budget =
+    let v : Verdict = validation edition table recording budget (length dirtyScratch) (length dirtyRoom) in
+    record {
+      answer = verdictValues v;
+      counts = verdictCounts v;
+      scratch = scratchBy v (scratchWanted table recording) dirtyScratch;
+      room = roomBy v (witnessBytes edition (preferred (monitorAt table) (packetsAt recording))) dirtyRoom;
     }
 
 -- a run that answers 0, 1 or 2: so many bytes of the scratch are zero, and these stand at the start of the room
@@ -153,10 +166,15 @@ p5Output =
 
 -- what document 01 says of P1 to P12
 pub record Page : Type 0 where
+  pub runs-defined : (edition : Edition) (table recording : List ℕ) (budget : ℕ) → run edition table recording budget ≡ defined edition table recording budget
   pub runs-right : runs One table ≡ expected (λ witness. witness)
   pub p5-works : works table p5 6 ≡ 1 ∷ 1 ∷ 1 ∷ 2 ∷ 3 ∷ 5 ∷ []
   pub p5-output : printed p5Input ≡ p5Output
 
+run-defined : (edition : Edition) (table recording : List ℕ) (budget : ℕ) → run edition table recording budget ≡ defined edition table recording budget
+unfolding run scratchAfter roomAfter
+run-defined edition table recording budget = refl
+
 pub page : Page
 unfolding runs expected works printed table p5 p5Input p5Output
-page = record { runs-right = refl; p5-works = refl; p5-output = refl }
+page = record { runs-defined = run-defined; runs-right = refl; p5-works = refl; p5-output = refl }
