@@ -19,7 +19,7 @@ use Rattle.model.specs.declared.Situation.{Situation}
 use Rattle.situation.specs.Rows.{heardAt}
 use Rattle.situation.specs.Numbering.{situationBy}
 use Rattle.situation.proofs.Cursors.{heard-recorded}
-use Rattle.layers.specs.Pairing.{few, saysIn, CountedIn}
+use Rattle.layers.specs.Pairing.{transitionCount, answersInRow, CountedIn}
 use Rattle.layers.specs.declared.pairs.Pairs.{Pairs}
 use Rattle.layers.proofs.PairCounts.{same-pass}
 use Rattle.engine.specs.declared.measures.Measures.{Measures}
@@ -41,7 +41,7 @@ module _ {table offsets recording scratch : List ℕ} {g : Measures} {t i : ℕ}
   recorded = e ∙ heard-recorded m recording (given .setting .sound .trace) (given .cursor)
 
   one-pair : (a : Readiness) (n j : ℕ) → n < g .size
-      → saysIn table offsets (g .shape) heard scratch (8 * g .row * t) a n j ≡ isPair m (possible table recording t) (recordedAt (packetsAt recording) (t + 1)) a n j
+      → answersInRow table offsets (g .shape) heard scratch (8 * g .row * t) a n j ≡ isPair m (possible table recording t) (recordedAt (packetsAt recording) (t + 1)) a n j
   one-pair a n j inside =
       ap₂ _&&_
       (given .layers t (omega arith) n (omega (arith, given .setting .wide)))
@@ -49,15 +49,15 @@ module _ {table offsets recording scratch : List ℕ} {g : Measures} {t i : ℕ}
       ∙ ap (λ (s : Situation). isAnswer a (answerIn m heard s j)) (given .setting .situations n inside)
       ∙ ap (λ (o : Option ℕ). isAnswer a (answerIn m o (situationOf m n) j)) recorded)
 
-  all-pairs : (a : Readiness) → pairs (saysIn table offsets (g .shape) heard scratch (8 * g .row * t) a) (min (g .size) sizeLimit) (few table) ≡ pairsAt m (packetsAt recording) a (t + 1)
+  all-pairs : (a : Readiness) → pairs (answersInRow table offsets (g .shape) heard scratch (8 * g .row * t) a) (min (g .size) sizeLimit) (transitionCount table) ≡ pairsAt m (packetsAt recording) a (t + 1)
   unfolding pairsAt
   all-pairs a =
       let whole : min (g .size) sizeLimit ≡ sizeOf table = omega (arith, given .setting .wide, given .setting .narrow, given .setting .whole) in
       let instant : t + 1 - 1 ≡ t = omega arith in
-      ap₂ (λ (x y : ℕ). pairs (saysIn table offsets (g .shape) heard scratch (8 * g .row * t) a) x y) whole (given .setting .counted)
+      ap₂ (λ (x y : ℕ). pairs (answersInRow table offsets (g .shape) heard scratch (8 * g .row * t) a) x y) whole (given .setting .counted)
       ∙ same-pairs _ _ (sizeOf table) (length (m .transitions)) (λ n j b. one-pair a n j (omega (arith, given .setting .whole)))
       ∙ ap (λ (x : ℕ). pairs (isPair m (possible table recording x) (recordedAt (packetsAt recording) (t + 1)) a) (sizeOf table) (length (m .transitions))) (sym instant)
 
-  pub emptied-pairs : (cost : ℕ) (r : Pairs) → CountedIn (saysIn table offsets (g .shape) heard scratch (8 * g .row * t)) (g .size) (few table) r
+  pub emptied-pairs : (cost : ℕ) (r : Pairs) → CountedIn (answersInRow table offsets (g .shape) heard scratch (8 * g .row * t)) (g .size) (transitionCount table) r
       → Emptied cost (t + 1) (r .early) (r .late) ≡ emptiedAt table recording cost t
   emptied-pairs cost r c = ap₂ (λ (x y : ℕ). Emptied cost (t + 1) x y) (c .early ∙ all-pairs NotYet) (c .late ∙ all-pairs NoMore)

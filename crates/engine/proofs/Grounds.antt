@@ -27,7 +27,7 @@ use Rattle.situation.proofs.Numbered.{same-number, same-situation}
 use Rattle.situation.proofs.Ticks.{same-capped}
 use Rattle.situation.proofs.Shaped.{table-shape}
 use Rattle.layers.specs.Advance.{stepAt}
-use Rattle.layers.specs.Pairing.{few}
+use Rattle.layers.specs.Pairing.{transitionCount}
 use Rattle.engine.specs.declared.measures.Measures.{Measures}
 use Rattle.engine.specs.Measured.{Measured}
 use Rattle.engine.specs.Setting.{Setting}
@@ -71,7 +71,7 @@ module _ (table : List ℕ) (sound : SoundTable table) where
       ∙ ap (λ (w : List ℕ → List ℕ). Option·map (number (monitorAt table)) (stepBy (monitorAt table) w heard (situationBy h n) (moveOf k))) writes
       ∙ ap (λ (x : Situation). Option·map (number (monitorAt table)) (stepBy (monitorAt table) (capped (monitorAt table)) heard x (moveOf k))) from
 
-  counted : few table ≡ length (monitorAt table .transitions)
+  counted : transitionCount table ≡ length (monitorAt table .transitions)
   unfolding monitorOf tableParts
   counted = omega (arith, facts .counts .transitions, length-tab (transitionIn (tableParts table)) (transitionsAt table))
 

@@ -14,7 +14,7 @@ use Rattle.bits.specs.Member.{mem}
 use Rattle.monitor.specs.From.{monitorFrom}
 use Rattle.situation.specs.Numbering.{situationBy}
 use Rattle.layers.specs.Advance.{stepAt}
-use Rattle.layers.specs.Pairing.{few}
+use Rattle.layers.specs.Pairing.{transitionCount}
 use Rattle.engine.specs.declared.measures.Measures.{Measures}
 
 -- the measures are right, and the code's monitor, situations and step are the definition's, at every instant
@@ -27,7 +27,7 @@ pub record Setting (table offsets recording : List ℕ) (g : Measures) : Type 0 
   pub end : g .last ≡ endOf (packetsAt recording)
   pub start : g .first ≡ firstNumber (monitorAt table)
   pub described : monitorFrom table offsets ≡ monitorAt table
-  pub counted : few table ≡ length (monitorAt table .transitions)
+  pub counted : transitionCount table ≡ length (monitorAt table .transitions)
   pub situations : (n : ℕ) → n < g .size → situationBy (g .shape) n ≡ situationOf (monitorAt table) n
   pub stepping : (t n k : ℕ) → n < g .size
       → stepAt table offsets (g .shape) (recordedAt (packetsAt recording) t) n k ≡ stepNumber (monitorAt table) (packetsAt recording) t n k

@@ -20,7 +20,7 @@ use Rattle.monitor.specs.From.{attemptOf, monitorFrom}
 use Rattle.monitor.specs.declared.Attempt.{Attempt}
 use Rattle.monitor.specs.declared.Attempt.the-variants.{Unfit, Answer}
 use Rattle.layers.specs.declared.pairs.Pairs.{Pairs}
-use Rattle.layers.specs.Pairing.{says, OneMore, Tallied, CountedIn}
+use Rattle.layers.specs.Pairing.{answersAs, OneMore, Tallied, CountedIn}
 
 -- numbers that pass
 
@@ -87,13 +87,13 @@ tallied-as p q l r h t = record { early = t .early ∙ same-pass (p NotYet) (q N
 
 module _ (table offsets : List ℕ) (s : Situation) (a : Readiness) (j : ℕ) where
   -- where the air is free, a transition answers what is tried of it
-  pub says-free : (k : ℕ) → s .air ≡ 0 → isAnswer a (tried (monitorFrom table offsets) j k (configOf s)) ≡ says table offsets (some k) s a j
+  pub says-free : (k : ℕ) → s .air ≡ 0 → isAnswer a (tried (monitorFrom table offsets) j k (configOf s)) ≡ answersAs table offsets (some k) s a j
   unfolding answerIn bind
   says-free k free = rw (eq-eqb (s .air) 0 free)
 
   -- nothing answers where nothing is heard or the air is taken
 
-  pub says-nothing : says table offsets none s a j ≡ false
+  pub says-nothing : answersAs table offsets none s a j ≡ false
   unfolding answerIn bind
   says-nothing = by (eqb (s .air) 0)
     where
@@ -101,7 +101,7 @@ module _ (table offsets : List ℕ) (s : Situation) (a : Readiness) (j : ℕ) wh
       by true = refl
       by false = refl
 
-  pub says-taken : (heard : Option ℕ) → (s .air ≡ 0 → ⊥) → says table offsets heard s a j ≡ false
+  pub says-taken : (heard : Option ℕ) → (s .air ≡ 0 → ⊥) → answersAs table offsets heard s a j ≡ false
   unfolding answerIn
   says-taken heard taken = rw (ne-eqb (s .air) 0 taken)
 

@@ -17,16 +17,16 @@ use Rattle.situation.specs.declared.Shape.{Shape}
 use Rattle.layers.specs.declared.pairs.Pairs.{Pairs}
 
 -- the transitions that a table counts, at most as many as a sound one has
-abbrev pub few : List ℕ → ℕ
-few table = min (transitionsAt table) transitionLimit
+abbrev pub transitionCount : List ℕ → ℕ
+transitionCount table = min (transitionsAt table) transitionLimit
 
 -- transition j answers a, in a situation, to what is heard
-abbrev pub says : List ℕ → List ℕ → Option ℕ → Situation → Readiness → ℕ → Bool
-says table offsets heard s a j = isAnswer a (answerIn (monitorFrom table offsets) heard s j)
+abbrev pub answersAs : List ℕ → List ℕ → Option ℕ → Situation → Readiness → ℕ → Bool
+answersAs table offsets heard s a j = isAnswer a (answerIn (monitorFrom table offsets) heard s j)
 
 -- situation n is in the row that starts at a bit, and there transition j answers a
-abbrev pub saysIn : List ℕ → List ℕ → Shape → Option ℕ → List ℕ → ℕ → Readiness → (n j : ℕ) → Bool
-saysIn table offsets h heard scratch from a n j = mem scratch (from + n) && says table offsets heard (situationBy h n) a j
+abbrev pub answersInRow : List ℕ → List ℕ → Shape → Option ℕ → List ℕ → ℕ → Readiness → (n j : ℕ) → Bool
+answersInRow table offsets h heard scratch from a n j = mem scratch (from + n) && answersAs table offsets heard (situationBy h n) a j
 
 -- one answer is counted
 pub record OneMore (before : Pairs) (answer : Option Readiness) (r : Pairs) : Type 0 where

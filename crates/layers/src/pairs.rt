@@ -17,7 +17,7 @@ ghost use Prim.Native.Nat.{_<_, min};
 ghost use Rattle.model.specs.Limits.{transitionLimit, sizeLimit};
 ghost use Rattle.monitor.specs.From.{attemptOf};
 ghost use Rattle.situation.specs.Stepping.{heardOf};
-ghost use Rattle.layers.specs.Pairing.{few, says, saysIn, OneMore, Tallied, CountedIn};
+ghost use Rattle.layers.specs.Pairing.{transitionCount, answersAs, answersInRow, OneMore, Tallied, CountedIn};
 
 // How many pairs answer not yet (too early), and how many no more (too late).
 pub struct Pairs {
@@ -49,7 +49,7 @@ fn with_one(found: Pairs, tried: Attempt) -> Pairs
 // The pairs of one situation, whose air is free, where a row of a kind is recorded.
 fn kind_pairs<'a>(table: &'a [u8], offsets: &'a [u16], kind: u8, s: Situation) -> Pairs
     requires { ⌜ s .air ≡ 0 ⌝ }
-    ensures { λ r. ⌜ Tallied (says (now (table .entry)) (now (offsets .entry)) (some kind) s) (few (now (table .entry))) r ⌝ }
+    ensures { λ r. ⌜ Tallied (answersAs (now (table .entry)) (now (offsets .entry)) (some kind) s) (transitionCount (now (table .entry))) r ⌝ }
 {
     let count = transitions(table);
     let mut found = Pairs { early: 0, late: 0 };
@@ -62,7 +62,7 @@ fn kind_pairs<'a>(table: &'a [u8], offsets: &'a [u16], kind: u8, s: Situation) -
 }
 
 fn situation_pairs<'a>(table: &'a [u8], offsets: &'a [u16], heard: Heard, s: Situation) -> Pairs
-    ensures { λ r. ⌜ Tallied (says (now (table .entry)) (now (offsets .entry)) (heardOf heard) s) (few (now (table .entry))) r ⌝ }
+    ensures { λ r. ⌜ Tallied (answersAs (now (table .entry)) (now (offsets .entry)) (heardOf heard) s) (transitionCount (now (table .entry))) r ⌝ }
 {
     let Heard::Kind(kind) = heard else {
         return Pairs { early: 0, late: 0 };
@@ -83,7 +83,7 @@ fn member_pairs<'a>(
     from: usize,
     n: usize,
 ) -> Pairs
-    ensures { λ r. ⌜ Tallied (λ a j. saysIn (now (table .entry)) (now (offsets .entry)) h (heardOf heard) (now (scratch .entry)) from a n j) (few (now (table .entry))) r ⌝ }
+    ensures { λ r. ⌜ Tallied (λ a j. answersInRow (now (table .entry)) (now (offsets .entry)) h (heardOf heard) (now (scratch .entry)) from a n j) (transitionCount (now (table .entry))) r ⌝ }
 {
     if row::has(scratch, from, n) {
         return situation_pairs(table, offsets, heard, situation_of(h, n as u64));
@@ -110,7 +110,7 @@ pub fn count_pairs<'a>(
     scratch: &'a [u8],
     from: Span,
 ) -> Pairs
-    ensures { λ r. ⌜ CountedIn (saysIn (now (table .entry)) (now (offsets .entry)) h (heardOf heard) (now (scratch .entry)) (from .start)) (from .size) (few (now (table .entry))) r ⌝ }
+    ensures { λ r. ⌜ CountedIn (answersInRow (now (table .entry)) (now (offsets .entry)) h (heardOf heard) (now (scratch .entry)) (from .start)) (from .size) (transitionCount (now (table .entry))) r ⌝ }
 {
     let end = within_limit(from.size);
     let mut found = Pairs { early: 0, late: 0 };

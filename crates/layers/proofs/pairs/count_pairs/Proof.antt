@@ -3,7 +3,7 @@ use Prim.Native.Nat.{_-_, _≤_, min}
 use native.Mathlib.Omega.{arith}
 use Rattle.model.specs.Limits.{sizeLimit}
 use Rattle.situation.specs.Stepping.{heardOf}
-use Rattle.layers.specs.Pairing.{few, saysIn}
+use Rattle.layers.specs.Pairing.{transitionCount, answersInRow}
 use Rattle.layers.proofs.PairCounts.{Counting, none-counted, counting-more, counting-few, all-counted, tallied-few}
 use borrow.Author.Needs.{needs}
 use Rattle.layers.proofs.pairs.count_pairs.Statement.{statement}
@@ -11,7 +11,7 @@ use Rattle.layers.proofs.pairs.count_pairs.Tie as tie
 
 abbrev Inv-loop : tie.InvT-loop
 Inv-loop table offsets h heard scratch from end found₀ n₀ found n =
-    Counting (saysIn table offsets h (heardOf heard) scratch (from .start)) n (few table) found × (n ≤ min (from .size) sizeLimit)
+    Counting (answersInRow table offsets h (heardOf heard) scratch (from .start)) n (transitionCount table) found × (n ≤ min (from .size) sizeLimit)
 
 abbrev μ-loop : tie.MeasureT-loop
 μ-loop table offsets h heard scratch from end found₀ n₀ found n = end - n

@@ -8,14 +8,14 @@ use Rattle.model.specs.Pairs.{isAnswer}
 use Rattle.model.specs.declared.Config.{Config}
 use Rattle.model.specs.declared.Readiness.{Readiness}
 use Rattle.monitor.specs.From.{attemptOf, monitorFrom}
-use Rattle.layers.specs.Pairing.{few, says, Tallied}
+use Rattle.layers.specs.Pairing.{transitionCount, answersAs, Tallied}
 use Rattle.layers.proofs.PairCounts.{none-yet, one-more, tallied-few, says-free}
 use borrow.Author.Needs.{needs}
 use Rattle.layers.proofs.pairs.kind_pairs.Statement.{statement}
 use Rattle.layers.proofs.pairs.kind_pairs.Tie as tie
 
 abbrev Inv-loop : tie.InvT-loop
-Inv-loop table offsets kind s count found₀ j₀ found j = Tallied (says table offsets (some kind) s) j found × (j ≤ few table)
+Inv-loop table offsets kind s count found₀ j₀ found j = Tallied (answersAs table offsets (some kind) s) j found × (j ≤ transitionCount table)
 
 abbrev μ-loop : tie.MeasureT-loop
 μ-loop table offsets kind s count found₀ j₀ found j = count - j
@@ -51,7 +51,7 @@ loop-again c =
     let same : (x : Readiness) → _ = λ x.
     ap (isAnswer x) (c .before .tried .ensures ∙ ap (λ (d : Config). tried (monitorFrom (a .table .now) (a .offsets .now)) (l .j) (a .kind) d) (c .before .before .config-of .ensures))
     ∙ says-free (a .table .now) (a .offsets .now) (a .s) x (l .j) (a .kind) (c .before .before .before .before .before .before .before .before .pre) in (
-      one-more (says (a .table .now) (a .offsets .now) (some (a .kind)) (a .s)) (l .j) (l .found) (c .with-one .result) (attemptOf (c .before .tried .result)) (l .inv .0) (c .with-one .ensures) same,
+      one-more (answersAs (a .table .now) (a .offsets .now) (some (a .kind)) (a .s)) (l .j) (l .found) (c .with-one .result) (attemptOf (c .before .tried .result)) (l .inv .0) (c .with-one .ensures) same,
       omega (arith, c .before .before .before .before .before .transitions .ensures),
     )
 
@@ -59,8 +59,8 @@ returns : tie.Need-returns Inv-loop μ-loop
 returns c =
     let a = c .before .before .before .before .before .args in
     let l = c .before .loop in
-    let all : l .j ≡ few (a .table .now) = omega (arith, c .before .before .transitions .ensures, l .inv .1) in
-    subst (λ (n : ℕ). Tallied (says (a .table .now) (a .offsets .now) (some (a .kind)) (a .s)) n (l .found)) all (l .inv .0)
+    let all : l .j ≡ transitionCount (a .table .now) = omega (arith, c .before .before .transitions .ensures, l .inv .1) in
+    subst (λ (n : ℕ). Tallied (answersAs (a .table .now) (a .offsets .now) (some (a .kind)) (a .s)) n (l .found)) all (l .inv .0)
 
 pub kind-pairs-spec : {M : Type 1} → statement M
 kind-pairs-spec =

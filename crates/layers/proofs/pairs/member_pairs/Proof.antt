@@ -2,7 +2,7 @@ use mathlib.Core.Path.{sym, ap, _∙_}
 use mathlib.Core.Bool.{Bool, _&&_}
 use Rattle.model.specs.declared.Situation.{Situation}
 use Rattle.situation.specs.Stepping.{heardOf, situationBy}
-use Rattle.layers.specs.Pairing.{few, says, saysIn}
+use Rattle.layers.specs.Pairing.{transitionCount, answersAs, answersInRow}
 use Rattle.layers.proofs.PairCounts.{no-answers, tallied-as}
 use borrow.Author.Needs.{needs}
 use Rattle.layers.proofs.pairs.member_pairs.Statement.{statement}
@@ -21,19 +21,19 @@ returns : tie.Need-returns
 returns c =
     let a = c .before .before .before .before .before .before .before .args in
     let in-row = sym (c .before .before .before .has .ensures) ∙ c .before .before .if1 .taken in
-    tallied-as (says (a .table .now) (a .offsets .now) (heardOf (a .heard)) (c .before .situation-of .result))
-    (λ x j. saysIn (a .table .now) (a .offsets .now) (a .h) (heardOf (a .heard)) (a .scratch .now) (a .from) x (a .n) j) (few (a .table .now)) (c .situation-pairs .result)
+    tallied-as (answersAs (a .table .now) (a .offsets .now) (heardOf (a .heard)) (c .before .situation-of .result))
+    (λ x j. answersInRow (a .table .now) (a .offsets .now) (a .h) (heardOf (a .heard)) (a .scratch .now) (a .from) x (a .n) j) (transitionCount (a .table .now)) (c .situation-pairs .result)
     (λ x j.
-    ap (λ (s : Situation). says (a .table .now) (a .offsets .now) (heardOf (a .heard)) s x j) (c .before .situation-of .ensures)
-    ∙ ap (λ (b : Bool). b && says (a .table .now) (a .offsets .now) (heardOf (a .heard)) (situationBy (a .h) (a .n)) x j) (sym in-row))
+    ap (λ (s : Situation). answersAs (a .table .now) (a .offsets .now) (heardOf (a .heard)) s x j) (c .before .situation-of .ensures)
+    ∙ ap (λ (b : Bool). b && answersAs (a .table .now) (a .offsets .now) (heardOf (a .heard)) (situationBy (a .h) (a .n)) x j) (sym in-row))
     (c .situation-pairs .ensures)
 
 returns-2 : tie.Need-returns-2
 returns-2 c =
     let a = c .before .before .before .before .before .args in
     let not-in-row = sym (c .before .has .ensures) ∙ c .if1 .left in
-    no-answers (λ x j. saysIn (a .table .now) (a .offsets .now) (a .h) (heardOf (a .heard)) (a .scratch .now) (a .from) x (a .n) j) (few (a .table .now))
-    (λ x j. ap (λ (b : Bool). b && says (a .table .now) (a .offsets .now) (heardOf (a .heard)) (situationBy (a .h) (a .n)) x j) not-in-row)
+    no-answers (λ x j. answersInRow (a .table .now) (a .offsets .now) (a .h) (heardOf (a .heard)) (a .scratch .now) (a .from) x (a .n) j) (transitionCount (a .table .now))
+    (λ x j. ap (λ (b : Bool). b && answersAs (a .table .now) (a .offsets .now) (heardOf (a .heard)) (situationBy (a .h) (a .n)) x j) not-in-row)
 
 pub member-pairs-spec : {M : Type 1} → statement M
 member-pairs-spec =

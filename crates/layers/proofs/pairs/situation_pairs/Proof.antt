@@ -2,7 +2,7 @@ use mathlib.Core.Path.{_≡_}
 use mathlib.Core.Option.{none}
 use Rattle.situation.specs.declared.Heard.the-variants.{Nothing, Kind}
 use Rattle.situation.specs.Stepping.{heardOf}
-use Rattle.layers.specs.Pairing.{few, says}
+use Rattle.layers.specs.Pairing.{transitionCount, answersAs}
 use Rattle.layers.proofs.PairCounts.{no-answers, says-nothing, says-taken}
 use borrow.Author.Needs.{needs}
 use Rattle.layers.proofs.pairs.situation_pairs.Statement.{statement}
@@ -18,7 +18,7 @@ returns : tie.Need-returns
 returns c =
     let a = c .before .before .before .before .args in
     let e : a .heard ≡ Nothing = cc in
-    rw e (no-answers (says (a .table .now) (a .offsets .now) none (a .s)) (few (a .table .now)) (λ x j. says-nothing (a .table .now) (a .offsets .now) (a .s) x j))
+    rw e (no-answers (answersAs (a .table .now) (a .offsets .now) none (a .s)) (transitionCount (a .table .now)) (λ x j. says-nothing (a .table .now) (a .offsets .now) (a .s) x j))
 
 kind-pairs-requires : tie.Need-kind-pairs-requires
 kind-pairs-requires c κs = search needs
@@ -33,7 +33,7 @@ returns-2 c =
 returns-3 : tie.Need-returns-3
 returns-3 c =
     let a = c .before .before .before .before .before .before .before .args in
-    no-answers (says (a .table .now) (a .offsets .now) (heardOf (a .heard)) (a .s)) (few (a .table .now))
+    no-answers (answersAs (a .table .now) (a .offsets .now) (heardOf (a .heard)) (a .s)) (transitionCount (a .table .now))
     (λ x j. says-taken (a .table .now) (a .offsets .now) (a .s) x j (heardOf (a .heard)) (c .if1 .left))
 
 pub situation-pairs-spec : {M : Type 1} → statement M
