@@ -14,7 +14,7 @@ use Rattle.model.specs.Validation.{possibleAfter}
 use Rattle.model.specs.declared.Readiness.{Readiness}
 
 -- "the situations just before the moves of the rejected instant with the air free, and the transitions of the recorded kind from their state": situation n,
--- transition j, and its guard answers a, whatever the clocks read that the situation writes as at most M + 1
+-- transition j, and its guard answers a. A clock that the situation writes as M + 1 reads anything above M: the answer is asked of all clocks that it writes so
 pub record Pair (m : Monitor) (recording : List Packet) (instant : ℕ) (a : Readiness) (n j : ℕ) : Type 0 where
   pub possible : getD (possibleAfter m recording (instant - 1)) n false ≡ true
   pub free : situationOf m n .air ≡ 0
@@ -25,6 +25,7 @@ pub record Pair (m : Monitor) (recording : List Packet) (instant : ℕ) (a : Rea
   pub answers : (clocks : List ℕ) → TwoClocks clocks → capped m clocks ≡ situationOf m n .clocks
       → GuardAnswers (transition .guard) (situationOf m n .variables) clocks a
 
+-- no pair stands in a list twice
 abbrev pub OnceEach : List (ℕ × ℕ) → Type 0
 OnceEach [] = Unit {0}
 OnceEach (p ∷ ps) = (List·Memᴰ p ps → ⊥) × OnceEach ps

@@ -22,6 +22,7 @@ unfoldable pub pairs : (ℕ → ℕ → Bool) → (n l : ℕ) → ℕ
 pairs p zero l = 0
 pairs p (suc n) l = pairs p n l + howMany (p n) l
 
+-- are two answers the same?
 abbrev pub sameAnswer : Readiness → Readiness → Bool
 sameAnswer Yes Yes = true
 sameAnswer NotYet NotYet = true

@@ -17,7 +17,7 @@ GuardAnswers g v c Yes = holds g v c ≡ true
 GuardAnswers g v c NotYet = (holds g v c ≡ false) × ((d : ℕ) × (1 ≤ d) × (holds g v (waited d c) ≡ true))
 GuardAnswers g v c NoMore = (holds g v c ≡ false) × ((d : ℕ) → 1 ≤ d → holds g v (waited d c) ≡ false)
 
--- the answer, as a function. One tick past the largest T no comparison changes any more, so the waits up to there decide
+-- the same as a function: one tick past the largest T no comparison changes any more, so the waits up to there decide (`answers`, in `proofs/ReadinessLaws`)
 
 -- the largest T in a guard
 unfoldable pub greatestBound : Guard → ℕ
