@@ -1,28 +1,44 @@
-//! A call of one of the five public functions with all that is lent to it, and its outcome.
+//! A call of one of the seven public functions with all that is lent to it, and its outcome.
 
 use crate::answer::{Answer, Verdict};
-use crate::check::check_witness;
+use crate::check::{check_rule, check_witness};
 use crate::edition::Edition;
 use crate::lent::Lent;
 use crate::rewrite::{rewrite_recording, rewrite_table, rewrite_witness};
-use crate::validate::validate;
+use crate::rule::Rule;
+use crate::validate::{validate, validate_rule};
 
 /// Edition of the witness, table, recording, budget, scratch and room.
 pub type Validate = fn(Edition, &[u8], &[u8], u32, &mut [u8], &mut [u8]) -> Verdict;
 
-/// The five functions of a program: this one's, or those of the library behind C.
+/// The same with a rule behind the edition.
+pub type ValidateRule = fn(Edition, Rule, &[u8], &[u8], u32, &mut [u8], &mut [u8]) -> Verdict;
+
+/// Edition of the witness, rule, table, recording and witness.
+pub type CheckRule = fn(Edition, Rule, &[u8], &[u8], &[u8]) -> Answer;
+
+/// The seven functions of a program: this one's, or those of the library behind C.
 #[derive(Clone, Copy)]
 pub struct Engine {
     pub validate: Validate,
+    pub validate_rule: ValidateRule,
     pub check: fn(Edition, &[u8], &[u8], &[u8]) -> Answer,
+    pub check_rule: CheckRule,
     pub rewrite_table: fn(&[u8], &mut [u8]) -> Answer,
     pub rewrite_recording: fn(&[u8], &[u8], &mut [u8]) -> Answer,
     pub rewrite_witness: fn(Edition, &[u8], &mut [u8]) -> Answer,
 }
 
 /// This program.
-pub const ORDINARY: Engine =
-    Engine { validate, check: check_witness, rewrite_table, rewrite_recording, rewrite_witness };
+pub const ORDINARY: Engine = Engine {
+    validate,
+    validate_rule,
+    check: check_witness,
+    check_rule,
+    rewrite_table,
+    rewrite_recording,
+    rewrite_witness,
+};
 
 #[derive(Clone, Debug, PartialEq, Eq)]
 pub enum Call {
@@ -34,8 +50,24 @@ pub enum Call {
         scratch: Vec<u8>,
         room: Vec<u8>,
     },
+    ValidateRule {
+        edition: Edition,
+        rule: Rule,
+        table: Vec<u8>,
+        recording: Vec<u8>,
+        budget: u32,
+        scratch: Vec<u8>,
+        room: Vec<u8>,
+    },
     Check {
         edition: Edition,
+        table: Vec<u8>,
+        recording: Vec<u8>,
+        witness: Vec<u8>,
+    },
+    CheckRule {
+        edition: Edition,
+        rule: Rule,
         table: Vec<u8>,
         recording: Vec<u8>,
         witness: Vec<u8>,
@@ -82,8 +114,14 @@ impl Call {
             Call::Validate { edition, table, recording, budget, .. } => {
                 (engine.validate)(*edition, table, recording, *budget, scratch, room)
             }
+            Call::ValidateRule { edition, rule, table, recording, budget, .. } => {
+                (engine.validate_rule)(*edition, *rule, table, recording, *budget, scratch, room)
+            }
             Call::Check { edition, table, recording, witness } => {
                 (engine.check)(*edition, table, recording, witness).into()
+            }
+            Call::CheckRule { edition, rule, table, recording, witness } => {
+                (engine.check_rule)(*edition, *rule, table, recording, witness).into()
             }
             Call::RewriteTable { bytes, .. } => (engine.rewrite_table)(bytes, room).into(),
             Call::RewriteRecording { table, bytes, .. } => {
@@ -98,8 +136,10 @@ impl Call {
     /// What scratch and room hold before the call; nothing where the call has none.
     fn buffers(&self) -> (&[u8], &[u8]) {
         match self {
-            Call::Validate { scratch, room, .. } => (scratch, room),
-            Call::Check { .. } => (&[], &[]),
+            Call::Validate { scratch, room, .. } | Call::ValidateRule { scratch, room, .. } => {
+                (scratch, room)
+            }
+            Call::Check { .. } | Call::CheckRule { .. } => (&[], &[]),
             Call::RewriteTable { room, .. }
             | Call::RewriteRecording { room, .. }
             | Call::RewriteWitness { room, .. } => (&[], room),
@@ -110,8 +150,12 @@ impl Call {
         match self {
             Call::Validate { edition: Edition::One, .. } => "validate",
             Call::Validate { edition: Edition::Two, .. } => "validate, edition 2",
+            Call::ValidateRule { edition: Edition::One, .. } => "validate under a rule",
+            Call::ValidateRule { edition: Edition::Two, .. } => "validate under a rule, edition 2",
             Call::Check { edition: Edition::One, .. } => "check",
             Call::Check { edition: Edition::Two, .. } => "check, edition 2",
+            Call::CheckRule { edition: Edition::One, .. } => "check under a rule",
+            Call::CheckRule { edition: Edition::Two, .. } => "check under a rule, edition 2",
             Call::RewriteTable { .. } => "rewrite table",
             Call::RewriteRecording { .. } => "rewrite recording",
             Call::RewriteWitness { edition: Edition::One, .. } => "rewrite witness",
@@ -119,16 +163,32 @@ impl Call {
         }
     }
 
+    pub fn rule(&self) -> Option<Rule> {
+        match self {
+            Call::ValidateRule { rule, .. } | Call::CheckRule { rule, .. } => Some(*rule),
+            _ => None,
+        }
+    }
+
+    pub fn budget(&self) -> Option<u32> {
+        match self {
+            Call::Validate { budget, .. } | Call::ValidateRule { budget, .. } => Some(*budget),
+            _ => None,
+        }
+    }
+
     /// The inputs by name, for a report in hex.
     pub fn inputs(&self) -> Vec<(&'static str, &[u8])> {
         match self {
-            Call::Validate { table, recording, scratch, room, .. } => vec![
+            Call::Validate { table, recording, scratch, room, .. }
+            | Call::ValidateRule { table, recording, scratch, room, .. } => vec![
                 ("table", table),
                 ("recording", recording),
                 ("scratch", scratch),
                 ("room", room),
             ],
-            Call::Check { table, recording, witness, .. } => {
+            Call::Check { table, recording, witness, .. }
+            | Call::CheckRule { table, recording, witness, .. } => {
                 vec![("table", table), ("recording", recording), ("witness", witness)]
             }
             Call::RewriteTable { bytes, room } => vec![("table", bytes), ("room", room)],

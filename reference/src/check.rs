@@ -4,24 +4,39 @@ use crate::answer::{settle, Answer, Refusal};
 use crate::edition::Edition;
 use crate::guard::{Clocks, Readiness};
 use crate::recording::{self, Heard, Recording};
+use crate::rule::{Guesses, Rule};
+use crate::situation::Space;
 use crate::table::Table;
 use crate::witness::{self, in_form, Row, ADDED, KEPT, REMOVED};
 
 /// Accepted is 0 with the removed and added rows together, and all rows.
 pub fn check_witness(edition: Edition, table: &[u8], recording: &[u8], witness: &[u8]) -> Answer {
+    check_rule(edition, Rule::NONE, table, recording, witness)
+}
+
+/// The same under a rule.
+pub fn check_rule(
+    edition: Edition,
+    rule: Rule,
+    table: &[u8],
+    recording: &[u8],
+    witness: &[u8],
+) -> Answer {
     let read = recording::read(table, recording);
-    settle(read.and_then(|(table, heard)| check_read(edition, &table, &heard, witness)))
+    settle(read.and_then(|(table, heard)| check_read(edition, rule, &table, &heard, witness)))
 }
 
 /// The same, of a table and a recording that were read.
 pub fn check_read(
     edition: Edition,
+    rule: Rule,
     table: &Table,
     recording: &Recording,
     bytes: &[u8],
 ) -> Result<Answer, Refusal> {
+    rule.judge(Space::of(table).count())?;
     let witness = witness::read_rows(edition, bytes)?;
-    let mut follower = Follower::new(table, recording);
+    let mut follower = Follower::new(rule, table, recording);
     let mut before = None;
     for (number, row) in witness.rows.iter().enumerate() {
         if !in_form(edition, before, row) || !follower.follow(row) {
@@ -38,6 +53,7 @@ pub fn check_read(
 
 /// The monitor after the rows so far, and the recorded rows not yet accounted for.
 struct Follower<'a> {
+    rule: Rule,
     table: &'a Table,
     unaccounted: &'a [Heard],
     state: u8,
@@ -46,17 +62,20 @@ struct Follower<'a> {
     last_reset: Clocks,
     /// The first tick at which the air is free.
     free_from: u32,
+    guesses: Guesses,
 }
 
 impl<'a> Follower<'a> {
-    fn new(table: &'a Table, recording: &'a Recording) -> Self {
+    fn new(rule: Rule, table: &'a Table, recording: &'a Recording) -> Self {
         Follower {
+            rule,
             table,
             unaccounted: &recording.rows,
             state: 0,
             variables: 0,
             last_reset: [0, 0],
             free_from: 0,
+            guesses: 0,
         }
     }
 
@@ -64,7 +83,10 @@ impl<'a> Follower<'a> {
     fn follow(&mut self, row: &Row) -> bool {
         let time = u32::from(row.time);
         let finds_air = time >= self.free_from;
-        if !self.accounts(row) || !finds_air || (row.mark != REMOVED && !self.fires(row)) {
+        if !self.accounts(row) || !finds_air {
+            return false;
+        }
+        if row.mark != REMOVED && !(self.fires(row) && self.is_likely(row)) {
             return false;
         }
         self.free_from = time + self.table.airtime(row.kind) + 1;
@@ -108,5 +130,13 @@ impl<'a> Follower<'a> {
             }
         }
         true
+    }
+
+    /// Whether a row that fires keeps the rule of guesses.
+    fn is_likely(&mut self, row: &Row) -> bool {
+        let guess = self.rule.is_guess(self.table, row.mark, row.kind);
+        let keeps = self.rule.keeps(self.guesses, guess);
+        self.guesses = self.rule.behind(self.guesses, guess);
+        keeps
     }
 }

@@ -1,8 +1,9 @@
 //! Comparing another engine with this program on random calls.
 
 use crate::call::{Call, Engine, Outcome, ORDINARY};
-use crate::generate::{calls, rejections, Rng};
+use crate::generate::{calls, rejections, ruled, Rng};
 use crate::pair_tally::PairTally;
+use crate::rule::Rule;
 
 /// Every file is shown whole; only a large scratch is cut. The seed brings it back.
 const MOST_SHOWN: usize = 100_000;
@@ -10,8 +11,27 @@ const MOST_SHOWN: usize = 100_000;
 /// long recording could take half an hour.
 const LARGE_SCRATCH: usize = 2_000_000;
 const FOR_LARGE: u32 = 10_000_000;
-/// Once in so many times the calls turn on the counts of a rejection.
+/// Once in so many times the calls turn on a rule of guesses.
+const RULED: usize = 2;
+/// Of the others, once in so many times they turn on the counts of a rejection.
 const REJECTIONS: usize = 3;
+
+/// Random calls of one input.
+pub type Draw = fn(&mut Rng) -> Vec<Call>;
+
+pub fn with_and_without_rule(rng: &mut Rng) -> Vec<Call> {
+    match rng.one_in(RULED) {
+        true => ruled(rng),
+        false => without_rule(rng),
+    }
+}
+
+pub fn without_rule(rng: &mut Rng) -> Vec<Call> {
+    match rng.one_in(REJECTIONS) {
+        true => rejections(rng),
+        false => calls(rng),
+    }
+}
 
 /// How many calls were compared, by the number of the answer.
 #[derive(Default)]
@@ -31,14 +51,14 @@ pub struct Difference {
 /// Compares until a difference is found or, after some call, `go_on` says no.
 pub fn compare(
     other: &Engine,
+    draw: Draw,
     seed: u64,
     go_on: impl Fn(&Tally) -> bool,
 ) -> (Tally, Option<Box<Difference>>) {
     let mut rng = Rng::new(seed);
     let mut tally = Tally::default();
     while go_on(&tally) {
-        let calls = if rng.one_in(REJECTIONS) { rejections(&mut rng) } else { calls(&mut rng) };
-        for call in calls {
+        for call in draw(&mut rng) {
             if let Some(difference) = compare_call(other, affordable(call), &mut tally) {
                 return (tally, Some(difference));
             }
@@ -48,10 +68,13 @@ pub fn compare(
 }
 
 fn affordable(mut call: Call) -> Call {
-    if let Call::Validate { budget, scratch, .. } = &mut call {
-        if scratch.len() >= LARGE_SCRATCH {
+    match &mut call {
+        Call::Validate { budget, scratch, .. } | Call::ValidateRule { budget, scratch, .. }
+            if scratch.len() >= LARGE_SCRATCH =>
+        {
             *budget = FOR_LARGE.min(*budget);
         }
+        _ => {}
     }
     call
 }
@@ -60,7 +83,7 @@ fn compare_call(other: &Engine, call: Call, tally: &mut Tally) -> Option<Box<Dif
     let ordinary = call.run(&ORDINARY);
     let theirs = call.run(other);
     tally.calls += 1;
-    if matches!((&call, ordinary.answer.number), (Call::Validate { .. }, 1)) {
+    if call.budget().is_some() && ordinary.answer.number == 1 {
         tally.pairs.note(ordinary.answer.counts);
     }
     *tally.by_number.entry((call.name(), ordinary.answer.number)).or_default() += 1;
@@ -80,7 +103,10 @@ impl Tally {
 impl Difference {
     pub fn report(&self) -> String {
         let mut text = format!("difference in {}\n", self.call.name());
-        if let Call::Validate { budget, .. } = &self.call {
+        if let Some(Rule { device, window, most }) = self.call.rule() {
+            text.push_str(&format!("device {device}, window {window}, most {most}\n"));
+        }
+        if let Some(budget) = self.call.budget() {
             text.push_str(&format!("budget {budget}\n"));
         }
         for (name, bytes) in self.call.inputs() {

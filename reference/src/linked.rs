@@ -5,10 +5,11 @@
 use crate::answer::{Answer, Verdict};
 use crate::call::Engine;
 use crate::edition::Edition;
+use crate::rule::Rule;
 
 /// The functions that read or write a witness are there once for each edition.
 macro_rules! of_each_edition {
-    ($validate:ident, $check:ident, $rewrite_witness:ident) => {
+    ($validate:ident, $validate_rule:ident, $check:ident, $check_rule:ident, $rewrite_witness:ident) => {
         extern "C" {
             fn $validate(
                 table: *const u8,
@@ -16,6 +17,20 @@ macro_rules! of_each_edition {
                 recording: *const u8,
                 recording_length: usize,
                 budget: u32,
+                scratch: *mut u8,
+                scratch_length: usize,
+                room: *mut u8,
+                room_length: usize,
+            ) -> Verdict;
+            fn $validate_rule(
+                table: *const u8,
+                table_length: usize,
+                recording: *const u8,
+                recording_length: usize,
+                budget: u32,
+                device: u8,
+                window: u8,
+                most: u8,
                 scratch: *mut u8,
                 scratch_length: usize,
                 room: *mut u8,
@@ -29,6 +44,17 @@ macro_rules! of_each_edition {
                 witness: *const u8,
                 witness_length: usize,
             ) -> Answer;
+            fn $check_rule(
+                table: *const u8,
+                table_length: usize,
+                recording: *const u8,
+                recording_length: usize,
+                witness: *const u8,
+                witness_length: usize,
+                device: u8,
+                window: u8,
+                most: u8,
+            ) -> Answer;
             fn $rewrite_witness(
                 bytes: *const u8,
                 length: usize,
@@ -39,10 +65,18 @@ macro_rules! of_each_edition {
     };
 }
 
-of_each_edition!(lutarosa_validate, lutarosa_check, lutarosa_rewrite_witness);
+of_each_edition!(
+    lutarosa_validate,
+    lutarosa_validate_rule,
+    lutarosa_check,
+    lutarosa_check_rule,
+    lutarosa_rewrite_witness
+);
 of_each_edition!(
     lutarosa_validate_edition2,
+    lutarosa_validate_rule_edition2,
     lutarosa_check_edition2,
+    lutarosa_check_rule_edition2,
     lutarosa_rewrite_witness_edition2
 );
 
@@ -66,8 +100,15 @@ extern "C" {
 /// The folder that the library was linked from.
 pub const FOLDER: &str = env!("LUTAROSA_LINKED_FROM");
 
-pub const VERIFIED: Engine =
-    Engine { validate, check, rewrite_table, rewrite_recording, rewrite_witness };
+pub const VERIFIED: Engine = Engine {
+    validate,
+    validate_rule,
+    check,
+    check_rule,
+    rewrite_table,
+    rewrite_recording,
+    rewrite_witness,
+};
 
 // Each call lends whole slices that do not overlap and outlive it; the library keeps none.
 
@@ -98,6 +139,37 @@ fn validate(
     }
 }
 
+fn validate_rule(
+    edition: Edition,
+    rule: Rule,
+    table: &[u8],
+    recording: &[u8],
+    budget: u32,
+    scratch: &mut [u8],
+    room: &mut [u8],
+) -> Verdict {
+    let function = match edition {
+        Edition::One => lutarosa_validate_rule,
+        Edition::Two => lutarosa_validate_rule_edition2,
+    };
+    unsafe {
+        function(
+            table.as_ptr(),
+            table.len(),
+            recording.as_ptr(),
+            recording.len(),
+            budget,
+            rule.device,
+            rule.window,
+            rule.most,
+            scratch.as_mut_ptr(),
+            scratch.len(),
+            room.as_mut_ptr(),
+            room.len(),
+        )
+    }
+}
+
 fn check(edition: Edition, table: &[u8], recording: &[u8], witness: &[u8]) -> Answer {
     let function = match edition {
         Edition::One => lutarosa_check,
@@ -111,6 +183,32 @@ fn check(edition: Edition, table: &[u8], recording: &[u8], witness: &[u8]) -> An
             recording.len(),
             witness.as_ptr(),
             witness.len(),
+        )
+    }
+}
+
+fn check_rule(
+    edition: Edition,
+    rule: Rule,
+    table: &[u8],
+    recording: &[u8],
+    witness: &[u8],
+) -> Answer {
+    let function = match edition {
+        Edition::One => lutarosa_check_rule,
+        Edition::Two => lutarosa_check_rule_edition2,
+    };
+    unsafe {
+        function(
+            table.as_ptr(),
+            table.len(),
+            recording.as_ptr(),
+            recording.len(),
+            witness.as_ptr(),
+            witness.len(),
+            rule.device,
+            rule.window,
+            rule.most,
         )
     }
 }

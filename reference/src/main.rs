@@ -59,7 +59,8 @@ fn run_compare(arguments: &[&str]) -> Result<(), String> {
     let (time, seed) = time_and_seed(rest)?;
     println!("seed {seed}");
     let end = Instant::now() + time;
-    let (tally, difference) = compare::compare(&verified, seed, |_| Instant::now() < end);
+    let draw = compare::with_and_without_rule;
+    let (tally, difference) = compare::compare(&verified, draw, seed, |_| Instant::now() < end);
     if let Some(difference) = difference {
         return Err(format!("{}after {} calls", difference.report(), tally.calls));
     }
@@ -90,6 +91,7 @@ fn write_cases(folder: &Path) -> Result<(), String> {
     }
     let tallies = [
         ("from files", &made.from_files),
+        ("from files under rules", &made.under_rules),
         ("from writing", &made.from_writing),
         ("from writing and reading back", &made.from_back),
         ("unreached states", &made.unreached_states),

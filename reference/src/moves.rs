@@ -6,8 +6,9 @@
 use crate::guard::{Guard, Readiness};
 use crate::situation::Space;
 use crate::table::{Table, Transition};
+use crate::witness::ADDED;
 
-/// A transition that can fire, and the situation it leaves a tick later.
+/// A transition that can fire, and the situation it leaves a tick later if its row is added.
 #[derive(Clone, Copy, Debug)]
 pub struct Fired {
     /// Numbers of situations stay below 65,536.
@@ -16,14 +17,18 @@ pub struct Fired {
     pub transition: u8,
 }
 
-#[derive(Clone, Copy, Default)]
+#[derive(Clone, Copy)]
 struct Known {
-    met: bool,
-    fired_count: u8,
+    /// How many can fire, and how many of these on a row that may be added: they come first.
+    fired: u8,
+    addable: u8,
     /// The situation a tick later if nothing is sent.
     idle: u16,
-    fired_start: u32,
+    first_fired: u32,
 }
+
+/// No situation has its first transition there.
+const NOT_MET: Known = Known { fired: 0, addable: 0, idle: 0, first_fired: u32::MAX };
 
 /// A transition with its guard read.
 struct Guarded<'a> {
@@ -53,14 +58,15 @@ impl<'a> Moves<'a> {
             let guarded = Guarded { number: number as u8, parts, guard, airtime };
             by_state[usize::from(parts.from)].push(guarded);
         }
-        let known = vec![Known::default(); space.count()];
+        let known = vec![NOT_MET; space.count()];
         Moves { table, space, by_state, known, fired: Vec::new() }
     }
 
-    /// The situation that idling leaves, and the transitions that can fire, lowest first.
+    /// The situation that idling leaves, and the transitions that can fire on added rows, lowest
+    /// first.
     #[inline]
     pub fn meet(&mut self, situation: usize) -> (usize, &[Fired]) {
-        if !self.known[situation].met {
+        if self.known[situation].first_fired == NOT_MET.first_fired {
             self.known[situation] = self.work_out(situation);
         }
         self.of(situation)
@@ -69,9 +75,21 @@ impl<'a> Moves<'a> {
     /// The same, for a situation that was met before.
     pub fn of(&self, situation: usize) -> (usize, &[Fired]) {
         let known = self.known[situation];
-        let start = known.fired_start as usize;
-        let fired = &self.fired[start..start + usize::from(known.fired_count)];
-        (usize::from(known.idle), fired)
+        let start = known.first_fired as usize;
+        let addable = &self.fired[start..start + usize::from(known.addable)];
+        (usize::from(known.idle), addable)
+    }
+
+    /// The transitions that can fire on a recorded row of this kind, in any order, each with the
+    /// situation that it leaves if the row is kept. Of a situation that was met before.
+    pub fn kept(&self, situation: usize, kind: u8) -> impl Iterator<Item = (u8, usize)> + '_ {
+        let known = self.known[situation];
+        let start = known.first_fired as usize;
+        let fired = &self.fired[start..start + usize::from(known.fired)];
+        fired
+            .iter()
+            .filter(move |it| it.kind == kind)
+            .map(|it| (it.transition, self.space.without_guess(usize::from(it.next))))
     }
 
     /// The situation that removing a recorded row of this kind leaves, if it may be removed:
@@ -97,20 +115,26 @@ impl<'a> Moves<'a> {
     #[cold]
     fn work_out(&mut self, number: usize) -> Known {
         let it = self.space.situation(number);
+        let rule = self.space.rule();
+        let is_guess = |kind: u8| rule.is_guess(self.table, ADDED, kind);
         let idle = self.space.number(&self.space.idle(&it)) as u16;
-        let fired_start = self.fired.len();
+        let first_fired = self.fired.len();
         if it.air == 0 {
             // What fires is yes, and the waits after 0 make no difference to that.
             let able = self.by_state[usize::from(it.state)]
                 .iter()
                 .filter(|by| by.guard.holds_after(0, it.variables, &it.clocks));
-            self.fired.extend(able.map(|by| Fired {
-                next: self.space.number(&self.space.fired(&it, by.parts, by.airtime)) as u16,
-                kind: by.parts.kind,
-                transition: by.number,
+            self.fired.extend(able.map(|by| {
+                let guess = is_guess(by.parts.kind);
+                let next = self.space.fired(&it, by.parts, by.airtime, guess);
+                let (kind, transition) = (by.parts.kind, by.number);
+                Fired { next: self.space.number(&next) as u16, kind, transition }
             }));
         }
-        let fired_count = (self.fired.len() - fired_start) as u8;
-        Known { met: true, fired_count, idle, fired_start: fired_start as u32 }
+        let fired = &mut self.fired[first_fired..];
+        let may_add = |by: &Fired| rule.keeps(it.guesses, is_guess(by.kind));
+        fired.sort_by_key(|by| !may_add(by));
+        let addable = fired.partition_point(may_add) as u8;
+        Known { fired: fired.len() as u8, addable, idle, first_fired: first_fired as u32 }
     }
 }

@@ -75,45 +75,61 @@ impl Search<'_> {
     /// First keeping, then removing; first nothing, then adding; among transitions the lower
     /// number. The row, if there is one, and the situation that is left.
     fn choose(&self, place: usize, situation: usize) -> (Option<Row>, usize) {
-        let (time, heard) = (place as u16 + 1, self.instants[place]);
+        let time = place as u16 + 1;
         let next = &self.layers[self.set_size * (place + 1)..][..self.set_size];
-        let (idle, fired) = self.moves.of(situation);
-        if heard.is_none() && set::contains(next, idle) {
+        match self.instants[place] {
+            None => self.idle_or_add(time, situation, next),
+            Some(kind) => {
+                let (row, after) = self.keep_or_remove(time, situation, kind, next);
+                (Some(row), after)
+            }
+        }
+    }
+
+    fn idle_or_add(&self, time: u16, situation: usize, next: &[u8]) -> (Option<Row>, usize) {
+        let (idle, addable) = self.moves.of(situation);
+        if set::contains(next, idle) {
             return (None, idle);
         }
-        let allowed = |it: &&Fired| heard.is_none_or(|kind| it.kind == kind);
-        let lasts = |it: &&Fired| set::contains(next, usize::from(it.next));
-        if let Some(it) = fired.iter().filter(allowed).find(lasts) {
-            let mark = if heard.is_some() { KEPT } else { ADDED };
-            let row = Row { mark, time, kind: it.kind, transition: it.transition };
-            return (Some(row), usize::from(it.next));
+        let it = addable.iter().find(|it| set::contains(next, usize::from(it.next)));
+        let it = it.expect(LASTS);
+        let row = Row { mark: ADDED, time, kind: it.kind, transition: it.transition };
+        (Some(row), usize::from(it.next))
+    }
+
+    fn keep_or_remove(&self, time: u16, situation: usize, kind: u8, next: &[u8]) -> (Row, usize) {
+        let kept = self.moves.kept(situation, kind).filter(|it| set::contains(next, it.1));
+        if let Some((transition, after)) = kept.min_by_key(|it| it.0) {
+            return (Row { mark: KEPT, time, kind, transition }, after);
         }
-        let removed = heard.and_then(|kind| Some((kind, self.moves.removed(situation, kind)?)));
-        let (kind, after) = removed.expect("a pruned layer holds only situations that last");
-        (Some(Row { mark: REMOVED, time, kind, transition: NO_TRANSITION }), after)
+        let after = self.moves.removed(situation, kind).expect(LASTS);
+        (Row { mark: REMOVED, time, kind, transition: NO_TRANSITION }, after)
     }
 }
+
+/// Why some move is left to choose.
+const LASTS: &str = "a pruned layer holds only situations that last";
 
 /// The set before an instant and the set after it.
 fn two_layers(layers: &mut [u8], size: usize, place: usize) -> (&mut [u8], &mut [u8]) {
     layers[size * place..size * (place + 2)].split_at_mut(size)
 }
 
-/// Where nothing is heard, each situation idles or fires; where a row is, it fires on that row or
-/// the row is removed.
+/// Where nothing is heard, each situation idles or fires on a row that may be added; where a row is,
+/// it fires on that row or the row is removed.
 fn advance(moves: &mut Moves, heard: Option<u8>, now: &[u8], next: &mut [u8]) {
     match heard {
         None => set::for_each(now, |situation| {
-            let (idle, fired) = moves.meet(situation);
+            let (idle, addable) = moves.meet(situation);
             set::insert(next, idle);
-            for it in fired {
+            for it in addable {
                 set::insert(next, usize::from(it.next));
             }
         }),
         Some(kind) => set::for_each(now, |situation| {
-            let (_, fired) = moves.meet(situation);
-            for it in fired.iter().filter(|it| it.kind == kind) {
-                set::insert(next, usize::from(it.next));
+            moves.meet(situation);
+            for (_, after) in moves.kept(situation, kind) {
+                set::insert(next, after);
             }
             if let Some(removed) = moves.removed(situation, kind) {
                 set::insert(next, removed);
@@ -141,12 +157,11 @@ fn keep_lasting(moves: &Moves, heard: Option<u8>, now: &mut [u8], next: &[u8]) {
     let lasts = |it: &Fired| set::contains(next, usize::from(it.next));
     match heard {
         None => set::retain(now, |situation| {
-            let (idle, fired) = moves.of(situation);
-            set::contains(next, idle) || fired.iter().any(lasts)
+            let (idle, addable) = moves.of(situation);
+            set::contains(next, idle) || addable.iter().any(lasts)
         }),
         Some(kind) => set::retain(now, |situation| {
-            let (_, fired) = moves.of(situation);
-            fired.iter().any(|it| it.kind == kind && lasts(it))
+            moves.kept(situation, kind).any(|it| set::contains(next, it.1))
                 || moves.removed(situation, kind).is_some_and(|it| set::contains(next, it))
         }),
     }

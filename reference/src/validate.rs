@@ -5,6 +5,7 @@ use crate::edition::Edition;
 use crate::frame::put;
 use crate::moves::Moves;
 use crate::recording::{self, Recording};
+use crate::rule::Rule;
 use crate::search::Search;
 use crate::set;
 use crate::situation::Space;
@@ -20,24 +21,37 @@ pub fn validate(
     scratch: &mut [u8],
     room: &mut [u8],
 ) -> Verdict {
+    validate_rule(edition, Rule::NONE, table, recording, budget, scratch, room)
+}
+
+/// The same under a rule.
+pub fn validate_rule(
+    edition: Edition,
+    rule: Rule,
+    table: &[u8],
+    recording: &[u8],
+    budget: u32,
+    scratch: &mut [u8],
+    room: &mut [u8],
+) -> Verdict {
     let read = recording::read(table, recording);
-    settle(
-        read.and_then(|(table, heard)| {
-            validate_read(edition, &table, &heard, budget, scratch, room)
-        }),
-    )
+    settle(read.and_then(|(table, heard)| {
+        validate_read(edition, rule, &table, &heard, budget, scratch, room)
+    }))
 }
 
 /// The same, of parts that were read.
 pub fn validate_read(
     edition: Edition,
+    rule: Rule,
     table: &Table,
     recording: &Recording,
     budget: u32,
     scratch: &mut [u8],
     room: &mut [u8],
 ) -> Result<Verdict, Refusal> {
-    let space = Space::of(table);
+    rule.judge(Space::of(table).count())?;
+    let space = Space::under(rule, table);
     let last_time = recording.last_time();
     let set_size = set::size(space.count());
 

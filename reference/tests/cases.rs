@@ -14,6 +14,10 @@ fn every_number_comes_often_and_p5_is_printed_whole() {
     for number in list {
         assert!(made.from_files.get(&number).is_some_and(|times| *times >= 20), "number {number}");
     }
+    for number in [0, 1, 2, 25, 26, 30, 31, 40, 41, 42, 43] {
+        let times = made.under_rules.get(&number);
+        assert!(times.is_some_and(|times| *times >= 20), "number {number} under a rule");
+    }
     for number in [11, 12, 14, 15, 16, 17, 22, 23, 24, 33, 42, 43] {
         for numbers in [&made.from_writing, &made.from_back] {
             assert!(numbers.get(&number).is_some_and(|times| *times >= 20), "writing {number}");

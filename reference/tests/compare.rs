@@ -6,13 +6,15 @@ use before::air::{BEFORE, NEEDS_NO_AIR, TAKES_NO_AIR};
 use before::counts;
 use before::devices;
 use before::editions;
+use before::guesses;
 use before::states::{Rule, OTHERS};
 use lutarosa_reference::answer::{Answer, Verdict};
 use lutarosa_reference::call::{Engine, Validate, ORDINARY};
 use lutarosa_reference::check::check_witness;
-use lutarosa_reference::compare::compare;
+use lutarosa_reference::compare::{compare, with_and_without_rule, without_rule, Draw};
 use lutarosa_reference::edition::Edition;
 use lutarosa_reference::frame::big_endian;
+use lutarosa_reference::generate::ruled;
 use lutarosa_reference::rewrite::{rewrite_recording, rewrite_table, rewrite_witness};
 use lutarosa_reference::validate::validate;
 use lutarosa_reference::{recording, situation::Space, table};
@@ -22,12 +24,18 @@ const MOST_CALLS: u64 = 200_000;
 
 #[test]
 fn no_difference_from_itself() {
-    let (_, difference) = compare(&ORDINARY, 5, |tally| tally.calls < 2_000);
-    assert!(difference.is_none());
+    for draw in [without_rule, with_and_without_rule] {
+        let (_, difference) = compare(&ORDINARY, draw, 5, |tally| tally.calls < 2_000);
+        assert!(difference.is_none());
+    }
 }
 
 fn finds(name: &str, engine: Engine) {
-    let (tally, difference) = compare(&engine, 5, |tally| tally.calls < MOST_CALLS);
+    finds_among(without_rule, name, engine);
+}
+
+fn finds_among(draw: Draw, name: &str, engine: Engine) {
+    let (tally, difference) = compare(&engine, draw, 5, |tally| tally.calls < MOST_CALLS);
     assert!(difference.is_some(), "{name}: not found in {} calls", tally.calls);
     println!("{name}: found at call {}", tally.calls);
 }
@@ -264,6 +272,17 @@ fn too_early_and_too_late() {
     for other in &counts::OTHERS {
         finds_validate(other.name, other.engine.validate);
     }
+}
+
+#[test]
+fn guesses_under_rules() {
+    for other in &guesses::OTHERS {
+        finds_among(ruled, other.name, other.engine);
+    }
+    let guesses::Other { name, engine } = &guesses::OTHERS[0];
+    let (validate_rule, check_rule) = (engine.validate_rule, engine.check_rule);
+    finds_among(ruled, name, Engine { validate_rule, ..ORDINARY });
+    finds_among(ruled, name, Engine { check_rule, ..ORDINARY });
 }
 
 #[test]

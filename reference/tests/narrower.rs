@@ -14,6 +14,7 @@ use lutarosa_reference::edition::Edition;
 use lutarosa_reference::narrowed::{CHECKED, NARROWED};
 use lutarosa_reference::papers::RETRY;
 use lutarosa_reference::recording::read;
+use lutarosa_reference::rule::Rule;
 use lutarosa_reference::witness::{read_rows, REMOVED};
 use recorded::RECORDED;
 
@@ -130,10 +131,10 @@ fn recordings_accepted_before_and_rejected_now() {
             room: vec![0; 45],
         };
         let (parts, heard) = read(&table, &recording).expect("sound");
-        assert_eq!(first_dead_instant(&parts, &heard), Some(it.now.third));
-        assert_eq!(works(&parts, &heard).iter().sum::<u64>(), it.now.second);
+        assert_eq!(first_dead_instant(Rule::NONE, &parts, &heard), Some(it.now.third));
+        assert_eq!(works(Rule::NONE, &parts, &heard).iter().sum::<u64>(), it.now.second);
         let instant = it.now.third as u32;
-        let possible = possible_before(&parts, &heard, instant);
+        let possible = possible_before(Rule::NONE, &parts, &heard, instant);
         assert_eq!(counts(&parts, &possible, instant, RETRY), it.now.counts);
         let check = Call::Check { edition, table, recording, witness: it.witness.to_vec() };
         let now = validation.run(&ORDINARY);

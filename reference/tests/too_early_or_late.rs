@@ -15,6 +15,7 @@ use lutarosa_reference::desk::report;
 use lutarosa_reference::edition::Edition;
 use lutarosa_reference::generate::learn;
 use lutarosa_reference::recording::read;
+use lutarosa_reference::rule::Rule;
 use recorded::RECORDED;
 
 const LEAST: usize = 20;
@@ -123,7 +124,7 @@ fn recordings_are_counted_so_a_second_time() {
     let mut judged = 0;
     for it in recordings().iter().filter(|it| it.last_time() < 1_000) {
         let (table, heard) = read(&it.table, &it.recording()).expect("sound");
-        let truth = judge_long(&table, &heard, MOST_MONITORS).expect("few monitors");
+        let truth = judge_long(Rule::NONE, &table, &heard, MOST_MONITORS).expect("few monitors");
         let (instant, counts) = truth.dead.expect("rejected");
         let again = Verdict::rejected(truth.works.iter().sum(), instant, counts);
         assert_eq!(again, it.verdict, "{}", it.name);

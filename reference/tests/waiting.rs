@@ -7,6 +7,7 @@ use lutarosa_reference::brute::works;
 use lutarosa_reference::edition::Edition;
 use lutarosa_reference::papers::{recording, Paper, PAPERS, SMALL_MONITOR};
 use lutarosa_reference::recording::read;
+use lutarosa_reference::rule::Rule;
 use lutarosa_reference::validate::validate;
 use lutarosa_reference::witness::{self, Row};
 
@@ -38,7 +39,7 @@ fn delayed(paper: &Paper, wait: u16) -> Vec<u8> {
 /// By real monitors.
 fn cost(paper: &Paper, wait: u16) -> u64 {
     let (table, heard) = read(&SMALL_MONITOR, &delayed(paper, wait)).expect("sound");
-    works(&table, &heard).iter().sum()
+    works(Rule::NONE, &table, &heard).iter().sum()
 }
 
 fn later(rows: &[Row], ticks: u16) -> Vec<Row> {

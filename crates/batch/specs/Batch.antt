@@ -7,12 +7,15 @@ use Rattle.batch.specs.declared.Head.{Head}
 
 pub record HeadAt (b : List ℕ) (h : Head) : Type 0 where
   pub call : h .call ≡ byteAt b 0
-  pub budget : h .budget ≡ longAt b 1
-  pub scratch : h .scratch ≡ longAt b 5
-  pub room : h .room ≡ longAt b 9
-  pub first : h .first ≡ longAt b 13
-  pub second : h .second ≡ longAt b 17
-  pub third : h .third ≡ longAt b 21
+  pub device : h .rule .device ≡ byteAt b 1
+  pub window : h .rule .window ≡ byteAt b 2
+  pub most : h .rule .most ≡ byteAt b 3
+  pub budget : h .budget ≡ longAt b 4
+  pub scratch : h .scratch ≡ longAt b 8
+  pub room : h .room ≡ longAt b 12
+  pub first : h .first ≡ longAt b 16
+  pub second : h .second ≡ longAt b 20
+  pub third : h .third ≡ longAt b 24
 
 unfoldable pub patternAt : ℕ → ℕ
 patternAt i = (7 * i + 1) % 256

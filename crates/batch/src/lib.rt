@@ -2,6 +2,7 @@
 pub mod parts;
 pub mod sums;
 
+use model::Rule;
 use wire::byte;
 use wire::long;
 ghost use mathlib.Core.Path.{_≡_};
@@ -11,6 +12,7 @@ ghost use Rattle.batch.specs.Batch.{HeadAt, patternAt};
 
 pub struct Head {
     pub call: u8,
+    pub rule: Rule,
     pub budget: u32,
     pub scratch: u32,
     pub room: u32,
@@ -22,14 +24,20 @@ pub struct Head {
 pub fn head_of(bytes: &[u8]) -> Head
     ensures { λ r. ⌜ HeadAt (now (bytes .entry)) r ⌝ }
 {
+    let rule = Rule {
+        device: byte(bytes, 1),
+        window: byte(bytes, 2),
+        most: byte(bytes, 3),
+    };
     Head {
         call: byte(bytes, 0),
-        budget: long(bytes, 1),
-        scratch: long(bytes, 5),
-        room: long(bytes, 9),
-        first: long(bytes, 13),
-        second: long(bytes, 17),
-        third: long(bytes, 21),
+        rule,
+        budget: long(bytes, 4),
+        scratch: long(bytes, 8),
+        room: long(bytes, 12),
+        first: long(bytes, 16),
+        second: long(bytes, 20),
+        third: long(bytes, 24),
     }
 }
 

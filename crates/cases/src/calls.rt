@@ -9,11 +9,14 @@ use codec::recording::write_recording;
 use codec::table::write_table;
 use model::Edition;
 use model::RecordingReading;
+use model::Rule;
 use model::TableReading;
 use model::WitnessReading;
 use numbers::Answer;
+use numbers::VerdictAnswer;
 use numbers::checking_numbers;
 use numbers::reading_numbers;
+use numbers::ruled_numbers;
 use numbers::verdict_numbers;
 use numbers::writing_numbers;
 use rewrite::back::recording_back;
@@ -35,17 +38,10 @@ pub(crate) struct Outcome {
     pub sum: u64,
 }
 
-fn validated<'a>(
-    edition: Edition,
-    budget: u32,
-    table: &'a [u8],
-    recording: &'a [u8],
-    scratch: &mut [u8],
-    room: &mut [u8],
-) -> Outcome
+// A verdict's five numbers.
+fn verdict_outcome(told: VerdictAnswer) -> Outcome
     ensures { λ r. ⌜ r .sum < 1000003 ⌝ }
 {
-    let told = verdict_numbers(engine::validate(edition, table, recording, budget, scratch, room));
     Outcome {
         numbers: Answer {
             number: told.number,
@@ -56,6 +52,67 @@ fn validated<'a>(
         late: told.no_more,
         sum: 1,
     }
+}
+
+// An answer that is no verdict and reads no parts back.
+fn plain_outcome(numbers: Answer) -> Outcome
+    ensures { λ r. ⌜ r .sum < 1000003 ⌝ }
+{
+    Outcome {
+        numbers,
+        early: 0,
+        late: 0,
+        sum: 1,
+    }
+}
+
+fn validated<'a>(
+    edition: Edition,
+    budget: u32,
+    table: &'a [u8],
+    recording: &'a [u8],
+    scratch: &mut [u8],
+    room: &mut [u8],
+) -> Outcome
+    ensures { λ r. ⌜ r .sum < 1000003 ⌝ }
+{
+    verdict_outcome(verdict_numbers(engine::validate(
+        edition,
+        table,
+        recording,
+        budget,
+        scratch,
+        room,
+    )))
+}
+
+// Calls 17 to 20: validate and check under a rule.
+fn under_rule<'a>(
+    rule: Rule,
+    edition: Edition,
+    checks: bool,
+    budget: u32,
+    first: &'a [u8],
+    second: &'a [u8],
+    third: &'a [u8],
+    scratch: &mut [u8],
+    room: &mut [u8],
+) -> Outcome
+    ensures { λ r. ⌜ r .sum < 1000003 ⌝ }
+{
+    if checks {
+        let checking = checker::check_under(rule, edition, first, second, third);
+        return plain_outcome(checking_numbers(checking));
+    }
+    verdict_outcome(ruled_numbers(engine::validate_under(
+        rule,
+        edition,
+        first,
+        second,
+        budget,
+        scratch,
+        room,
+    )))
 }
 
 fn from_files<'a>(
@@ -168,18 +225,11 @@ fn call_in<'a>(
     if which == 0 {
         return validated(edition, budget, first, second, scratch, room);
     }
+    if which < 5 {
+        return plain_outcome(from_files(edition, which, first, second, third, room));
+    }
     if which < 9 {
-        let numbers = if which < 5 {
-            from_files(edition, which, first, second, third, room)
-        } else {
-            write(edition, which, first, second, third, room)
-        };
-        return Outcome {
-            numbers,
-            early: 0,
-            late: 0,
-            sum: 1,
-        };
+        return plain_outcome(write(edition, which, first, second, third, room));
     }
     back(edition, which, first, second, third, room)
 }
@@ -198,6 +248,7 @@ fn in_first(which: u8) -> u8 {
 
 pub(crate) fn call<'a>(
     which: u8,
+    rule: Rule,
     budget: u32,
     first: &'a [u8],
     second: &'a [u8],
@@ -211,6 +262,24 @@ pub(crate) fn call<'a>(
         return call_in(
             Edition::One,
             which,
+            budget,
+            first,
+            second,
+            third,
+            scratch,
+            room,
+        );
+    }
+    if 16 < which {
+        let edition = if which < 19 {
+            Edition::One
+        } else {
+            Edition::Two
+        };
+        return under_rule(
+            rule,
+            edition,
+            which % 2 == 0,
             budget,
             first,
             second,

@@ -1,8 +1,8 @@
 // Runs a batch of recorded calls from standard input through the library, and prints each answer on a line of its own.
-// A case is a head of 25 bytes and its files: the call (0 validate, 1 check, 2 to 4 rewrite a table, a recording, a witness, 5 the desk, 6 to 8
+// A case is a head of 28 bytes and its files: the call (0 validate, 1 check, 2 to 4 rewrite a table, a recording, a witness, 5 the desk, 6 to 8
 // write the parts of one of the three, 9 to 11 read them back too; in edition 2 of the witness 12 validate, 13 check, 14 rewrite it, 15 write its
-// parts, 16 read them back too), then six four-byte numbers: the budget and the lengths of scratch, room and
-// three files. An answer is its three numbers, the two counts of a rejection, and a sum over every number of the parts that were read back, and
+// parts, 16 read them back too; under a rule 17 validate and 18 check, in edition 2 19 and 20), the rule's device, window and most, then six
+// four-byte numbers: the budget and the lengths of scratch, room and three files. An answer is its three numbers, the two counts of a rejection, and a sum over every number of the parts that were read back, and
 // every byte of scratch and room, so that none changes unseen. A case of the desk prints the desk's lines.
 mod calls;
 
@@ -14,6 +14,7 @@ use batch::pattern;
 use batch::sums::sum;
 use libc::STDIN_FILENO;
 use libc::STDOUT_FILENO;
+use model::Rule;
 ghost use Prim.Native.Nat.{_+_, _≤_};
 ghost use lib.ListN.{length};
 
@@ -57,6 +58,7 @@ fn desk(input: &[u8]) -> bool {
 
 fn answer<'a>(
     which: u8,
+    rule: Rule,
     budget: u32,
     first: &'a [u8],
     second: &'a [u8],
@@ -66,7 +68,7 @@ fn answer<'a>(
 ) -> bool {
     pattern(scratch);
     pattern(room);
-    let outcome = call(which, budget, first, second, third, scratch, room);
+    let outcome = call(which, rule, budget, first, second, third, scratch, room);
     let total = sum(outcome.sum, scratch);
     print(outcome, sum(total, room))
 }
@@ -86,11 +88,13 @@ fn run(
     if which == 5 {
         return desk(&files[0..second]);
     }
-    if 16 < which {
+    if 20 < which {
         return stop(b"cases: there is no such call\n");
     }
+    let rule = head.rule;
     answer(
         which,
+        rule,
         head.budget,
         &files[0..second],
         &files[second..third],
@@ -126,12 +130,12 @@ fn read_files(head: Head, files: &mut [u8], scratch: &mut [u8], room: &mut [u8])
 
 // Runs the next case, and answers whether to go on.
 fn one_case(files: &mut [u8], scratch: &mut [u8], room: &mut [u8]) -> bool {
-    let mut bytes = [0u8; 25];
+    let mut bytes = [0u8; 28];
     let got = io::read_full(STDIN_FILENO, &mut bytes);
     if got == 0 {
         return false;
     }
-    if got < 25 {
+    if got < 28 {
         return stop(b"cases: a head is cut\n");
     }
     read_files(head_of(&bytes), files, scratch, room)

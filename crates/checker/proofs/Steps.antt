@@ -10,12 +10,16 @@ use lib.ListN.{length, getD, drop, length-map}
 use lib.Dec.{leb}
 use borrow.Author.Tests.{le-leb, eq-eqb, ne-eqb}
 use Rattle.model.specs.Trace.{Packet}
-use Rattle.model.specs.Monitor.{Monitor, wait, fires, airtime, toUnit}
+use Rattle.model.specs.Rule.{windowBehind, allows}
+use Rattle.model.specs.Monitor.{Monitor, under, wait, fires, airtime, toUnit, withinRule}
 use Rattle.model.specs.declared.Edition.{Edition}
 use Rattle.model.specs.declared.Config.{Config}
+use Rattle.model.specs.declared.Rule.{Rule}
 use Rattle.model.specs.Witness.{inPlace}
-use Rattle.model.specs.Rules.{Progress, noneBefore, isNext, noneAt, sends, removes, keeps, adds, account}
-use Rattle.monitor.proofs.Records.{fired-length, fired-below}
+use Rattle.model.specs.Rules.{Progress, noneBefore, isNext, noneAt, guessed, sends, removes, keeps, adds, account}
+use Rattle.monitor.specs.From.{firing}
+use Rattle.monitor.specs.declared.Fired.{Fired}
+use Rattle.monitor.proofs.Records.{fired-to, fired-not, fired-length, fired-below}
 use Rattle.witness.specs.declared.Entry.{Entry}
 use Rattle.checker.specs.declared.Standing.{Standing}
 use Rattle.checker.specs.declared.Step.{Step}
@@ -32,34 +36,49 @@ read-two [] ticks h = absurd (omega arith)
 read-two (x ∷ []) ticks h = absurd (omega arith)
 read-two (x ∷ y ∷ l) ticks h = (refl, refl)
 
-pub sent-unfired : (m : Monitor) (ps : List Packet) (s : Standing) (e : Entry) (left : List Packet)
-    → fires m (e .transition) (e .kind) (wait (e .time - s .now) (s .config)) ≡ none → none ≡ sends m (progressOf ps s) (rowOf e) left
-unfolding sends
-sent-unfired m ps s e left f = rw f
+-- a kept or added row, which is a guess or not, of a table's monitor under a rule
+module _ (rule : Rule) (b : Monitor) (ps : List Packet) (s : Standing) (e : Entry) (next : ℕ) (guess : Bool) (asked : guess ≡ guessed (under rule b) (rowOf e)) where
+  abbrev m : Monitor
+  m = under rule b
 
-module _ (m : Monitor) (ps : List Packet) (s : Standing) (e : Entry) (next : ℕ) where
-  pub sent-fired : (d : Config) (free : ℕ) → Ready s e → fires m (e .transition) (e .kind) (wait (e .time - s .now) (s .config)) ≡ some d →
-      free ≡ e .time + airtime m (e .kind) + 1 →
-      Stepped ps (sends m (progressOf ps s) (rowOf e) (drop next ps))
-      (record { sound = true; to = record { before = e; next = next; now = e .time; free = free; config = d } })
-  unfolding sends
-  sent-fired d free ready f g =
-      let b = ready .bounded in
-      let two : length (d .clocks) ≡ 2 = fired-length m (e .transition) (e .kind) (wait (e .time - s .now) (s .config)) d f ∙ length-map (s .config .clocks) (λ x. x + (e .time - s .now)) ∙ b .clocks in
-      let below = fired-below m (e .transition) (e .kind) (wait (e .time - s .now) (s .config)) d f in
-      let read = read-two (s .config .clocks) (e .time - s .now) (b .clocks) in
-      record {
-        is = rw (f, ← g, ne-eqb (e .time) 0 (λ q. omega (arith, ready .behind)));
-        bounded =
-            λ q.
-            record {
-              fired = omega arith;
-              last = ready .last;
-              clocks = two;
-              first = omega (arith, below 0, read .0, b .first, b .fired, ready .behind);
-              second = omega (arith, below 1, read .1, b .second, b .fired, ready .behind);
-            };
-      }
+  pub sent-forbidden : allows rule (s .window) guess ≡ false → none ≡ sends m (progressOf ps s) (rowOf e) (drop next ps)
+  unfolding sends withinRule
+  sent-forbidden h = rw (← asked, h)
+
+  module _ (allowed : allows rule (s .window) guess ≡ true)
+      (c : Config) (same : c ≡ wait (e .time - s .now) (s .config)) (f : Fired) (answer : f ≡ firing c (fires b (e .transition) (e .kind) c)) where
+    -- the rule is no part of how the monitor fires
+    fires-as : (o : Option Config) → fires b (e .transition) (e .kind) c ≡ o → fires m (e .transition) (e .kind) (wait (e .time - s .now) (s .config)) ≡ o
+    unfolding fires
+    fires-as o h = ap (fires b (e .transition) (e .kind)) (sym same) ∙ h
+
+    pub sent-unfired : f .fired ≡ false → none ≡ sends m (progressOf ps s) (rowOf e) (drop next ps)
+    unfolding sends withinRule
+    sent-unfired h = rw (← asked, allowed, fires-as none (fired-not f c _ answer h))
+
+    pub sent-fired : (free window : ℕ) → Ready s e → f .fired ≡ true → free ≡ e .time + airtime m (e .kind) + 1 → window ≡ windowBehind rule (s .window) guess →
+        Stepped ps (sends m (progressOf ps s) (rowOf e) (drop next ps))
+        (record { sound = true; to = record { before = e; next = next; now = e .time; free = free; config = f .to; window = window } })
+    unfolding sends withinRule
+    sent-fired free window ready h g w =
+        let r = ready .bounded in
+        let d : Config = f .to in
+        let fired = fires-as (some d) (fired-to f c _ answer h) in
+        let two : length (d .clocks) ≡ 2 = fired-length m (e .transition) (e .kind) (wait (e .time - s .now) (s .config)) d fired ∙ length-map (s .config .clocks) (λ x. x + (e .time - s .now)) ∙ r .clocks in
+        let below = fired-below m (e .transition) (e .kind) (wait (e .time - s .now) (s .config)) d fired in
+        let read = read-two (s .config .clocks) (e .time - s .now) (r .clocks) in
+        record {
+          is = rw (← asked, allowed, fired, ← g, ← w, ne-eqb (e .time) 0 (λ q. omega (arith, ready .behind)));
+          bounded =
+              λ q.
+              record {
+                fired = omega arith;
+                last = ready .last;
+                clocks = two;
+                first = omega (arith, below 0, read .0, r .first, r .fired, ready .behind);
+                second = omega (arith, below 1, read .1, r .second, r .fired, ready .behind);
+              };
+        }
 
 module _ (m : Monitor) (ps : List Packet) (s : Standing) (e : Entry) where
   abbrev p : Progress
@@ -79,7 +98,7 @@ module _ (m : Monitor) (ps : List Packet) (s : Standing) (e : Entry) where
 
   pub removed-step : (free : ℕ) → Ready s e → free ≡ e .time + airtime m (e .kind) + 1 → isNext (drop (s .next) ps) (rowOf e) ≡ true → toUnit m (e .kind) ≡ true →
       Stepped ps (removes m p (rowOf e))
-      (record { sound = true; to = record { before = e; next = s .next + 1; now = s .now; free = free; config = s .config } })
+      (record { sound = true; to = record { before = e; next = s .next + 1; now = s .now; free = free; config = s .config; window = s .window } })
   unfolding removes
   removed-step free ready g n u =
       let b = ready .bounded in

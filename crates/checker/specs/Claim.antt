@@ -6,9 +6,11 @@ use Prim.Native.Nat.{ℕ}
 use Rattle.model.specs.Table.{monitorAt}
 use Rattle.model.specs.Recording.{packetsAt, SoundRecording}
 use Rattle.model.specs.Witness.{rowsAt, SoundForm}
-use Rattle.model.specs.Rules.{checkAnswer}
-use Rattle.model.specs.Numbers.{checkingValues}
-use Rattle.model.specs.Claims.{Explains}
+use Rattle.model.specs.Ruled.{monitorUnder, SoundUnder}
+use Rattle.model.specs.Rules.{checkAnswer, checkAnswerUnder}
+use Rattle.model.specs.Numbers.{values, checkingValues}
+use Rattle.model.specs.Claims.{Explains, ExplainsUnder, FirstBreaks}
+use Rattle.model.specs.declared.Rule.{Rule}
 use Rattle.model.specs.declared.Edition.{Edition}
 use Rattle.model.specs.declared.Checking.{Checking}
 use Rattle.model.specs.declared.Checking.the-variants.{Permitted, Unchecked}
@@ -26,3 +28,21 @@ pub record Checks (edition : Edition) (table recording witness : List ℕ) (r : 
   pub answered : r ≡ checkAnswer edition table recording witness
   pub numbers : checkingValues r ≡ checkingValues (checkAnswer edition table recording witness)
   pub faithful : Faithful edition table recording witness r
+
+-- the same under a rule (R-7)
+
+abbrev pub FaithfulUnder : Rule → Edition → (table recording witness : List ℕ) → Checking → Type 0
+FaithfulUnder rule edition table recording witness r =
+    SoundUnder rule table recording → SoundForm edition witness → IsPermitted r ↔ ExplainsUnder (monitorUnder rule table) (packetsAt recording) (rowsAt edition witness)
+
+-- of a witness that is permitted without a rule: "a witness row that first breaks it is 43"
+abbrev pub NamesFirst : Rule → Edition → (table recording witness : List ℕ) → Checking → Type 0
+NamesFirst rule edition table recording witness r =
+    SoundUnder rule table recording → IsPermitted (checkAnswer edition table recording witness)
+    → (i : ℕ) → (checkingValues r ≡ values 43 i 0) ↔ FirstBreaks (monitorUnder rule table) (rowsAt edition witness) i
+
+pub record ChecksUnder (rule : Rule) (edition : Edition) (table recording witness : List ℕ) (r : Checking) : Type 0 where
+  pub answered : r ≡ checkAnswerUnder rule edition table recording witness
+  pub numbers : checkingValues r ≡ checkingValues (checkAnswerUnder rule edition table recording witness)
+  pub faithful : FaithfulUnder rule edition table recording witness r
+  pub named : NamesFirst rule edition table recording witness r

@@ -1,5 +1,5 @@
-// The witness checker: one pass over a witness's rows against a table and a recording, none of which is copied.
-use codec::recording::recording_answer;
+// The witness checker: one pass over a witness's rows against a table and a recording, by their bytes, under a rule (R-7) or under none.
+use model::ADDED;
 use model::Checking;
 use model::Config;
 use model::Edition;
@@ -7,10 +7,16 @@ use model::KEPT;
 use model::REMOVED;
 use model::Reading;
 use model::Refusal;
+use model::Rule;
 use monitor::airtime_of;
+use monitor::device_of;
 use monitor::fire;
 use monitor::offsets;
 use monitor::to_unit;
+use rule::allows;
+use rule::no_rule;
+use rule::window_behind;
+use ruled::read_under;
 use wire::byte;
 use wire::word;
 use witness::Entry;
@@ -28,21 +34,22 @@ ghost use lib.Dec.{eqb};
 ghost use lib.ListN.{length, getD, drop};
 ghost use Rattle.model.specs.Monitor.{wait, airtime};
 ghost use Rattle.model.specs.Trace.{Packet};
-ghost use Rattle.model.specs.Recording.{recordingAnswer, packetsAt};
-ghost use Rattle.model.specs.Witness.{kept, rowsAt, witnessFrame};
-ghost use Rattle.model.specs.Rules.{begin, noneBefore, isNext, noneAt, sends, removes, keeps, adds, account, checkAnswer};
+ghost use Rattle.model.specs.Recording.{packetsAt};
+ghost use Rattle.model.specs.Witness.{kept, rowsAt};
+ghost use Rattle.model.specs.Rules.{begin, noneBefore, isNext, noneAt, guessed, sends, removes, keeps, adds, account, checkAnswerUnder};
 ghost use Rattle.monitor.specs.From.{monitorFrom};
 ghost use Rattle.witness.specs.Rows.{rowOf};
-ghost use Rattle.checker.specs.Claim.{Checks};
-ghost use Rattle.checker.specs.Standing.{progressOf, Bounded, Ready, Stepped, checkedRows};
+ghost use Rattle.checker.specs.Claim.{Checks, ChecksUnder};
+ghost use Rattle.checker.specs.Standing.{ruledFrom, progressOf, Bounded, Ready, Stepped, checkedRows};
 
-// What the rows so far have come to. While there is no row before, its time is 0.
+// What the rows so far have come to. While there is no row before, its time is 0. The window says which of the last rows are guesses, as a mask.
 struct Standing {
     before: Entry,
     next: u16,
     now: u16,
     free: u32,
     config: Config,
+    window: u8,
 }
 
 // Whether a row breaks no rule, and where it leads.
@@ -111,19 +118,35 @@ fn free_after(table: &[u8], e: Entry) -> u32
     e.time as u32 + airtime_of(table, e.kind) as u32 + 1
 }
 
-// A kept or added row: its transition has its kind and fires.
-fn sent<'a>(table: &'a [u8], offsets: &'a [u16], s: Standing, e: Entry, next: u16) -> Step
-    requires { ⌜ Ready s e ⌝ }
-    ensures { λ r. ⌜ ((recording : List Packet) → Stepped recording (sends (monitorFrom (now (table .entry)) (now (offsets .entry))) (progressOf recording s) (rowOf e) (drop next recording)) r) ⌝ }
+// A guess is an added row from the rule's device.
+fn is_guess(rule: Rule, table: &[u8], e: Entry) -> bool
+    ensures { λ r. ⌜ ((offsets : List ℕ) → r ≡ guessed (ruledFrom rule (now (table .entry)) offsets) (rowOf e)) ⌝ }
 {
+    if e.mark != ADDED {
+        return false;
+    }
+    device_of(table, e.kind) == rule.device
+}
+
+// A kept or added row: the rule is kept, and its transition has its kind and fires.
+fn sent<'a>(
+    rule: Rule,
+    table: &'a [u8],
+    offsets: &'a [u16],
+    s: Standing,
+    e: Entry,
+    next: u16,
+) -> Step
+    requires { ⌜ Ready s e ⌝ }
+    ensures { λ r. ⌜ ((recording : List Packet) → Stepped recording (sends (ruledFrom rule (now (table .entry)) (now (offsets .entry))) (progressOf recording s) (rowOf e) (drop next recording)) r) ⌝ }
+{
+    let guess = is_guess(rule, table, e);
+    if !allows(rule, s.window, guess) {
+        return refused(s);
+    }
     let c = s.config;
-    let then = fire(
-        table,
-        offsets,
-        e.transition as usize,
-        e.kind,
-        waited(c, e.time - s.now),
-    );
+    let ready = waited(c, e.time - s.now);
+    let then = fire(table, offsets, e.transition as usize, e.kind, ready);
     if !then.fired {
         return refused(s);
     }
@@ -137,11 +160,13 @@ fn sent<'a>(table: &'a [u8], offsets: &'a [u16], s: Standing, e: Entry, next: u1
             now: e.time,
             free,
             config,
+            window: window_behind(rule, s.window, guess),
         },
     }
 }
 
 fn keep_row<'a>(
+    rule: Rule,
     table: &'a [u8],
     offsets: &'a [u16],
     recording: &[u8],
@@ -149,16 +174,16 @@ fn keep_row<'a>(
     e: Entry,
 ) -> Step
     requires { ⌜ Ready s e ⌝ }
-    ensures { λ r. ⌜ Stepped (packetsAt (now (recording .entry))) (keeps (monitorFrom (now (table .entry)) (now (offsets .entry))) (progressOf (packetsAt (now (recording .entry))) s) (rowOf e)) r ⌝ }
+    ensures { λ r. ⌜ Stepped (packetsAt (now (recording .entry))) (keeps (ruledFrom rule (now (table .entry)) (now (offsets .entry))) (progressOf (packetsAt (now (recording .entry))) s) (rowOf e)) r ⌝ }
 {
     let next = s.next;
     if !is_next(recording, next, e) {
         return refused(s);
     }
-    sent(table, offsets, s, e, next + 1)
+    sent(rule, table, offsets, s, e, next + 1)
 }
 
-// A removed row is to the unit, which missed it: the monitor stays where it was.
+// A removed row is to the unit, which missed it: the monitor and the window stay where they were, under any rule.
 fn remove_row<'a>(
     table: &'a [u8],
     offsets: &'a [u16],
@@ -167,7 +192,7 @@ fn remove_row<'a>(
     e: Entry,
 ) -> Step
     requires { ⌜ Ready s e ⌝ }
-    ensures { λ r. ⌜ Stepped (packetsAt (now (recording .entry))) (removes (monitorFrom (now (table .entry)) (now (offsets .entry))) (progressOf (packetsAt (now (recording .entry))) s) (rowOf e)) r ⌝ }
+    ensures { λ r. ⌜ ((rule : Rule) → Stepped (packetsAt (now (recording .entry))) (removes (ruledFrom rule (now (table .entry)) (now (offsets .entry))) (progressOf (packetsAt (now (recording .entry))) s) (rowOf e)) r) ⌝ }
 {
     let next = s.next;
     if !is_next(recording, next, e) {
@@ -187,23 +212,32 @@ fn remove_row<'a>(
             now: s.now,
             free: behind,
             config,
+            window: s.window,
         },
     }
 }
 
-fn add_row<'a>(table: &'a [u8], offsets: &'a [u16], recording: &[u8], s: Standing, e: Entry) -> Step
+fn add_row<'a>(
+    rule: Rule,
+    table: &'a [u8],
+    offsets: &'a [u16],
+    recording: &[u8],
+    s: Standing,
+    e: Entry,
+) -> Step
     requires { ⌜ Ready s e ⌝ }
-    ensures { λ r. ⌜ Stepped (packetsAt (now (recording .entry))) (adds (monitorFrom (now (table .entry)) (now (offsets .entry))) (progressOf (packetsAt (now (recording .entry))) s) (rowOf e)) r ⌝ }
+    ensures { λ r. ⌜ Stepped (packetsAt (now (recording .entry))) (adds (ruledFrom rule (now (table .entry)) (now (offsets .entry))) (progressOf (packetsAt (now (recording .entry))) s) (rowOf e)) r ⌝ }
 {
     let next = s.next;
     if !none_at(recording, next, e.time) {
         return refused(s);
     }
-    sent(table, offsets, s, e, next)
+    sent(rule, table, offsets, s, e, next)
 }
 
 // The next row: its form, the air, which it finds free, and the rule for its mark.
 fn accounted<'a>(
+    rule: Rule,
     edition: Edition,
     table: &'a [u8],
     offsets: &'a [u16],
@@ -212,7 +246,7 @@ fn accounted<'a>(
     e: Entry,
 ) -> Step
     requires { ⌜ Bounded s ⌝ }
-    ensures { λ r. ⌜ Stepped (packetsAt (now (recording .entry))) (account edition (monitorFrom (now (table .entry)) (now (offsets .entry))) (progressOf (packetsAt (now (recording .entry))) s) (rowOf e)) r ⌝ }
+    ensures { λ r. ⌜ Stepped (packetsAt (now (recording .entry))) (account edition (ruledFrom rule (now (table .entry)) (now (offsets .entry))) (progressOf (packetsAt (now (recording .entry))) s) (rowOf e)) r ⌝ }
 {
     let before = s.before;
     let next = s.next;
@@ -226,12 +260,12 @@ fn accounted<'a>(
         return refused(s);
     }
     if e.mark == KEPT {
-        return keep_row(table, offsets, recording, s, e);
+        return keep_row(rule, table, offsets, recording, s, e);
     }
     if e.mark == REMOVED {
         return remove_row(table, offsets, recording, s, e);
     }
-    add_row(table, offsets, recording, s, e)
+    add_row(rule, table, offsets, recording, s, e)
 }
 
 fn begun() -> Standing
@@ -247,6 +281,7 @@ fn begun() -> Standing
             variables: 0,
             clocks: [0, 0],
         },
+        window: 0,
     }
 }
 
@@ -258,13 +293,14 @@ fn change_by(e: Entry) -> u64
 
 // The rows in turn, for the table's records at the offsets.
 fn check_rows<'a>(
+    rule: Rule,
     edition: Edition,
     table: &'a [u8],
     offsets: &'a [u16],
     recording: &[u8],
     witness: &[u8],
 ) -> Checking
-    ensures { λ r. ⌜ r ≡ checkedRows edition (monitorFrom (now (table .entry)) (now (offsets .entry))) (packetsAt (now (recording .entry))) (rowsAt edition (now (witness .entry))) ⌝ }
+    ensures { λ r. ⌜ r ≡ checkedRows edition (ruledFrom rule (now (table .entry)) (now (offsets .entry))) (packetsAt (now (recording .entry))) (rowsAt edition (now (witness .entry))) ⌝ }
 {
     let count = count_at(edition, witness);
     let mut s = begun();
@@ -272,7 +308,7 @@ fn check_rows<'a>(
     let mut i = 0;
     while i < count {
         let e = row_at(edition, witness, i);
-        let step = accounted(edition, table, offsets, recording, s, e);
+        let step = accounted(rule, edition, table, offsets, recording, s, e);
         if !step.sound {
             return Checking::Unchecked(Refusal::WitnessRow { row: i as u64 });
         }
@@ -289,33 +325,50 @@ fn check_rows<'a>(
     }
 }
 
-// The answers on the recording and on the witness's frame come first.
-fn answered(
+// What is read before the rows is answered first.
+fn checked<'a>(
+    rule: Rule,
     edition: Edition,
-    read: Reading,
-    frame: Reading,
-    table: &[u8],
-    recording: &[u8],
+    table: &'a [u8],
+    recording: &'a [u8],
     witness: &[u8],
 ) -> Checking
-    requires { ⌜ (read ≡ recordingAnswer (now table) (now recording)) × (frame ≡ witnessFrame edition (now witness)) ⌝ }
-    ensures { λ r. ⌜ r ≡ checkAnswer edition (now (table .entry)) (now (recording .entry)) (now (witness .entry)) ⌝ }
+    ensures { λ r. ⌜ r ≡ checkAnswerUnder rule edition (now (table .entry)) (now (recording .entry)) (now (witness .entry)) ⌝ }
 {
+    let reading = read_under(rule, table, recording);
+    let read = reading.answer;
     if let Reading::Unsound(r) = read {
         return Checking::Unchecked(r);
     }
+    let frame = witness_frame(edition, witness);
     if let Reading::Unsound(r) = frame {
         return Checking::Unchecked(r);
     }
     let starts = offsets(table);
-    check_rows(edition, table, &starts, recording, witness)
+    check_rows(rule, edition, table, &starts, recording, witness)
 }
 
 // The answer on a witness of this edition: 0, or the first number that applies.
-pub fn check_witness(edition: Edition, table: &[u8], recording: &[u8], witness: &[u8]) -> Checking
+pub fn check_witness<'a>(
+    edition: Edition,
+    table: &'a [u8],
+    recording: &'a [u8],
+    witness: &[u8],
+) -> Checking
     ensures { λ r. ⌜ Checks edition (now (table .entry)) (now (recording .entry)) (now (witness .entry)) r ⌝ }
 {
-    let read = recording_answer(table, recording);
-    let frame = witness_frame(edition, witness);
-    answered(edition, read, frame, table, recording, witness)
+    checked(no_rule(), edition, table, recording, witness)
+}
+
+// The same under a rule.
+pub fn check_under<'a>(
+    rule: Rule,
+    edition: Edition,
+    table: &'a [u8],
+    recording: &'a [u8],
+    witness: &[u8],
+) -> Checking
+    ensures { λ r. ⌜ ChecksUnder rule edition (now (table .entry)) (now (recording .entry)) (now (witness .entry)) r ⌝ }
+{
+    checked(rule, edition, table, recording, witness)
 }

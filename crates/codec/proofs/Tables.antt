@@ -13,7 +13,7 @@ use Rattle.model.specs.Bytes.{byteAt, joined, padded}
 use Rattle.model.specs.First.{unless, andThen, firstOf, isSound}
 use Rattle.model.specs.Frame.{framed}
 use Rattle.model.specs.Monitor.{Monitor}
-use Rattle.model.specs.Size.{size}
+use Rattle.model.specs.Size.{tableSize}
 use Rattle.model.specs.Reach.{statesAnswer}
 use Rattle.model.specs.Table.{countsOf, tableCounts, apart, transitionFields, guardRecord, transitionRecord, transitionRecords, statesAt, variablesAt, clocksAt, kindsAt, transitionsAt, transitionAt, guardLengthAt, guardPlace, kindRecords, deviceColumn, scanWith, tableScan, wholeAnswer, answerWith, tableAnswer, tableParts, noTable, readTable, monitorOf}
 use Rattle.model.specs.declared.Edition.the-variants.{One}
@@ -148,7 +148,7 @@ pub whole-of : (b : List ℕ) (r : Reading) (p : TableParts) → tableAnswer b �
 whole-of b r p all e is = is ∙ ap (λ (t : TableParts). wholeAnswer (monitorOf t)) e ∙ sym all
 
 -- 16, then 17
-pub whole-all : (m : Monitor) → wholeAnswer m ≡ andThen (unless (leb (size m) sizeLimit) TableSize) (statesAnswer m)
+pub whole-all : (m : Monitor) → wholeAnswer m ≡ andThen (unless (leb (tableSize m) sizeLimit) TableSize) (statesAnswer m)
 unfolding wholeAnswer
 whole-all m = rw (then-sound (statesAnswer m))
 

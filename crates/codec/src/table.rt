@@ -44,7 +44,7 @@ ghost use Rattle.model.specs.Numbers.{readingValues, writingValues};
 ghost use Rattle.model.specs.Devices.{JudgesDevices};
 ghost use Rattle.model.specs.First.{unless};
 ghost use Rattle.model.specs.Limits.{kindLimit, transitionLimit, guardLimit, sizeLimit};
-ghost use Rattle.model.specs.Size.{size};
+ghost use Rattle.model.specs.Size.{tableSize};
 ghost use Rattle.model.specs.Bytes.{wordBytes, joined, padded};
 ghost use Rattle.model.specs.Room.{over};
 ghost use Rattle.wire.specs.Placed.{placed};
@@ -423,7 +423,7 @@ fn no_table() -> TableParts
 }
 
 fn size_answer(t: TableParts) -> Reading
-    ensures { λ r. ⌜ r ≡ unless (leb (size (monitorOf t)) sizeLimit) TableSize ⌝ }
+    ensures { λ r. ⌜ r ≡ unless (leb (tableSize (monitorOf t)) sizeLimit) TableSize ⌝ }
 {
     if SIZE_LIMIT < table_size(t) {
         return Reading::Unsound(Refusal::TableSize);

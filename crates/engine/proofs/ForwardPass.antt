@@ -12,7 +12,7 @@ use mir.Val.{Fits}
 use lib.ListN.{length, getD, set, replicate, length-replicate}
 use lib.Seq.{getD-set-same, getD-set-other}
 use Rattle.model.specs.Size
-use Rattle.model.specs.Table.{monitorAt}
+use Rattle.model.specs.Monitor.{Monitor}
 use Rattle.model.specs.Recording.{packetsAt, endOf}
 use Rattle.model.specs.Situation.{moveLimit, stepNumber, firstNumber}
 use Rattle.model.specs.Layers.{count, layer, total}
@@ -27,6 +27,7 @@ use Rattle.bits.specs.Member.{mem, PutIn}
 use Rattle.situation.specs.Rows.{passedBy}
 use Rattle.situation.proofs.Cursors.{first-cursor}
 use Rattle.engine.specs.declared.measures.Measures.{Measures}
+use Rattle.engine.specs.Setting.{monitorBy}
 use Rattle.engine.specs.Forwarding.{Filled, Turn, Turned, Emptying, emptiedAt, Forwarding, Through, Ended}
 use Rattle.engine.proofs.Rows.{next-row, product, possible}
 
@@ -50,40 +51,40 @@ count-one (suc n) (suc k) h = omega (arith, count-one n k (omega arith))
 
 -- the works of the instants 1 to t, added up, and the verdict
 
-abbrev totalTo : (table recording : List ℕ) → ℕ → ℕ
-totalTo table recording = totalOf (monitorAt table) (packetsAt recording)
+abbrev totalTo : Monitor → (recording : List ℕ) → ℕ → ℕ
+totalTo m recording = totalOf m (packetsAt recording)
 
-abbrev verdictOn : (table recording : List ℕ) → (budget : ℕ) → Verdict
-verdictOn table recording = verdict (monitorAt table) (packetsAt recording)
+abbrev verdictOn : Monitor → (recording : List ℕ) → (budget : ℕ) → Verdict
+verdictOn m recording = verdict m (packetsAt recording)
 
 -- what is known after t instants, with work ahead: none of them passed the budget or left no situation
-pub record Passing (table recording start scratch : List ℕ) (budget row last t i cost work : ℕ) : Type 0 where
+pub record Passing (m : Monitor) (recording start scratch : List ℕ) (budget row last t i cost work : ℕ) : Type 0 where
   pub long : length scratch ≡ length start
   pub within : t ≤ last
-  pub filled : Filled table recording scratch row t i
-  pub left : LeftUpTo (monitorAt table) (packetsAt recording) t
-  pub spent : cost ≡ totalTo table recording t
-  pub ahead : work ≡ count (possible table recording t)
+  pub filled : Filled m recording scratch row t i
+  pub left : LeftUpTo m (packetsAt recording) t
+  pub spent : cost ≡ totalTo m recording t
+  pub ahead : work ≡ count (possible m recording t)
   pub fits : cost ≤ budget
 
 module _ {table offsets recording entry : List ℕ} {g : Measures} (given : Forwarding table offsets recording entry g) where
   first-below : g .first < g .size
   first-below = omega (arith, first-number-below (given .setting .sane))
 
-  first-set : possible table recording 0 ≡ set (replicate (g .size) false) (g .first) true
+  first-set : possible (monitorBy g table) recording 0 ≡ set (replicate (g .size) false) (g .first) true
   unfolding layer
   first-set = ap₂ (λ (n k : ℕ). set (replicate n false) k true) (sym (given .setting .whole)) (sym (given .setting .start))
 
-  first-count : count (possible table recording 0) ≡ 1
+  first-count : count (possible (monitorBy g table) recording 0) ≡ 1
   first-count = ap count first-set ∙ count-one (g .size) (g .first) first-below
 
-  no-total : totalTo table recording 0 ≡ 0
+  no-total : totalTo (monitorBy g table) recording 0 ≡ 0
   unfolding total
   no-total = refl
 
   -- the first situation is put into the empty scratch
   module _ {scratch : List ℕ} (into : PutIn (g .first) entry scratch) where
-    first-holds : (z : ℕ) → mem scratch z ≡ getD (possible table recording 0) z false
+    first-holds : (z : ℕ) → mem scratch z ≡ getD (possible (monitorBy g table) recording 0) z false
     first-holds z = on (ℕ-discrete z (g .first)) ∙ sym (ap (λ (s : List Bool). getD s z false) first-set)
       where
         on : Dec (z ≡ g .first) → mem scratch z ≡ getD (set (replicate (g .size) false) (g .first) true) z false
@@ -93,7 +94,7 @@ module _ {table offsets recording entry : List ℕ} {g : Measures} (given : Forw
             ∙ sym (getD-set-same (replicate (g .size) false) (g .first) true false (omega (arith, first-below, length-replicate (g .size) false))))
         on (no e) = into .others z e ∙ given .empty z ∙ sym (getD-set-other (replicate (g .size) false) (g .first) z true false e ∙ none-at (g .size) z)
 
-    pub started : (budget : ℕ) → Passing table recording scratch scratch budget (g .row) (g .last) 0 0 0 1
+    pub started : (budget : ℕ) → Passing (monitorBy g table) recording scratch scratch budget (g .row) (g .last) 0 0 0 1
     started budget =
         record {
           long = refl;
@@ -106,7 +107,7 @@ module _ {table offsets recording entry : List ℕ} {g : Measures} (given : Forw
                     let q : 8 * g .row * 0 + z ≡ z = omega arith in
                     rw e (ap (mem scratch) q ∙ first-holds z);
                 rest = λ k l. into .others k (λ e. omega (arith, first-below)) ∙ given .empty k;
-                cursor = first-cursor (monitorAt table) recording (given .setting .sound .trace);
+                cursor = first-cursor (monitorBy g table) recording (given .setting .sound .trace);
               };
           left = λ j l. let e : j ≡ 0 = omega arith in rw e (omega (arith, first-count));
           spent = sym no-total;
@@ -114,72 +115,72 @@ module _ {table offsets recording entry : List ℕ} {g : Measures} (given : Forw
           fits = omega arith;
         }
 
-  module _ {start scratch : List ℕ} {budget t i cost work : ℕ} (pass : Passing table recording start scratch budget (g .row) (g .last) t i cost work) where
+  module _ {start scratch : List ℕ} {budget t i cost work : ℕ} (pass : Passing (monitorBy g table) recording start scratch budget (g .row) (g .last) t i cost work) where
     -- the end is reached
-    pub through : g .last ≤ t → Through table recording scratch budget (g .row) (g .last) cost
+    pub through : g .last ≤ t → Through (monitorBy g table) recording scratch budget (g .row) (g .last) cost
     through l =
         let e : g .last ≡ t = omega arith in
         let q : t ≡ endOf (packetsAt recording) = omega arith in
-        let whole : totalTo table recording (endOf (packetsAt recording)) ≡ cost = sym (pass .spent ∙ ap (totalTo table recording) q) in
+        let whole : totalTo (monitorBy g table) recording (endOf (packetsAt recording)) ≡ cost = sym (pass .spent ∙ ap (totalTo (monitorBy g table) recording) q) in
         record {
           accepted =
-              accepted-at (monitorAt table) (packetsAt recording) budget
-              (subst (LeftUpTo (monitorAt table) (packetsAt recording)) q (pass .left)) (omega arith)
-              ∙ ap (λ (c : ℕ). Accepted c (length (preferred (monitorAt table) (packetsAt recording)))) whole;
+              accepted-at (monitorBy g table) (packetsAt recording) budget
+              (subst (LeftUpTo (monitorBy g table) (packetsAt recording)) q (pass .left)) (omega arith)
+              ∙ ap (λ (c : ℕ). Accepted c (length (preferred (monitorBy g table) (packetsAt recording)))) whole;
           layers = rw e (pass .filled .layers);
           left = rw e (pass .left t (omega arith));
         }
 
     -- one instant more
     module _ (more : t < g .last) where
-      next-total : totalTo table recording (suc t) ≡ cost + work
+      next-total : totalTo (monitorBy g table) recording (suc t) ≡ cost + work
       unfolding total
       next-total = omega arith
 
       -- the cost is at most T times N
       pub cost-fits : Fits w64 (cost + work)
       cost-fits =
-          let few : Fits w64 (suc t * Size.size (monitorAt table)) = product (suc t) (Size.size (monitorAt table)) (omega arith) (omega arith) in
-          let most = total-le (Size.size (monitorAt table)) moveLimit (stepNumber (monitorAt table) (packetsAt recording)) (firstNumber (monitorAt table)) (suc t) in
+          let few : Fits w64 (suc t * Size.size (monitorBy g table)) = product (suc t) (Size.size (monitorBy g table)) (omega arith) (omega arith) in
+          let most = total-le (Size.size (monitorBy g table)) moveLimit (stepNumber (monitorBy g table) (packetsAt recording)) (firstNumber (monitorBy g table)) (suc t) in
           record { fits = omega (arith, next-total) }
 
       pub turn : length start ≡ length entry → Turn table offsets recording scratch g t i
       turn e = record { setting = given .setting; long = omega (arith, given .long); more = more; filled = pass .filled }
 
-      pub spent : budget < cost + work → verdictOn table recording budget ≡ Exhausted budget (t + 1)
+      pub spent : budget < cost + work → verdictOn (monitorBy g table) recording budget ≡ Exhausted budget (t + 1)
       spent over =
-          exhausted-at (monitorAt table) (packetsAt recording) budget t (omega arith) (pass .left) (omega arith) (omega (arith, next-total))
+          exhausted-at (monitorBy g table) (packetsAt recording) budget t (omega arith) (pass .left) (omega arith) (omega (arith, next-total))
           ∙ ap (λ (n : ℕ). Exhausted budget n) (sym (add-one t))
 
-      module _ {after : List ℕ} {found : ℕ} (within : cost + work ≤ budget) (done : Turned table recording scratch after (g .row) t i found) where
+      module _ {after : List ℕ} {found : ℕ} (within : cost + work ≤ budget) (done : Turned (monitorBy g table) recording scratch after (g .row) t i found) where
         -- the rows before the empty one are as they were
         pub emptying : Emptying table offsets recording after g t i
         emptying = record { setting = given .setting; more = more; layers = λ u l. done .filled .layers u (omega arith); cursor = pass .filled .cursor }
 
-        pub emptied : found ≡ 0 → Ended table recording after budget (g .row) (g .last) (emptiedAt table recording (cost + work) t)
+        pub emptied : found ≡ 0 → Ended (monitorBy g table) recording after budget (g .row) (g .last) (emptiedAt (monitorBy g table) recording (cost + work) t)
         emptied e =
-            let none : count (possible table recording (suc t)) ≡ 0 =
-            ap (λ (n : ℕ). count (possible table recording n)) (sym (add-one t)) ∙ sym (done .counted) ∙ e
+            let none : count (possible (monitorBy g table) recording (suc t)) ≡ 0 =
+            ap (λ (n : ℕ). count (possible (monitorBy g table) recording n)) (sym (add-one t)) ∙ sym (done .counted) ∙ e
             in
-            rejected-at (monitorAt table) (packetsAt recording) budget t (omega arith) (pass .left) (omega (arith, next-total)) none
-            ∙ ap₂ (λ (c n : ℕ). Rejected c n (pairsAt (monitorAt table) (packetsAt recording) NotYet n) (pairsAt (monitorAt table) (packetsAt recording) NoMore n)) next-total (sym (add-one t))
+            rejected-at (monitorBy g table) (packetsAt recording) budget t (omega arith) (pass .left) (omega (arith, next-total)) none
+            ∙ ap₂ (λ (c n : ℕ). Rejected c n (pairsAt (monitorBy g table) (packetsAt recording) NotYet n) (pairsAt (monitorBy g table) (packetsAt recording) NoMore n)) next-total (sym (add-one t))
 
         pub again : {j : ℕ} → j ≡ passedBy recording i (t + 1) → (found ≡ 0 → ⊥)
-            → Passing table recording start after budget (g .row) (g .last) (t + 1) j (cost + work) found
+            → Passing (monitorBy g table) recording start after budget (g .row) (g .last) (t + 1) j (cost + work) found
         again p some =
             record {
               long = done .long ∙ pass .long;
               within = omega arith;
               filled = rw p (done .filled);
               left = left;
-              spent = sym (ap (totalTo table recording) (add-one t) ∙ next-total);
+              spent = sym (ap (totalTo (monitorBy g table) recording) (add-one t) ∙ next-total);
               ahead = done .counted;
               fits = within;
             }
           where
-            left : LeftUpTo (monitorAt table) (packetsAt recording) (t + 1)
+            left : LeftUpTo (monitorBy g table) (packetsAt recording) (t + 1)
             left j l = on (decLt j (t + 1))
               where
-                on : Dec (j < t + 1) → 0 < count (possible table recording j)
+                on : Dec (j < t + 1) → 0 < count (possible (monitorBy g table) recording j)
                 on (yes b) = pass .left j (omega arith)
                 on (no b) = let q : j ≡ t + 1 = omega arith in rw q (omega arith)

@@ -14,7 +14,7 @@ use mir.Val.{Fits}
 use lib.ListN.{length, getD, take, drop, length-drop, List·getD-eq-default}
 use lib.Seq.{length-take-le}
 use Rattle.model.specs.Size
-use Rattle.model.specs.Table.{monitorAt}
+use Rattle.model.specs.Monitor.{Monitor}
 use Rattle.model.specs.Recording.{packetsAt}
 use Rattle.model.specs.Situation.{moveLimit, firstNumber, recordedAt}
 use Rattle.model.specs.Layers.{count}
@@ -28,7 +28,7 @@ use Rattle.situation.proofs.Cursors.{passed-cursor, heard-recorded}
 use Rattle.layers.proofs.Apart.{apart-above}
 use Rattle.layers.specs.Advance.{Advanced, stepAt}
 use Rattle.engine.specs.declared.measures.Measures.{Measures}
-use Rattle.engine.specs.Setting.{RowHolds, LayersUpTo}
+use Rattle.engine.specs.Setting.{monitorBy, RowHolds, LayersUpTo}
 use Rattle.engine.specs.Forwarding.{Filled, Turn, Turned}
 use Rattle.engine.proofs.Rows.{next-row, row-before, product, stepOf, possible}
 
@@ -62,16 +62,16 @@ module _ (scratch : List ℕ) (row t : ℕ) (fits : row * t + row ≤ length scr
       ∙ sym (count-tally s (8 * row) h)
 
 -- z is given by the situations possible after instant t
-abbrev GivenNext : (table recording : List ℕ) → (t z : ℕ) → Type 0
-GivenNext table recording t z =
-    Given (Size.size (monitorAt table)) moveLimit (stepOf table recording) (Size.size (monitorAt table)) (suc t) (possible table recording t) z
+abbrev GivenNext : Monitor → (recording : List ℕ) → (t z : ℕ) → Type 0
+GivenNext m recording t z =
+    Given (Size.size m) moveLimit (stepOf m recording) (Size.size m) (suc t) (possible m recording t) z
 
-module _ (table recording : List ℕ) (t : ℕ) where
-  possible-length : length (possible table recording t) ≡ Size.size (monitorAt table)
-  possible-length = length-layer (Size.size (monitorAt table)) moveLimit (stepOf table recording) (firstNumber (monitorAt table)) t
+module _ (m : Monitor) (recording : List ℕ) (t : ℕ) where
+  possible-length : length (possible m recording t) ≡ Size.size m
+  possible-length = length-layer (Size.size m) moveLimit (stepOf m recording) (firstNumber m) t
 
-  possible-next : (z : ℕ) → (getD (possible table recording (suc t)) z false ≡ true) ↔ GivenNext table recording t z
-  possible-next = layer-suc (Size.size (monitorAt table)) moveLimit (stepOf table recording) (firstNumber (monitorAt table)) t
+  possible-next : (z : ℕ) → (getD (possible m recording (suc t)) z false ≡ true) ↔ GivenNext m recording t z
+  possible-next = layer-suc (Size.size m) moveLimit (stepOf m recording) (firstNumber m) t
 
 -- one instant
 module _ {table offsets recording before : List ℕ} {g : Measures} {t i : ℕ} (turn : Turn table offsets recording before g t i) where
@@ -88,18 +88,18 @@ module _ {table offsets recording before : List ℕ} {g : Measures} {t i : ℕ} 
       record { fits = omega (arith, next-row (g .row) (t + 1)) }
 
   heard-step : (heard : Option ℕ) → heard ≡ heardAt recording i (t + 1) → (n k : ℕ) → n < g .size
-      → stepAt table offsets (g .shape) heard n k ≡ stepOf table recording (suc t) n k
+      → stepAt table offsets (g .shape) heard n k ≡ stepOf (monitorBy g table) recording (suc t) n k
   heard-step heard e n k l =
       ap (λ (o : Option ℕ). stepAt table offsets (g .shape) o n k)
       (e
-      ∙ heard-recorded (monitorAt table) recording (turn .setting .sound .trace) (turn .filled .cursor)
+      ∙ heard-recorded (monitorBy g table) recording (turn .setting .sound .trace) (turn .filled .cursor)
       ∙ ap (recordedAt (packetsAt recording)) (add-one t))
       ∙ turn .setting .stepping (suc t) n k l
 
   -- by the definition's step, the next row holds the next set, and no other row changes
-  module _ {after : List ℕ} (step : ℕ → ℕ → Option ℕ) (same : (n k : ℕ) → n < g .size → step n k ≡ stepOf table recording (suc t) n k)
+  module _ {after : List ℕ} (step : ℕ → ℕ → Option ℕ) (same : (n k : ℕ) → n < g .size → step n k ≡ stepOf (monitorBy g table) recording (suc t) n k)
       (done : Advanced step (8 * g .row * t) (8 * g .row * (t + 1)) (g .size) before after) where
-    holds-next : (z : ℕ) → z < 8 * g .row → mem after (8 * g .row * (t + 1) + z) ≡ getD (possible table recording (suc t)) z false
+    holds-next : (z : ℕ) → z < 8 * g .row → mem after (8 * g .row * (t + 1) + z) ≡ getD (possible (monitorBy g table) recording (suc t)) z false
     holds-next z w = on (decLt z (g .size))
       where
         Reached : Type 0
@@ -107,44 +107,44 @@ module _ {table offsets recording before : List ℕ} {g : Measures} {t i : ℕ} 
             (mem before (8 * g .row * (t + 1) + z) ≡ true)
             ⊎ ((n : ℕ) × (k : ℕ) × (n < g .size) × (mem before (8 * g .row * t + n) ≡ true) × (k < moveLimit) × (step n k ≡ some z))
 
-        held : (n : ℕ) → n < g .size → mem before (8 * g .row * t + n) ≡ getD (possible table recording t) n false
+        held : (n : ℕ) → n < g .size → mem before (8 * g .row * t + n) ≡ getD (possible (monitorBy g table) recording t) n false
         held n l = turn .filled .layers t (omega arith) n (omega arith)
 
         empty : mem before (8 * g .row * (t + 1) + z) ≡ false
         empty = turn .filled .rest (8 * g .row * (t + 1) + z) (omega arith)
 
-        there : z < g .size → Reached → GivenNext table recording t z
+        there : z < g .size → Reached → GivenNext (monitorBy g table) recording t z
         there l (inl e) = absurd (false≢true (sym empty ∙ e))
         there l (inr (n, k, b, e, f, q)) = (n, k, omega arith, sym (held n b) ∙ e, f, sym (same n k b) ∙ q, omega arith)
 
-        back : GivenNext table recording t z → Reached
+        back : GivenNext (monitorBy g table) recording t z → Reached
         back (n, k, b, e, f, q, l) = let c : n < g .size = omega arith in inr (n, k, c, held n c ∙ e, f, same n k c ∙ q)
 
-        on : Dec (z < g .size) → mem after (8 * g .row * (t + 1) + z) ≡ getD (possible table recording (suc t)) z false
+        on : Dec (z < g .size) → mem after (8 * g .row * (t + 1) + z) ≡ getD (possible (monitorBy g table) recording (suc t)) z false
         on (yes l) =
             let fits : 8 * g .row * (t + 1) + g .size ≤ 8 * length before = omega (arith, next-fits, mul-assoc 8 (g .row) (t + 1)) in
             let behind : 8 * g .row * t + g .size ≤ 8 * g .row * (t + 1) = omega (arith, next-row (8 * g .row) t) in
             let (forth, back-in) = done .inside (apart-above _ _ _ _ fits behind) z l in
-            let (from, to) = possible-next table recording t z in
-            same-test (mem after (8 * g .row * (t + 1) + z)) (getD (possible table recording (suc t)) z false)
+            let (from, to) = possible-next (monitorBy g table) recording t z in
+            same-test (mem after (8 * g .row * (t + 1) + z)) (getD (possible (monitorBy g table) recording (suc t)) z false)
             (λ e. to (there l (forth e))) (λ e. back-in (back (from e)))
         on (no l) =
             done .outside (8 * g .row * (t + 1) + z) (inr (omega arith))
             ∙ empty
-            ∙ sym (List·getD-eq-default (possible table recording (suc t)) false (omega (arith, possible-length table recording (suc t))))
+            ∙ sym (List·getD-eq-default (possible (monitorBy g table) recording (suc t)) false (omega (arith, possible-length (monitorBy g table) recording (suc t))))
 
-    layers-next : LayersUpTo table recording after (g .row) (t + 1)
+    layers-next : LayersUpTo (monitorBy g table) recording after (g .row) (t + 1)
     layers-next u l z w = on (decLt u (t + 1))
       where
-        on : Dec (u < t + 1) → mem after (8 * g .row * u + z) ≡ getD (possible table recording u) z false
+        on : Dec (u < t + 1) → mem after (8 * g .row * u + z) ≡ getD (possible (monitorBy g table) recording u) z false
         on (yes b) =
             done .outside (8 * g .row * u + z) (inl (omega (arith, row-before (8 * g .row) u (t + 1) b)))
             ∙ turn .filled .layers u (omega arith) z w
         on (no b) =
             let e : u ≡ t + 1 = omega arith in
-            rw e (holds-next z w ∙ ap (λ (n : ℕ). getD (possible table recording n) z false) (sym (add-one t)))
+            rw e (holds-next z w ∙ ap (λ (n : ℕ). getD (possible (monitorBy g table) recording n) z false) (sym (add-one t)))
 
-    filled-next : Filled table recording after (g .row) (t + 1) (passedBy recording i (t + 1))
+    filled-next : Filled (monitorBy g table) recording after (g .row) (t + 1) (passedBy recording i (t + 1))
     filled-next =
         record {
           layers = layers-next;
@@ -152,16 +152,16 @@ module _ {table offsets recording before : List ℕ} {g : Measures} {t i : ℕ} 
               λ k l.
               let e = next-row (8 * g .row) (t + 1) in
               done .outside k (inr (omega arith)) ∙ turn .filled .rest k (omega arith);
-          cursor = passed-cursor (monitorAt table) recording (turn .setting .sound .trace) (turn .filled .cursor);
+          cursor = passed-cursor (monitorBy g table) recording (turn .setting .sound .trace) (turn .filled .cursor);
         }
 
   -- what the code of an instant does: the next row is filled by what is heard, and counted
   pub turned : {after : List ℕ} {heard : Option ℕ} {work : ℕ} → heard ≡ heardAt recording i (t + 1)
       → Advanced (stepAt table offsets (g .shape) heard) (8 * g .row * t) (8 * g .row * (t + 1)) (g .size) before after
       → Counted (take (g .row * (t + 1) + g .row - g .row * (t + 1)) (drop (g .row * (t + 1)) after)) work
-      → Turned table recording before after (g .row) t i work
+      → Turned (monitorBy g table) recording before after (g .row) t i work
   turned {after} {heard} {work} e done counted =
-      let filled : Filled table recording after (g .row) (t + 1) (passedBy recording i (t + 1)) =
+      let filled : Filled (monitorBy g table) recording after (g .row) (t + 1) (passedBy recording i (t + 1)) =
       filled-next (stepAt table offsets (g .shape) heard) (heard-step heard e) done
       in
       let width : g .row * (t + 1) + g .row - g .row * (t + 1) ≡ g .row = omega arith in
@@ -174,7 +174,7 @@ module _ {table offsets recording before : List ℕ} {g : Measures} {t i : ℕ} 
         filled = filled;
         counted =
             here .exact (omega (arith, row-length after (g .row) (t + 1) fits, turn .setting .narrow))
-            ∙ row-count after (g .row) (t + 1) fits (possible table recording (t + 1))
+            ∙ row-count after (g .row) (t + 1) fits (possible (monitorBy g table) recording (t + 1))
             (filled .layers (t + 1) (omega arith))
-            (omega (arith, possible-length table recording (t + 1)));
+            (omega (arith, possible-length (monitorBy g table) recording (t + 1)));
       }

@@ -1,28 +1,35 @@
 -- A sound table and recording give the passes what they go by: the code's step is the definition's, and offsets find the triggers.
-use Prim.Native.Nat.{ℕ, zero, suc, _+_, _<_, _≤_}
+use Prim.Native.Nat.{ℕ, zero, suc, _+_, _*_, _<_, _≤_, min}
 use native.Mathlib.Omega.{arith}
-use mathlib.Core.Path.{_≡_, sym, ap, subst, fun-ext, _∙_}
+use mathlib.Core.Path.{_≡_, sym, ap, ap₂, subst, fun-ext, _∙_}
 use mathlib.Core.List.{List, [], _∷_, _++_}
 use mathlib.Core.Option.{Option, some, Option·map, Option·some-injective}
 use lib.ListN.{length, getD, getElem?}
 use Rattle.model.specs.Bytes.{byteAt, tab}
-use Rattle.model.specs.Monitor.{Monitor, Transition}
-use Rattle.model.specs.Size.{greatest, largestAirtime, size}
+use Rattle.model.specs.Limits.{sizeLimit}
+use Rattle.model.specs.Rule.{masks}
+use Rattle.model.specs.Monitor.{Monitor, Transition, under}
+use Rattle.model.specs.Size.{greatest, largestAirtime, cap, tableSize, size}
 use Rattle.model.specs.Kinds.{versionAt, kindAt}
 use Rattle.model.specs.Table.{SoundTable, monitorAt, monitorOf, tableParts, transitionIn, transitionsAt, kindsAt, kindColumn, deviceColumn}
-use Rattle.model.specs.Recording.{SoundRecording, packetsAt}
+use Rattle.model.specs.Recording.{packetsAt}
+use Rattle.model.specs.Ruled.{SoundUnder}
 use Rattle.model.specs.Situation.{stepBy, moveOf, number, situationOf, capped, recordedAt, stepNumber, firstBy, firstNumber}
+use Rattle.model.specs.declared.Rule.{Rule}
 use Rattle.model.specs.declared.Situation.{Situation}
 use Rattle.model.proofs.Basics.{getElem-tab, getElem-within, length-tab}
 use Rattle.model.proofs.Places.{getD-column}
-use Rattle.model.proofs.TableForm.{table-facts, table-small, TableFacts, sane-table}
-use Rattle.model.proofs.RecordingForm.{sound-table, sane-recording}
+use Rattle.model.proofs.TableForm.{table-facts, table-small, TableFacts}
+use Rattle.model.proofs.RecordingForm.{sound-table}
+use Rattle.model.proofs.RuledForm.{RuleFacts, facts-under, recording-sound, sane-under, sane-recording-under}
+use Rattle.rule.specs.Within.{within}
+use Rattle.rule.proofs.Laws.{within-sound}
 use Rattle.monitor.specs.From.{monitorFrom, offsetsOf, transitionFrom}
 use Rattle.monitor.proofs.Described.{monitor-from}
 use Rattle.situation.specs.declared.Shape.{Shape}
-use Rattle.situation.specs.Numbering.{Fits, shapeOf, numberBy, situationBy}
+use Rattle.situation.specs.Numbering.{Fits, numberBy, situationBy}
 use Rattle.situation.specs.Steps.{cappedBy}
-use Rattle.situation.specs.Stepping.{arriveFrom}
+use Rattle.situation.specs.Stepping.{ruledFrom, arriveFrom}
 use Rattle.situation.proofs.Numbered.{same-number, same-situation}
 use Rattle.situation.proofs.Ticks.{same-capped}
 use Rattle.situation.proofs.Shaped.{table-shape}
@@ -30,7 +37,7 @@ use Rattle.layers.specs.Advance.{stepAt}
 use Rattle.layers.specs.Pairing.{transitionCount}
 use Rattle.engine.specs.declared.measures.Measures.{Measures}
 use Rattle.engine.specs.Measured.{Measured}
-use Rattle.engine.specs.Setting.{Setting}
+use Rattle.engine.specs.Setting.{monitorBy, Setting}
 use Rattle.engine.specs.WalkRows.{Triggers}
 
 -- the longest airtime of a sound table is 15
@@ -56,21 +63,6 @@ module _ (table : List ℕ) (sound : SoundTable table) where
       (λ k l. subst (λ (x : ℕ). x ≤ 15) (sym (getD-column 32 (λ i. byteAt table (kindAt (versionAt table) i + 1)) (kindsAt table) k l)) (facts .kind k l .airtime)) in
       omega arith
 
-  -- the code's step from a number is the definition's
-  same-step : (h : Shape) → Fits h (monitorAt table) → (heard : Option ℕ) (n k : ℕ) → n < size (monitorAt table)
-      → stepAt table (offsetsOf table) h heard n k
-      ≡ Option·map (number (monitorAt table)) (stepBy (monitorAt table) (capped (monitorAt table)) heard (situationOf (monitorAt table) n) (moveOf k))
-  unfolding arriveFrom
-  same-step h fits heard n k inside =
-      let monitor : monitorFrom table (offsetsOf table) ≡ monitorAt table = monitor-from table sound in
-      let writes : cappedBy h ≡ capped (monitorAt table) = fun-ext (same-capped fits) in
-      let numbers : numberBy h ≡ number (monitorAt table) = fun-ext (same-number fits) in
-      let from : situationBy h n ≡ situationOf (monitorAt table) n = same-situation fits (sane-table table sound) airtimes-short n inside in
-      ap (λ (f : Situation → ℕ). Option·map f (stepBy (monitorFrom table (offsetsOf table)) (cappedBy h) heard (situationBy h n) (moveOf k))) numbers
-      ∙ ap (λ (m : Monitor). Option·map (number (monitorAt table)) (stepBy m (cappedBy h) heard (situationBy h n) (moveOf k))) monitor
-      ∙ ap (λ (w : List ℕ → List ℕ). Option·map (number (monitorAt table)) (stepBy (monitorAt table) w heard (situationBy h n) (moveOf k))) writes
-      ∙ ap (λ (x : Situation). Option·map (number (monitorAt table)) (stepBy (monitorAt table) (capped (monitorAt table)) heard x (moveOf k))) from
-
   counted : transitionCount table ≡ length (monitorAt table .transitions)
   unfolding monitorOf tableParts
   counted = omega (arith, facts .counts .transitions, length-tab (transitionIn (tableParts table)) (transitionsAt table))
@@ -88,34 +80,73 @@ module _ (table : List ℕ) (sound : SoundTable table) where
           let there = getElem-tab (λ i. transitionFrom table (getD (offsetsOf table) i 0)) (transitionsAt table) j within in
           ap (λ (x : Transition). x .trigger) (Option·some-injective (transitionFrom table (getD (offsetsOf table) j 0)) t (sym there ∙ e))
 
--- the number of the first situation, by the shape
-first-number : (table : List ℕ) → SoundTable table → (h : Shape) → h ≡ shapeOf (tableParts table) → numberBy h (firstBy (cappedBy h)) ≡ firstNumber (monitorAt table)
-first-number table sound h shape =
-    let fits : Fits h (monitorAt table) = subst (λ (g : Shape). Fits g (monitorAt table)) (sym shape) (table-shape table sound) in
-    same-number fits (firstBy (cappedBy h))
-    ∙ ap (λ (c : List ℕ). number (monitorAt table) (record { state = 0; variables = 0; clocks = c; air = 0 })) (same-capped fits (1 ∷ 1 ∷ []))
+module _ (table recording : List ℕ) (g : Measures) (sound : SoundUnder (g .shape .rule) table recording) (measured : Measured (tableParts table) (g .shape .rule) recording g) where
+  abbrev rule : Rule
+  rule = g .shape .rule
 
-pub setting : (table recording : List ℕ) → SoundRecording table recording → (g : Measures) → Measured (tableParts table) recording g
-    → Setting table (offsetsOf table) recording g
-unfolding stepNumber
-setting table recording sound g measured =
-    let small = table-small table (sound-table table recording sound) in
-    let whole : g .size ≡ size (monitorAt table) = omega (arith, measured .size) in
-    record {
-      sane = sane-table table (sound-table table recording sound);
-      sound = sane-recording table recording sound;
-      whole = whole;
-      wide = omega (arith, measured .row);
-      narrow = omega (arith, measured .row);
-      end = measured .last;
-      start = measured .first ∙ first-number table (sound-table table recording sound) (g .shape) (measured .shape);
-      described = monitor-from table (sound-table table recording sound);
-      counted = counted table (sound-table table recording sound);
-      situations = λ n inside.
-          same-situation (subst (λ (h : Shape). Fits h (monitorAt table)) (sym (measured .shape)) (table-shape table (sound-table table recording sound)))
-          (sane-table table (sound-table table recording sound)) (airtimes-short table (sound-table table recording sound)) n (subst (λ (x : ℕ). n < x) whole inside);
-      stepping = λ t n k inside.
-          same-step table (sound-table table recording sound) (g .shape)
-          (subst (λ (h : Shape). Fits h (monitorAt table)) (sym (measured .shape)) (table-shape table (sound-table table recording sound)))
-          (recordedAt (packetsAt recording) t) n k (subst (λ (x : ℕ). n < x) whole inside);
-    }
+  whole-table : SoundTable table
+  whole-table = sound-table table recording (recording-sound rule table recording sound)
+
+  ruled : RuleFacts (monitorBy g table)
+  ruled = facts-under rule table recording sound
+
+  fits : Fits (g .shape) (monitorBy g table)
+  fits = subst (λ (h : Shape). Fits h (monitorBy g table)) (sym (measured .shape)) (table-shape rule (ruled .some) (ruled .window) table whole-table)
+
+  short : largestAirtime (monitorBy g table) < 256
+  short = airtimes-short table whole-table
+
+  -- the rule as the code goes by it is the rule
+  within-is : within rule ≡ rule
+  within-is = within-sound rule (ruled .some) (ruled .window)
+
+  pub whole-size : g .size ≡ size (monitorBy g table)
+  unfolding size tableSize cap
+  whole-size =
+      let small = table-small table whole-table in
+      measured .size ∙ ap₂ (λ (n k : ℕ). n * k) (by (tableSize (monitorAt table)) small) (ap masks within-is)
+    where
+      by : (n : ℕ) → n ≤ sizeLimit → min n (sizeLimit + 1) ≡ n
+      by n h = omega arith
+
+  same-situations : (n : ℕ) → n < size (monitorBy g table) → situationBy (g .shape) n ≡ situationOf (monitorBy g table) n
+  same-situations = same-situation fits (sane-under rule table recording sound) short
+
+  -- the code's step from a number is the definition's
+  same-step : (heard : Option ℕ) (n k : ℕ) → n < size (monitorBy g table)
+      → stepAt table (offsetsOf table) (g .shape) heard n k
+      ≡ Option·map (number (monitorBy g table)) (stepBy (monitorBy g table) (capped (monitorBy g table)) heard (situationOf (monitorBy g table) n) (moveOf k))
+  unfolding arriveFrom
+  same-step heard n k inside =
+      let h : Shape = g .shape in
+      let m : Monitor = monitorBy g table in
+      let monitor : ruledFrom h table (offsetsOf table) ≡ m = ap₂ under within-is (monitor-from table whole-table) in
+      let writes : cappedBy h ≡ capped m = fun-ext (same-capped fits) in
+      let numbers : numberBy h ≡ number m = fun-ext (same-number fits) in
+      ap (λ (f : Situation → ℕ). Option·map f (stepBy (ruledFrom h table (offsetsOf table)) (cappedBy h) heard (situationBy h n) (moveOf k))) numbers
+      ∙ ap (λ (x : Monitor). Option·map (number m) (stepBy x (cappedBy h) heard (situationBy h n) (moveOf k))) monitor
+      ∙ ap (λ (w : List ℕ → List ℕ). Option·map (number m) (stepBy m w heard (situationBy h n) (moveOf k))) writes
+      ∙ ap (λ (x : Situation). Option·map (number m) (stepBy m (capped m) heard x (moveOf k))) (same-situations n inside)
+
+  -- the number of the first situation, by the shape
+  first-number : numberBy (g .shape) (firstBy (cappedBy (g .shape))) ≡ firstNumber (monitorBy g table)
+  first-number =
+      same-number fits (firstBy (cappedBy (g .shape)))
+      ∙ ap (λ (c : List ℕ). number (monitorBy g table) (record { state = 0; variables = 0; clocks = c; air = 0; window = 0 })) (same-capped fits (1 ∷ 1 ∷ []))
+
+  pub setting : Setting table (offsetsOf table) recording g
+  unfolding stepNumber
+  setting =
+      record {
+        sane = sane-under rule table recording sound;
+        sound = sane-recording-under rule table recording sound;
+        whole = whole-size;
+        wide = omega (arith, measured .row);
+        narrow = omega (arith, measured .row, whole-size, ruled .small);
+        end = measured .last;
+        start = measured .first ∙ first-number;
+        described = monitor-from table whole-table;
+        counted = counted table whole-table;
+        situations = λ n inside. same-situations n (subst (λ (x : ℕ). n < x) whole-size inside);
+        stepping = λ t n k inside. same-step (recordedAt (packetsAt recording) t) n k (subst (λ (x : ℕ). n < x) whole-size inside);
+      }

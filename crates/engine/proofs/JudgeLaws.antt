@@ -4,7 +4,6 @@ use mathlib.Core.Path.{_≡_, refl, sym, ap, subst, _∙_}
 use mathlib.Core.List.{List}
 use lib.ListN.{length, replicate, length-replicate}
 use Rattle.model.specs.Room.{over}
-use Rattle.model.specs.Table.{monitorAt}
 use Rattle.model.specs.Recording.{packetsAt}
 use Rattle.model.specs.Witness.{witnessBytes}
 use Rattle.model.specs.Validation.{preferred}
@@ -12,11 +11,12 @@ use Rattle.model.specs.declared.Edition.{Edition}
 use Rattle.model.specs.declared.Verdict.{Verdict}
 use Rattle.model.specs.declared.Verdict.the-variants.{Accepted, Rejected, Exhausted}
 use Rattle.model.proofs.RecordingForm.{sound-table}
+use Rattle.model.proofs.RuledForm.{recording-sound}
 use Rattle.bits.specs.Member.{mem}
 use Rattle.bits.proofs.Laws.{mem-zeros}
 use Rattle.monitor.specs.From.{offsetsOf}
 use Rattle.engine.specs.declared.measures.Measures.{Measures}
-use Rattle.engine.specs.Setting.{Setting}
+use Rattle.engine.specs.Setting.{monitorBy, Setting}
 use Rattle.engine.specs.Forwarding.{Forwarding, Through, Ended}
 use Rattle.engine.specs.WalkRows.{Triggers}
 use Rattle.engine.specs.Judging.{Judging, Ending, Concluded, Settled}
@@ -25,21 +25,21 @@ use Rattle.engine.specs.declared.forward.Outcome.the-variants.{Passed, E
 use Rattle.engine.proofs.Grounds.{setting, triggers}
 
 module _ (edition : Edition) (table offsets recording scratch room : List ℕ) (g : Measures) (budget : ℕ) (o : Outcome) (e : Ending edition table offsets recording scratch room g budget o) where
-  pub spent : (instant : ℕ) → o ≡ Spent instant → Concluded edition table recording budget scratch room scratch room (Exhausted budget instant)
+  pub spent : (instant : ℕ) → o ≡ Spent instant → Concluded edition (monitorBy g table) recording budget scratch room scratch room (Exhausted budget instant)
   spent instant same =
-      record { long = refl; answered = sym (subst (Ended table recording scratch budget (g .row) (g .last)) same (e .ended)); written = refl }
+      record { long = refl; answered = sym (subst (Ended (monitorBy g table) recording scratch budget (g .row) (g .last)) same (e .ended)); written = refl }
 
-  pub emptied : (cost instant early late : ℕ) → o ≡ Emptied cost instant early late → Concluded edition table recording budget scratch room scratch room (Rejected cost instant early late)
+  pub emptied : (cost instant early late : ℕ) → o ≡ Emptied cost instant early late → Concluded edition (monitorBy g table) recording budget scratch room scratch room (Rejected cost instant early late)
   emptied cost instant early late same =
-      record { long = refl; answered = sym (subst (Ended table recording scratch budget (g .row) (g .last)) same (e .ended)); written = refl }
+      record { long = refl; answered = sym (subst (Ended (monitorBy g table) recording scratch budget (g .row) (g .last)) same (e .ended)); written = refl }
 
-  pub through : (cost : ℕ) → o ≡ Passed cost → Through table recording scratch budget (g .row) (g .last) cost
-  through cost same = subst (Ended table recording scratch budget (g .row) (g .last)) same (e .ended)
+  pub through : (cost : ℕ) → o ≡ Passed cost → Through (monitorBy g table) recording scratch budget (g .row) (g .last) cost
+  through cost same = subst (Ended (monitorBy g table) recording scratch budget (g .row) (g .last)) same (e .ended)
 
   pub passed : (cost : ℕ) → o ≡ Passed cost → (scratchThen roomThen : List ℕ) (rows : ℕ) → length scratchThen ≡ length scratch
-      → rows ≡ length (preferred (monitorAt table) (packetsAt recording))
-      → roomThen ≡ over (witnessBytes edition (preferred (monitorAt table) (packetsAt recording))) room
-      → Concluded edition table recording budget scratch room scratchThen roomThen (Accepted cost rows)
+      → rows ≡ length (preferred (monitorBy g table) (packetsAt recording))
+      → roomThen ≡ over (witnessBytes edition (preferred (monitorBy g table) (packetsAt recording))) room
+      → Concluded edition (monitorBy g table) recording budget scratch room scratchThen roomThen (Accepted cost rows)
   passed cost same scratchThen roomThen rows long count written =
       record {
         long = long;
@@ -49,7 +49,7 @@ module _ (edition : Edition) (table offsets recording scratch room : List ℕ) (
 
 module _ (edition : Edition) (table recording scratch room : List ℕ) (g : Measures) (j : Judging edition table recording scratch room g) where
   grounds : (offsets : List ℕ) → offsets ≡ offsetsOf table → Setting table offsets recording g
-  grounds offsets e = subst (λ (l : List ℕ). Setting table l recording g) (sym e) (setting table recording (j .sound) g (j .measured))
+  grounds offsets e = subst (λ (l : List ℕ). Setting table l recording g) (sym e) (setting table recording g (j .sound) (j .measured))
 
   pub forwarding : (offsets cleared : List ℕ) → offsets ≡ offsetsOf table → cleared ≡ replicate (length scratch) 0
       → Forwarding table offsets recording cleared g
@@ -61,18 +61,18 @@ module _ (edition : Edition) (table recording scratch room : List ℕ) (g : Meas
       }
 
   pub ending : (offsets after : List ℕ) (budget : ℕ) (o : Outcome) → offsets ≡ offsetsOf table
-      → Ended table recording after budget (g .row) (g .last) o → Ending edition table offsets recording after room g budget o
+      → Ended (monitorBy g table) recording after budget (g .row) (g .last) o → Ending edition table offsets recording after room g budget o
   ending offsets after budget o found ended =
       record {
         setting = grounds offsets found;
-        triggers = subst (Triggers table) (sym found) (triggers table (sound-table table recording (j .sound)));
+        triggers = subst (Triggers table) (sym found) (triggers table (sound-table table recording (recording-sound (g .shape .rule) table recording (j .sound))));
         roomy = j .roomy;
         ended = ended;
       }
 
   pub settled : (budget : ℕ) (v : Verdict) (before after scratchThen roomThen : List ℕ) → length before ≡ length scratch
-      → Concluded edition table recording budget before room after roomThen v → scratchThen ≡ replicate (length after) 0
-      → Settled edition table recording budget scratch room scratchThen roomThen v
+      → Concluded edition (monitorBy g table) recording budget before room after roomThen v → scratchThen ≡ replicate (length after) 0
+      → Settled edition (monitorBy g table) recording budget scratch room scratchThen roomThen v
   settled budget v before after scratchThen roomThen long c zero =
       record {
         answered = c .answered;

@@ -1,4 +1,4 @@
--- Rows of the scratch by their places, and the sets and the step of a table and a recording.
+-- Rows of the scratch by their places, and the sets and the step of a monitor and a recording.
 use Prim.Native.Nat.{ℕ, _+_, _*_, _<_, _≤_}
 use native.Mathlib.Nat.{mul-suc, mul-le-mul, mul-le-mul-left}
 use native.Mathlib.Numerals.{add-one}
@@ -10,7 +10,7 @@ use mathlib.Core.Option.{Option}
 use mir.Syntax.{w64}
 use mir.Val.{Fits}
 use Rattle.model.specs.Size
-use Rattle.model.specs.Table.{monitorAt}
+use Rattle.model.specs.Monitor.{Monitor}
 use Rattle.model.specs.Recording.{packetsAt}
 use Rattle.model.specs.Situation.{stepNumber}
 use Rattle.model.specs.Validation.{possibleAfter}
@@ -36,11 +36,11 @@ row-start row t h l =
 
 -- N, the step, and the situations possible after an instant
 
-abbrev pub sizeOf : List ℕ → ℕ
-sizeOf table = Size.size (monitorAt table)
+abbrev pub sizeOf : Monitor → ℕ
+sizeOf m = Size.size m
 
-abbrev pub stepOf : (table recording : List ℕ) → (t n k : ℕ) → Option ℕ
-stepOf table recording = stepNumber (monitorAt table) (packetsAt recording)
+abbrev pub stepOf : Monitor → (recording : List ℕ) → (t n k : ℕ) → Option ℕ
+stepOf m recording = stepNumber m (packetsAt recording)
 
-abbrev pub possible : (table recording : List ℕ) → ℕ → List Bool
-possible table recording = possibleAfter (monitorAt table) (packetsAt recording)
+abbrev pub possible : Monitor → (recording : List ℕ) → ℕ → List Bool
+possible m recording = possibleAfter m (packetsAt recording)

@@ -5,12 +5,13 @@ use mathlib.Core.List.{List, [], _∷_}
 use mathlib.Core.Option.{Option, none, some, Option·map, Option·none-ne-some, Option·some-injective}
 use lib.ListN.{getD, getElem?}
 use Rattle.model.specs.Bytes.{byteAt}
-use Rattle.model.specs.Monitor.{Monitor, Transition}
+use Rattle.model.specs.Monitor.{Monitor, Transition, under}
 use Rattle.model.specs.Trace.{Packet}
 use Rattle.model.specs.Table.{monitorAt}
-use Rattle.model.specs.Situation.{add, moveOf, stepBy, stepNumber, recordedAt, triggerOf, number, capped, situationOf, restMove, firstAdd}
+use Rattle.model.specs.Situation.{Move, keep, rest, add, moveOf, stepBy, stepNumber, recordedAt, triggerOf, number, capped, situationOf, restMove, firstAdd}
 use Rattle.model.specs.Validation.{rowFor, rowsBy, HasRows}
 use Rattle.model.specs.Witness.{kept, removed, added, noTransition, marked}
+use Rattle.model.specs.declared.Rule.{Rule}
 use Rattle.model.specs.declared.Situation.{Situation}
 use Rattle.model.proofs.Instants.{moveOf-keep, move-rest, move-add}
 use Rattle.model.proofs.MoveRows.{fits-step}
@@ -35,6 +36,21 @@ fits-add m o k h f = on o (subst (HasRows m o) (move-add k h) f)
     on : (p : Option ℕ) → HasRows m p (add (k - firstAdd)) → (a : ℕ) × (triggerOf m (k - firstAdd) ≡ some a)
     on none g = g
     on (some r) g = absurd g
+
+-- rows do not go by the rule
+
+pub rows-plain : (rule : Rule) (m : Monitor) (o : Option ℕ) (t : ℕ) (a : Move) → rowsBy (under rule m) o t a ≡ rowsBy m o t a
+unfolding rowsBy
+rows-plain rule m o t (keep j) = refl
+rows-plain rule m o t rest = refl
+rows-plain rule m o t (add j) = refl
+
+pub has-plain : (rule : Rule) (m : Monitor) (o : Option ℕ) (a : Move) → HasRows (under rule m) o a → HasRows m o a
+has-plain rule m none (keep j) h = h
+has-plain rule m (some k) (keep j) h = h
+has-plain rule m o rest h = tt
+has-plain rule m none (add j) h = h
+has-plain rule m (some k) (add j) h = h
 
 -- the kind of an added row
 

@@ -9,7 +9,6 @@ use mathlib.Core.Option.{Option, none, some, Option·none-ne-some, Option·some-
 use lib.ListN.{length, getD, replicate, length-replicate, length-append}
 use lib.Seq.{getD-set-same}
 use Rattle.model.specs.Monitor.{Monitor}
-use Rattle.model.specs.Table.{monitorAt}
 use Rattle.model.specs.Recording.{packetsAt, endOf}
 use Rattle.model.specs.Layers.{count, layer, arrived, leastFrom}
 use Rattle.model.specs.Situation.{moveOf, moveLimit, recordedAt, firstNumber}
@@ -30,7 +29,7 @@ use Rattle.situation.specs.declared.Shape.{Shape}
 use Rattle.situation.proofs.Cursors.{first-cursor}
 use Rattle.layers.specs.Advance.{stepAt, inRow, leastInto}
 use Rattle.engine.specs.declared.measures.Measures.{Measures}
-use Rattle.engine.specs.Setting.{Setting}
+use Rattle.engine.specs.Setting.{monitorBy, Setting}
 use Rattle.engine.specs.PruneRows.{PrunedRows}
 use Rattle.engine.specs.WalkRows.{RowsPut, Room, Stands, rowsAfter, WalkedOn}
 use Rattle.engine.proofs.PruneLayers.{reaching, PrunedBy, in-row-pruned, least-step}
@@ -84,179 +83,178 @@ module _ (N K : ℕ) (step : ℕ → ℕ → ℕ → Option ℕ) (first : ℕ) w
       }
 
 -- what the code's least move k from n after instant t comes to
-pub record Leading (table recording : List ℕ) (last t n k : ℕ) (heard : Option ℕ) (to : Option ℕ) : Type 0 where
+pub record Leading (m : Monitor) (recording : List ℕ) (last t n k : ℕ) (heard : Option ℕ) (to : Option ℕ) : Type 0 where
   pub number : ℕ
   pub arrives : to ≡ some number
   pub few : k < moveLimit
-  pub fits : HasRows (monitorAt table) heard (moveOf k)
-  pub here : getD (possible table recording (t + 1)) number false ≡ true
-  pub alive : getD (reaching table recording (last - (t + 1)) (t + 1)) number false ≡ true
-  pub split : rowsAfter table recording last t n ≡ rowsBy (monitorAt table) heard (t + 1) (moveOf k) ++ rowsAfter table recording last (t + 1) number
+  pub fits : HasRows m heard (moveOf k)
+  pub here : getD (possible m recording (t + 1)) number false ≡ true
+  pub alive : getD (reaching m recording (last - (t + 1)) (t + 1)) number false ≡ true
+  pub split : rowsAfter m recording last t n ≡ rowsBy m heard (t + 1) (moveOf k) ++ rowsAfter m recording last (t + 1) number
 
-module _ (table recording : List ℕ) (last : ℕ) where
+module _ (m : Monitor) (recording : List ℕ) (last : ℕ) where
   -- the rows of the first of the least moves, and the rows of the others
   rows-split : (t n k x : ℕ) → t < last
-      → leastFrom (sizeOf table) moveLimit (stepOf table recording) (suc (last - (t + 1))) t n
-      ≡ k ∷ leastFrom (sizeOf table) moveLimit (stepOf table recording) (last - (t + 1)) (suc t) x
-      → rowsAfter table recording last t n
-      ≡ rowsBy (monitorAt table) (recordedAt (packetsAt recording) (t + 1)) (t + 1) (moveOf k) ++ rowsAfter table recording last (t + 1) x
+      → leastFrom (sizeOf m) moveLimit (stepOf m recording) (suc (last - (t + 1))) t n
+      ≡ k ∷ leastFrom (sizeOf m) moveLimit (stepOf m recording) (last - (t + 1)) (suc t) x
+      → rowsAfter m recording last t n
+      ≡ rowsBy m (recordedAt (packetsAt recording) (t + 1)) (t + 1) (moveOf k) ++ rowsAfter m recording last (t + 1) x
   unfolding rowsOf
   rows-split t n k x l e =
-      let m = monitorAt table in
       let left : last - t ≡ suc (last - (t + 1)) = omega arith in
-      ap (λ (u : ℕ). rowsOf m (packetsAt recording) (t + 1) (leastFrom (sizeOf table) moveLimit (stepOf table recording) u t n)) left
+      ap (λ (u : ℕ). rowsOf m (packetsAt recording) (t + 1) (leastFrom (sizeOf m) moveLimit (stepOf m recording) u t n)) left
       ∙ ap (rowsOf m (packetsAt recording) (t + 1)) e
       ∙ ap₂
-      (λ (u v : ℕ). rowsBy m (recordedAt (packetsAt recording) (t + 1)) (t + 1) (moveOf k) ++ rowsOf m (packetsAt recording) u (leastFrom (sizeOf table) moveLimit (stepOf table recording) (last - (t + 1)) v x))
+      (λ (u v : ℕ). rowsBy m (recordedAt (packetsAt recording) (t + 1)) (t + 1) (moveOf k) ++ rowsOf m (packetsAt recording) u (leastFrom (sizeOf m) moveLimit (stepOf m recording) (last - (t + 1)) v x))
       (sym (add-one (t + 1))) (sym (add-one t))
 
 module _
     (table offsets recording : List ℕ) (g : Measures) (set : Setting table offsets recording g)
-    (scratch : List ℕ) (rows : PrunedRows table recording scratch (g .row) (g .size) (g .last))
+    (scratch : List ℕ) (rows : PrunedRows (monitorBy g table) recording scratch (g .row) (g .size) (g .last))
   where
     -- the code's least move into the next row is that of the definition
-    least-move : (t n : ℕ) (heard : Option ℕ) → t < g .last → heard ≡ recordedAt (packetsAt recording) (t + 1) → getD (possible table recording t) n false ≡ true → n < g .size
+    least-move : (t n : ℕ) (heard : Option ℕ) → t < g .last → heard ≡ recordedAt (packetsAt recording) (t + 1) → getD (possible (monitorBy g table) recording t) n false ≡ true → n < g .size
         → leastInto (stepAt table offsets (g .shape) heard) scratch (8 * g .row * (t + 1)) (g .size) n
-        ≡ least.leastInto (sizeOf table) moveLimit (stepOf table recording) (reaching table recording (g .last - (t + 1)) (suc t)) t n
+        ≡ least.leastInto (sizeOf (monitorBy g table)) moveLimit (stepOf (monitorBy g table) recording) (reaching (monitorBy g table) recording (g .last - (t + 1)) (suc t)) t n
     least-move t n heard early q here l =
         least-step table offsets recording g set heard scratch (8 * g .row * (t + 1)) (t + 1) t n q (add-one t) l
-        ∙ least-same (sizeOf table) moveLimit (stepOf table recording) (firstNumber (monitorAt table)) (g .last - (t + 1)) t n (inRow scratch (8 * g .row * (t + 1)) (g .size))
-        (subst (λ (u : ℕ). PrunedBy table recording (g .last - (t + 1)) u (inRow scratch (8 * g .row * (t + 1)) (g .size))) (add-one t)
+        ∙ least-same (sizeOf (monitorBy g table)) moveLimit (stepOf (monitorBy g table) recording) (firstNumber (monitorBy g table)) (g .last - (t + 1)) t n (inRow scratch (8 * g .row * (t + 1)) (g .size))
+        (subst (λ (u : ℕ). PrunedBy (monitorBy g table) recording (g .last - (t + 1)) u (inRow scratch (8 * g .row * (t + 1)) (g .size))) (add-one t)
         (in-row-pruned table offsets recording g set scratch (8 * g .row * (t + 1)) (g .last - (t + 1)) (t + 1) (rows (t + 1) (omega arith))))
         (omega (arith, set .whole)) here
 
     pub leading : (t n j : ℕ) (heard : Option ℕ) (k : ℕ) → t < g .last → heard ≡ recordedAt (packetsAt recording) (t + 1)
-        → k ≡ leastInto (stepAt table offsets (g .shape) heard) scratch (8 * g .row * (t + 1)) (g .size) n → Stands table recording (g .last) t n j
-        → Leading table recording (g .last) t n k heard (stepAt table offsets (g .shape) heard n k)
+        → k ≡ leastInto (stepAt table offsets (g .shape) heard) scratch (8 * g .row * (t + 1)) (g .size) n → Stands (monitorBy g table) recording (g .last) t n j
+        → Leading (monitorBy g table) recording (g .last) t n k heard (stepAt table offsets (g .shape) heard n k)
     leading t n j heard k early q e stands =
         record {
           number = on .number;
           arrives = ap (λ (o : Option ℕ). stepAt table offsets (g .shape) o n k) q ∙ set .stepping (t + 1) n k below ∙ arrives;
           few = omega (arith, same, on .few);
           fits = subst (λ (o : Option ℕ). HasRows m o (moveOf k)) (sym q) (fits-number m (packetsAt recording) (t + 1) n k (on .number) arrives);
-          here = subst (λ (u : ℕ). getD (possible table recording u) (on .number) false ≡ true) (sym (add-one t)) (on .here);
-          alive = subst (λ (u : ℕ). getD (reaching table recording left u) (on .number) false ≡ true) (sym (add-one t)) (on .alive);
+          here = subst (λ (u : ℕ). getD (possible (monitorBy g table) recording u) (on .number) false ≡ true) (sym (add-one t)) (on .here);
+          alive = subst (λ (u : ℕ). getD (reaching (monitorBy g table) recording left u) (on .number) false ≡ true) (sym (add-one t)) (on .alive);
           split =
-              rows-split table recording (g .last) t n k (on .number) early (on .moves ∙ ap (λ (i : ℕ). i ∷ leastFrom (sizeOf table) moveLimit (stepOf table recording) left (suc t) (on .number)) (sym same))
-              ∙ ap (λ (o : Option ℕ). rowsBy m o (t + 1) (moveOf k) ++ rowsAfter table recording (g .last) (t + 1) (on .number)) (sym q);
+              rows-split (monitorBy g table) recording (g .last) t n k (on .number) early (on .moves ∙ ap (λ (i : ℕ). i ∷ leastFrom (sizeOf (monitorBy g table)) moveLimit (stepOf (monitorBy g table) recording) left (suc t) (on .number)) (sym same))
+              ∙ ap (λ (o : Option ℕ). rowsBy m o (t + 1) (moveOf k) ++ rowsAfter (monitorBy g table) recording (g .last) (t + 1) (on .number)) (sym q);
         }
       where
         m : Monitor
-        m = monitorAt table
+        m = monitorBy g table
 
         left : ℕ
         left = g .last - (t + 1)
 
         below : n < g .size
-        below = omega (arith, set .whole, inside (sizeOf table) moveLimit (stepOf table recording) (firstNumber m) t n (stands .here))
+        below = omega (arith, set .whole, inside (sizeOf (monitorBy g table)) moveLimit (stepOf (monitorBy g table) recording) (firstNumber m) t n (stands .here))
 
-        on : Next (sizeOf table) moveLimit (stepOf table recording) (firstNumber m) left t n (least.leastInto (sizeOf table) moveLimit (stepOf table recording) (reaching table recording left (suc t)) t n)
+        on : Next (sizeOf (monitorBy g table)) moveLimit (stepOf (monitorBy g table) recording) (firstNumber m) left t n (least.leastInto (sizeOf (monitorBy g table)) moveLimit (stepOf (monitorBy g table) recording) (reaching (monitorBy g table) recording left (suc t)) t n)
         on =
             let more : g .last - t ≡ suc left = omega arith in
-            next (sizeOf table) moveLimit (stepOf table recording) (firstNumber m) left t n (stands .here)
-            (subst (λ (u : ℕ). getD (reaching table recording u t) n false ≡ true) more (stands .alive))
+            next (sizeOf (monitorBy g table)) moveLimit (stepOf (monitorBy g table) recording) (firstNumber m) left t n (stands .here)
+            (subst (λ (u : ℕ). getD (reaching (monitorBy g table) recording u t) n false ≡ true) more (stands .alive))
 
-        same : k ≡ least.leastInto (sizeOf table) moveLimit (stepOf table recording) (reaching table recording left (suc t)) t n
+        same : k ≡ least.leastInto (sizeOf (monitorBy g table)) moveLimit (stepOf (monitorBy g table) recording) (reaching (monitorBy g table) recording left (suc t)) t n
         same = e ∙ least-move t n heard early q (stands .here) below
 
-        arrives : stepOf table recording (t + 1) n k ≡ some (on .number)
-        arrives = ap₂ (λ (u i : ℕ). stepOf table recording u n i) (add-one t) same ∙ on .arrives
+        arrives : stepOf (monitorBy g table) recording (t + 1) n k ≡ some (on .number)
+        arrives = ap₂ (λ (u i : ℕ). stepOf (monitorBy g table) recording u n i) (add-one t) same ∙ on .arrives
 
-pub onward : {table recording : List ℕ} {last t n k : ℕ} {heard to : Option ℕ} → Leading table recording last t n k heard to
+pub onward : {m : Monitor} {recording : List ℕ} {last t n k : ℕ} {heard to : Option ℕ} → Leading m recording last t n k heard to
     → {x j r next : ℕ} {before after : List ℕ} → to ≡ some x → Cursor recording j (t + 1 + 1)
-    → RowsPut (rowsBy (monitorAt table) heard (t + 1) (moveOf k)) r next before after
-    → WalkedOn table recording last t n r x j next before after
-onward {table} {recording} {last} {t} {n} {k} {heard} {to} on {x} {j} {r} {next} {before} {after} e cursor wrote =
+    → RowsPut (rowsBy m heard (t + 1) (moveOf k)) r next before after
+    → WalkedOn m recording last t n r x j next before after
+onward {m} {recording} {last} {t} {n} {k} {heard} {to} on {x} {j} {r} {next} {before} {after} e cursor wrote =
     let same : on .number ≡ x = Option·some-injective (on .number) x (sym (on .arrives) ∙ e) in
     record {
-      rows = rowsBy (monitorAt table) heard (t + 1) (moveOf k);
+      rows = rowsBy m heard (t + 1) (moveOf k);
       stands =
           record {
-            here = subst (λ (z : ℕ). getD (possible table recording (t + 1)) z false ≡ true) same (on .here);
-            alive = subst (λ (z : ℕ). getD (reaching table recording (last - (t + 1)) (t + 1)) z false ≡ true) same (on .alive);
+            here = subst (λ (z : ℕ). getD (possible m recording (t + 1)) z false ≡ true) same (on .here);
+            alive = subst (λ (z : ℕ). getD (reaching m recording (last - (t + 1)) (t + 1)) z false ≡ true) same (on .alive);
             cursor = cursor;
           };
       wrote = wrote;
-      split = on .split ∙ ap (λ (z : ℕ). rowsBy (monitorAt table) heard (t + 1) (moveOf k) ++ rowsAfter table recording last (t + 1) z) same;
+      split = on .split ∙ ap (λ (z : ℕ). rowsBy m heard (t + 1) (moveOf k) ++ rowsAfter m recording last (t + 1) z) same;
     }
 
 -- the rows written up to instant t, and those to come from number n, are the preferred witness
-pub record Walked (table recording : List ℕ) (last t n r : ℕ) (before after : List ℕ) : Type 0 where
+pub record Walked (m : Monitor) (recording : List ℕ) (last t n r : ℕ) (before after : List ℕ) : Type 0 where
   pub rows : List Row
   pub wrote : RowsPut rows 0 r before after
-  pub whole : rows ++ rowsAfter table recording last t n ≡ preferred (monitorAt table) (packetsAt recording)
+  pub whole : rows ++ rowsAfter m recording last t n ≡ preferred m (packetsAt recording)
 
-module _ {table recording : List ℕ} {last t n r : ℕ} {before after : List ℕ} (walked : Walked table recording last t n r before after)
-    (room : Room (preferred (monitorAt table) (packetsAt recording)) 0 before)
+module _ {m : Monitor} {recording : List ℕ} {last t n r : ℕ} {before after : List ℕ} (walked : Walked m recording last t n r before after)
+    (room : Room (preferred m (packetsAt recording)) 0 before)
   where
-    pub room-left : Room (rowsAfter table recording last t n) r after
-    room-left = room-behind (rowsAfter table recording last t n) (walked .wrote) (omega (arith, ap length (walked .whole)))
+    pub room-left : Room (rowsAfter m recording last t n) r after
+    room-left = room-behind (rowsAfter m recording last t n) (walked .wrote) (omega (arith, ap length (walked .whole)))
 
     pub walked-length : length after ≡ length before
-    walked-length = rows-put-length (walked .wrote) (omega (arith, ap length (walked .whole), length-append (walked .rows) (rowsAfter table recording last t n)))
+    walked-length = rows-put-length (walked .wrote) (omega (arith, ap length (walked .whole), length-append (walked .rows) (rowsAfter m recording last t n)))
 
-    pub walked-on : {x j next : ℕ} {then : List ℕ} → WalkedOn table recording last t n r x j next after then → Walked table recording last (t + 1) x next before then
+    pub walked-on : {x j next : ℕ} {then : List ℕ} → WalkedOn m recording last t n r x j next after then → Walked m recording last (t + 1) x next before then
     walked-on {x} on =
-        let all : (walked .rows ++ on .rows) ++ rowsAfter table recording last (t + 1) x ≡ preferred (monitorAt table) (packetsAt recording) =
-        append-assoc (walked .rows) (on .rows) (rowsAfter table recording last (t + 1) x)
+        let all : (walked .rows ++ on .rows) ++ rowsAfter m recording last (t + 1) x ≡ preferred m (packetsAt recording) =
+        append-assoc (walked .rows) (on .rows) (rowsAfter m recording last (t + 1) x)
         ∙ ap (λ (l : List Row). walked .rows ++ l) (sym (on .split))
         ∙ walked .whole in
         record {
           rows = walked .rows ++ on .rows;
-          wrote = rows-put-more (omega (arith, ap length all, length-append (walked .rows ++ on .rows) (rowsAfter table recording last (t + 1) x))) (walked .wrote) (on .wrote);
+          wrote = rows-put-more (omega (arith, ap length all, length-append (walked .rows ++ on .rows) (rowsAfter m recording last (t + 1) x))) (walked .wrote) (on .wrote);
           whole = all;
         }
 
 -- where the walk begins and ends
 module _ (table offsets recording : List ℕ) (g : Measures) (set : Setting table offsets recording g) where
-  pub stands-first : 0 < count (possible table recording (g .last)) → Stands table recording (g .last) 0 (firstNumber (monitorAt table)) 0
+  pub stands-first : 0 < count (possible (monitorBy g table) recording (g .last)) → Stands (monitorBy g table) recording (g .last) 0 (firstNumber (monitorBy g table)) 0
   unfolding layer
   stands-first some-left =
-      let m = monitorAt table in
-      let step = stepOf table recording in
-      let below : firstNumber m < sizeOf table = first-number-below (set .sane) in
-      let (z, l, member) = count-some (possible table recording (g .last)) some-left in
-      let (ks, long, leads) = layer-leads (sizeOf table) moveLimit step (firstNumber m) (g .last) z member in
+      let m = monitorBy g table in
+      let step = stepOf (monitorBy g table) recording in
+      let below : firstNumber m < sizeOf (monitorBy g table) = first-number-below (set .sane) in
+      let (z, l, member) = count-some (possible (monitorBy g table) recording (g .last)) some-left in
+      let (ks, long, leads) = layer-leads (sizeOf (monitorBy g table)) moveLimit step (firstNumber m) (g .last) z member in
       let whole : g .last ≡ g .last - 0 = omega arith in
       record {
-        here = getD-set-same (replicate (sizeOf table) false) (firstNumber m) true false (omega (arith, length-replicate (sizeOf table) false));
-        alive = alive-carries (sizeOf table) moveLimit step (g .last - 0) 0 (firstNumber m) below .1 (ks, z, long ∙ whole, leads);
+        here = getD-set-same (replicate (sizeOf (monitorBy g table)) false) (firstNumber m) true false (omega (arith, length-replicate (sizeOf (monitorBy g table)) false));
+        alive = alive-carries (sizeOf (monitorBy g table)) moveLimit step (g .last - 0) 0 (firstNumber m) below .1 (ks, z, long ∙ whole, leads);
         cursor = first-cursor m recording (set .sound .trace);
       }
 
-  pub rows-all : rowsAfter table recording (g .last) 0 (firstNumber (monitorAt table)) ≡ preferred (monitorAt table) (packetsAt recording)
+  pub rows-all : rowsAfter (monitorBy g table) recording (g .last) 0 (firstNumber (monitorBy g table)) ≡ preferred (monitorBy g table) (packetsAt recording)
   unfolding preferred
   rows-all =
       let whole : g .last - 0 ≡ endOf (packetsAt recording) = omega (arith, set .end) in
-      ap (λ (u : ℕ). rowsOf (monitorAt table) (packetsAt recording) 1 (leastFrom (sizeOf table) moveLimit (stepOf table recording) u 0 (firstNumber (monitorAt table)))) whole
-      ∙ ap (rowsOf (monitorAt table) (packetsAt recording) 1) (sym (leastMoves-from (sizeOf table) moveLimit (stepOf table recording) (firstNumber (monitorAt table)) (endOf (packetsAt recording))))
+      ap (λ (u : ℕ). rowsOf (monitorBy g table) (packetsAt recording) 1 (leastFrom (sizeOf (monitorBy g table)) moveLimit (stepOf (monitorBy g table) recording) u 0 (firstNumber (monitorBy g table)))) whole
+      ∙ ap (rowsOf (monitorBy g table) (packetsAt recording) 1) (sym (leastMoves-from (sizeOf (monitorBy g table)) moveLimit (stepOf (monitorBy g table) recording) (firstNumber (monitorBy g table)) (endOf (packetsAt recording))))
 
-  pub rows-end : (n : ℕ) → rowsAfter table recording (g .last) (g .last) n ≡ []
+  pub rows-end : (n : ℕ) → rowsAfter (monitorBy g table) recording (g .last) (g .last) n ≡ []
   unfolding rowsOf
   rows-end n =
       let none-left : g .last - g .last ≡ 0 = omega arith in
-      ap (λ (u : ℕ). rowsOf (monitorAt table) (packetsAt recording) (g .last + 1) (leastFrom (sizeOf table) moveLimit (stepOf table recording) u (g .last) n)) none-left
-      ∙ ap (rowsOf (monitorAt table) (packetsAt recording) (g .last + 1)) (leastFrom-zero (sizeOf table) moveLimit (stepOf table recording) (g .last) n)
+      ap (λ (u : ℕ). rowsOf (monitorBy g table) (packetsAt recording) (g .last + 1) (leastFrom (sizeOf (monitorBy g table)) moveLimit (stepOf (monitorBy g table) recording) u (g .last) n)) none-left
+      ∙ ap (rowsOf (monitorBy g table) (packetsAt recording) (g .last + 1)) (leastFrom-zero (sizeOf (monitorBy g table)) moveLimit (stepOf (monitorBy g table) recording) (g .last) n)
 
   -- at most one row an instant
-  pub rows-fit : length (preferred (monitorAt table) (packetsAt recording)) ≤ g .last
+  pub rows-fit : length (preferred (monitorBy g table) (packetsAt recording)) ≤ g .last
   unfolding preferred
   rows-fit =
       omega (
         arith,
         set .end,
-        rows-short (monitorAt table) (packetsAt recording) 1 (movesOf (monitorAt table) (packetsAt recording)),
-        length-least (sizeOf table) moveLimit (stepOf table recording) (firstNumber (monitorAt table)) (endOf (packetsAt recording)),
+        rows-short (monitorBy g table) (packetsAt recording) 1 (movesOf (monitorBy g table) (packetsAt recording)),
+        length-least (sizeOf (monitorBy g table)) moveLimit (stepOf (monitorBy g table) recording) (firstNumber (monitorBy g table)) (endOf (packetsAt recording)),
       )
 
-  pub walked-first : (room : List ℕ) → Walked table recording (g .last) 0 (firstNumber (monitorAt table)) 0 room room
+  pub walked-first : (room : List ℕ) → Walked (monitorBy g table) recording (g .last) 0 (firstNumber (monitorBy g table)) 0 room room
   walked-first room = record { rows = []; wrote = rows-put-none 0 room (omega arith); whole = rows-all }
 
-  pub walked-all : {t n r : ℕ} {before after : List ℕ} → Walked table recording (g .last) t n r before after → t ≡ g .last
-      → RowsPut (preferred (monitorAt table) (packetsAt recording)) 0 r before after
+  pub walked-all : {t n r : ℕ} {before after : List ℕ} → Walked (monitorBy g table) recording (g .last) t n r before after → t ≡ g .last
+      → RowsPut (preferred (monitorBy g table) (packetsAt recording)) 0 r before after
   walked-all {t} {n} walked e =
       rows-put-same
       (sym (append-nil (walked .rows))
-      ∙ ap (λ (l : List Row). walked .rows ++ l) (sym (ap (λ (u : ℕ). rowsAfter table recording (g .last) u n) e ∙ rows-end n))
+      ∙ ap (λ (l : List Row). walked .rows ++ l) (sym (ap (λ (u : ℕ). rowsAfter (monitorBy g table) recording (g .last) u n) e ∙ rows-end n))
       ∙ walked .whole)
       (walked .wrote)

@@ -4,7 +4,7 @@ use mathlib.Core.Path.{_≡_}
 use mathlib.Core.List.{List}
 use mathlib.Core.Bool.{false}
 use lib.ListN.{length}
-use Rattle.model.specs.Table.{monitorAt}
+use Rattle.model.specs.Monitor.{Monitor}
 use Rattle.model.specs.Recording.{packetsAt}
 use Rattle.model.specs.Layers.{count}
 use Rattle.model.specs.Validation.{possibleAfter, pairsAt, preferred, verdict}
@@ -12,14 +12,14 @@ use Rattle.model.specs.declared.Readiness.the-variants.{NotYet, NoMore}
 use Rattle.model.specs.declared.Verdict.the-variants.{Accepted, Rejected, Exhausted}
 use Rattle.bits.specs.Member.{mem}
 use Rattle.situation.specs.Rows.{Cursor, passedBy}
-use Rattle.engine.specs.Setting.{Setting, LayersUpTo}
+use Rattle.engine.specs.Setting.{monitorBy, Setting, LayersUpTo}
 use Rattle.engine.specs.declared.measures.Measures.{Measures}
 use Rattle.engine.specs.declared.forward.Outcome.{Outcome}
 use Rattle.engine.specs.declared.forward.Outcome.the-variants.{Passed, Emptied, Spent}
 
 -- the rows of the instants 0 to t are filled and nothing is behind them; i rows are recorded before instant t + 1
-pub record Filled (table recording scratch : List ℕ) (row t i : ℕ) : Type 0 where
-  pub layers : LayersUpTo table recording scratch row t
+pub record Filled (m : Monitor) (recording scratch : List ℕ) (row t i : ℕ) : Type 0 where
+  pub layers : LayersUpTo m recording scratch row t
   pub rest : (k : ℕ) → 8 * row * (t + 1) ≤ k → mem scratch k ≡ false
   pub cursor : Cursor recording i (t + 1)
 
@@ -28,25 +28,25 @@ pub record Turn (table offsets recording scratch : List ℕ) (g : Measures) (t i
   pub setting : Setting table offsets recording g
   pub long : g .row * (g .last + 1) ≤ length scratch
   pub more : t < g .last
-  pub filled : Filled table recording scratch (g .row) t i
+  pub filled : Filled (monitorBy g table) recording scratch (g .row) t i
 
 -- what it ends with: the next row is filled, and the work is how many situations it has
-pub record Turned (table recording before after : List ℕ) (row t i work : ℕ) : Type 0 where
+pub record Turned (m : Monitor) (recording before after : List ℕ) (row t i work : ℕ) : Type 0 where
   pub long : length after ≡ length before
-  pub filled : Filled table recording after row (t + 1) (passedBy recording i (t + 1))
-  pub counted : work ≡ count (possibleAfter (monitorAt table) (packetsAt recording) (t + 1))
+  pub filled : Filled m recording after row (t + 1) (passedBy recording i (t + 1))
+  pub counted : work ≡ count (possibleAfter m (packetsAt recording) (t + 1))
 
 -- what is known where none is left after instant t + 1: the rows of the instants 0 to t are filled, and i rows are recorded before instant t + 1
 pub record Emptying (table offsets recording scratch : List ℕ) (g : Measures) (t i : ℕ) : Type 0 where
   pub setting : Setting table offsets recording g
   pub more : t < g .last
-  pub layers : LayersUpTo table recording scratch (g .row) t
+  pub layers : LayersUpTo (monitorBy g table) recording scratch (g .row) t
   pub cursor : Cursor recording i (t + 1)
 
 -- the pass as it then ends
-abbrev pub emptiedAt : (table recording : List ℕ) → (cost t : ℕ) → Outcome
-emptiedAt table recording cost t =
-    Emptied cost (t + 1) (pairsAt (monitorAt table) (packetsAt recording) NotYet (t + 1)) (pairsAt (monitorAt table) (packetsAt recording) NoMore (t + 1))
+abbrev pub emptiedAt : Monitor → (recording : List ℕ) → (cost t : ℕ) → Outcome
+emptiedAt m recording cost t =
+    Emptied cost (t + 1) (pairsAt m (packetsAt recording) NotYet (t + 1)) (pairsAt m (packetsAt recording) NoMore (t + 1))
 
 -- what the pass starts from
 pub record Forwarding (table offsets recording scratch : List ℕ) (g : Measures) : Type 0 where
@@ -55,14 +55,14 @@ pub record Forwarding (table offsets recording scratch : List ℕ) (g : Measures
   pub empty : (k : ℕ) → mem scratch k ≡ false
 
 -- what it ends with, where a situation is left after the last instant
-pub record Through (table recording scratch : List ℕ) (budget row last cost : ℕ) : Type 0 where
-  pub accepted : verdict (monitorAt table) (packetsAt recording) budget ≡ Accepted cost (length (preferred (monitorAt table) (packetsAt recording)))
-  pub layers : LayersUpTo table recording scratch row last
-  pub left : 0 < count (possibleAfter (monitorAt table) (packetsAt recording) last)
+pub record Through (m : Monitor) (recording scratch : List ℕ) (budget row last cost : ℕ) : Type 0 where
+  pub accepted : verdict m (packetsAt recording) budget ≡ Accepted cost (length (preferred m (packetsAt recording)))
+  pub layers : LayersUpTo m recording scratch row last
+  pub left : 0 < count (possibleAfter m (packetsAt recording) last)
 
 -- .. and in any case
-abbrev pub Ended : (table recording scratch : List ℕ) → (budget row last : ℕ) → Outcome → Type 0
-Ended table recording scratch budget row last (Passed cost) = Through table recording scratch budget row last cost
-Ended table recording scratch budget row last (Emptied cost instant early late) =
-    verdict (monitorAt table) (packetsAt recording) budget ≡ Rejected cost instant early late
-Ended table recording scratch budget row last (Spent instant) = verdict (monitorAt table) (packetsAt recording) budget ≡ Exhausted budget instant
+abbrev pub Ended : Monitor → (recording scratch : List ℕ) → (budget row last : ℕ) → Outcome → Type 0
+Ended m recording scratch budget row last (Passed cost) = Through m recording scratch budget row last cost
+Ended m recording scratch budget row last (Emptied cost instant early late) =
+    verdict m (packetsAt recording) budget ≡ Rejected cost instant early late
+Ended m recording scratch budget row last (Spent instant) = verdict m (packetsAt recording) budget ≡ Exhausted budget instant

@@ -1,5 +1,5 @@
--- What is measured of a table's parts and a recording, for any parts and bytes.
-use Prim.Native.Nat.{ℕ, _+_, _<_, min}
+-- What is measured of a table's parts, a rule and a recording, for any parts, numbers and bytes.
+use Prim.Native.Nat.{ℕ, _+_, _*_, _<_, min}
 use mathlib.Core.Path.{_≡_}
 use mathlib.Core.List.{List}
 use Rattle.model.specs.Limits.{sizeLimit}
@@ -7,14 +7,17 @@ use Rattle.model.specs.Size
 use Rattle.model.specs.Table.{monitorOf}
 use Rattle.model.specs.Recording.{packetsAt, endOf}
 use Rattle.model.specs.Situation.{firstBy}
+use Rattle.model.specs.Rule.{masks}
+use Rattle.model.specs.declared.Rule.{Rule}
 use Rattle.model.specs.declared.TableParts.{TableParts}
+use Rattle.rule.specs.Within.{within}
 use Rattle.situation.specs.Numbering.{shapeOf, numberBy}
 use Rattle.situation.specs.Steps.{cappedBy}
 use Rattle.engine.specs.declared.measures.Measures.{Measures}
 
-pub record Measured (parts : TableParts) (recording : List ℕ) (g : Measures) : Type 0 where
-  pub shape : g .shape ≡ shapeOf parts
-  pub size : g .size ≡ min (Size.size (monitorOf parts)) (sizeLimit + 1)
+pub record Measured (parts : TableParts) (rule : Rule) (recording : List ℕ) (g : Measures) : Type 0 where
+  pub shape : g .shape ≡ shapeOf parts rule
+  pub size : g .size ≡ min (Size.tableSize (monitorOf parts)) (sizeLimit + 1) * masks (within rule)
   pub row : g .row ≡ Size.setBytes (g .size)
   pub last : g .last ≡ endOf (packetsAt recording)
   pub first : g .first ≡ numberBy (g .shape) (firstBy (cappedBy (g .shape)))

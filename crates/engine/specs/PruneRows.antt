@@ -8,7 +8,7 @@ use mathlib.Core.Option.{Option}
 use lib.ListN.{length, getD}
 use lib.Dec.{ltb}
 use Rattle.model.specs.Size
-use Rattle.model.specs.Table.{monitorAt}
+use Rattle.model.specs.Monitor.{Monitor}
 use Rattle.model.specs.Recording.{packetsAt}
 use Rattle.model.specs.Situation.{moveLimit, stepNumber}
 use Rattle.model.specs.Validation.{possibleAfter}
@@ -37,17 +37,16 @@ pub record RowCut (step : ℕ → ℕ → Option ℕ) (from to size n : ℕ) (be
   pub here : (z : ℕ) → z < n → mem after (from + z) ≡ stays step before from to size z
 
 -- the row that starts at a bit holds the situations that are possible after instant t and from which the end can be reached, with left instants to go
-abbrev pub PrunedAt : (table recording scratch : List ℕ) → (start size left t : ℕ) → Type 0
-PrunedAt table recording scratch start size left t =
-    let m = monitorAt table in
+abbrev pub PrunedAt : Monitor → (recording scratch : List ℕ) → (start size left t : ℕ) → Type 0
+PrunedAt m recording scratch start size left t =
     let packets = packetsAt recording in
     (z : ℕ) → z < size
     → mem scratch (start + z)
     ≡ (getD (possibleAfter m packets t) z false && getD (alive (Size.size m) moveLimit (stepNumber m packets) left t) z false)
 
 -- the row of instant t, where the end is the instant last
-abbrev pub PrunedRow : (table recording scratch : List ℕ) → (row size last t : ℕ) → Type 0
-PrunedRow table recording scratch row size last t = PrunedAt table recording scratch (8 * row * t) size (last - t) t
+abbrev pub PrunedRow : Monitor → (recording scratch : List ℕ) → (row size last t : ℕ) → Type 0
+PrunedRow m recording scratch row size last t = PrunedAt m recording scratch (8 * row * t) size (last - t) t
 
-abbrev pub PrunedRows : (table recording scratch : List ℕ) → (row size last : ℕ) → Type 0
-PrunedRows table recording scratch row size last = (t : ℕ) → t ≤ last → PrunedRow table recording scratch row size last t
+abbrev pub PrunedRows : Monitor → (recording scratch : List ℕ) → (row size last : ℕ) → Type 0
+PrunedRows m recording scratch row size last = (t : ℕ) → t ≤ last → PrunedRow m recording scratch row size last t

@@ -7,7 +7,7 @@ use mathlib.Core.Option.{some}
 use lib.ListN.{length, getD, getElem?}
 use Rattle.model.specs.Size
 use Rattle.model.specs.Bytes.{byteAt}
-use Rattle.model.specs.Monitor.{Transition}
+use Rattle.model.specs.Monitor.{Monitor, Transition}
 use Rattle.model.specs.Table.{monitorAt}
 use Rattle.model.specs.Recording.{packetsAt}
 use Rattle.model.specs.Situation.{moveLimit, stepNumber}
@@ -17,7 +17,7 @@ use Rattle.model.specs.Layers.{alive, leastFrom}
 use Rattle.wire.specs.Placed.{placed}
 use Rattle.situation.specs.Rows.{Cursor}
 use Rattle.engine.specs.declared.measures.Measures.{Measures}
-use Rattle.engine.specs.Setting.{Setting}
+use Rattle.engine.specs.Setting.{monitorBy, Setting}
 use Rattle.engine.specs.PruneRows.{PrunedRows}
 
 -- a transition's offset finds its trigger
@@ -28,7 +28,7 @@ pub record Triggers (table offsets : List ℕ) : Type 0 where
 pub record Ground (table offsets recording scratch : List ℕ) (g : Measures) : Type 0 where
   pub setting : Setting table offsets recording g
   pub triggers : Triggers table offsets
-  pub pruned : PrunedRows table recording scratch (g .row) (g .size) (g .last)
+  pub pruned : PrunedRows (monitorBy g table) recording scratch (g .row) (g .size) (g .last)
 
 -- rows stand in the room, which begins with row 0, from row r on, and next is the number of the row behind them
 pub record RowsPut (rows : List Row) (r next : ℕ) (before after : List ℕ) : Type 0 where
@@ -40,21 +40,20 @@ abbrev pub Room : (rows : List Row) → (r : ℕ) → List ℕ → Type 0
 Room rows r room = 5 * (r + length rows) ≤ length room
 
 -- the walk stands after instant t at number n, from which the end, last, can be reached, and j rows are recorded up to t
-pub record Stands (table recording : List ℕ) (last t n j : ℕ) : Type 0 where
-  pub here : getD (possibleAfter (monitorAt table) (packetsAt recording) t) n false ≡ true
-  pub alive : getD (alive (Size.size (monitorAt table)) moveLimit (stepNumber (monitorAt table) (packetsAt recording)) (last - t) t) n false ≡ true
+pub record Stands (m : Monitor) (recording : List ℕ) (last t n j : ℕ) : Type 0 where
+  pub here : getD (possibleAfter m (packetsAt recording) t) n false ≡ true
+  pub alive : getD (alive (Size.size m) moveLimit (stepNumber m (packetsAt recording)) (last - t) t) n false ≡ true
   pub cursor : Cursor recording j (t + 1)
 
 -- the rows of the least moves from number n after instant t
-abbrev pub rowsAfter : (table recording : List ℕ) → (last t n : ℕ) → List Row
-rowsAfter table recording last t n =
-    let m = monitorAt table in
+abbrev pub rowsAfter : Monitor → (recording : List ℕ) → (last t n : ℕ) → List Row
+rowsAfter m recording last t n =
     let packets = packetsAt recording in
     rowsOf m packets (t + 1) (leastFrom (Size.size m) moveLimit (stepNumber m packets) (last - t) t n)
 
 -- the walk went on from number n after instant t to number x, and wrote the rows of its move behind row r
-pub record WalkedOn (table recording : List ℕ) (last t n r x j next : ℕ) (before after : List ℕ) : Type 0 where
+pub record WalkedOn (m : Monitor) (recording : List ℕ) (last t n r x j next : ℕ) (before after : List ℕ) : Type 0 where
   pub rows : List Row
-  pub stands : Stands table recording last (t + 1) x j
+  pub stands : Stands m recording last (t + 1) x j
   pub wrote : RowsPut rows r next before after
-  pub split : rowsAfter table recording last t n ≡ rows ++ rowsAfter table recording last (t + 1) x
+  pub split : rowsAfter m recording last t n ≡ rows ++ rowsAfter m recording last (t + 1) x

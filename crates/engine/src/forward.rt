@@ -9,6 +9,7 @@ use situation::rows::heard_at;
 use situation::rows::passed;
 ghost use mathlib.Core.Path.{_≡_};
 ghost use lib.ListN.{length};
+ghost use Rattle.engine.specs.Setting.{monitorBy};
 ghost use Rattle.engine.specs.Forwarding.{Turn, Turned, Emptying, emptiedAt, Forwarding, Ended};
 
 // How the pass ends: a situation is left after the last instant, none is after some instant, or the budget is passed.
@@ -38,7 +39,7 @@ fn instant<'a>(
     i: usize,
 ) -> u64
     requires { ⌜ Turn (now table) (now offsets) (now recording) (now scratch) g t i ⌝ }
-    ensures { λ r. ⌜ Turned (now (table .entry)) (now (recording .entry)) (now (scratch .entry)) (now (scratch .exit)) (g .row) t i r ⌝ }
+    ensures { λ r. ⌜ Turned (monitorBy g (now (table .entry))) (now (recording .entry)) (now (scratch .entry)) (now (scratch .exit)) (g .row) t i r ⌝ }
 {
     let h = g.shape;
     let heard = heard_at(recording, i, t as u64 + 1);
@@ -64,7 +65,7 @@ fn emptied<'a>(
     i: usize,
 ) -> Outcome
     requires { ⌜ Emptying (now table) (now offsets) (now recording) (now scratch) g t i ⌝ }
-    ensures { λ r. ⌜ r ≡ emptiedAt (now (table .entry)) (now (recording .entry)) cost t ⌝ }
+    ensures { λ r. ⌜ r ≡ emptiedAt (monitorBy g (now (table .entry))) (now (recording .entry)) cost t ⌝ }
 {
     let h = g.shape;
     let next = t as u64 + 1;
@@ -92,7 +93,7 @@ pub(crate) fn forward<'a>(
     scratch: &mut [u8],
 ) -> Outcome
     requires { ⌜ Forwarding (now table) (now offsets) (now recording) (now scratch) g ⌝ }
-    ensures { λ r. ⌜ (length (now (scratch .exit)) ≡ length (now (scratch .entry))) × Ended (now (table .entry)) (now (recording .entry)) (now (scratch .exit)) budget (g .row) (g .last) r ⌝ }
+    ensures { λ r. ⌜ (length (now (scratch .exit)) ≡ length (now (scratch .entry))) × Ended (monitorBy g (now (table .entry))) (now (recording .entry)) (now (scratch .exit)) budget (g .row) (g .last) r ⌝ }
 {
     put(scratch, g.first as usize);
     let mut cost: u64 = 0;

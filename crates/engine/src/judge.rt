@@ -8,6 +8,7 @@ use bits::clear;
 use model::Edition;
 use model::Verdict;
 use monitor::offsets;
+ghost use Rattle.engine.specs.Setting.{monitorBy};
 ghost use Rattle.engine.specs.Judging.{Judging, Ending, Concluded, Settled};
 
 // What a forward pass comes to. Where it passed, the rows are pruned and the witness is written.
@@ -23,7 +24,7 @@ fn conclude<'a>(
     outcome: Outcome,
 ) -> Verdict
     requires { ⌜ Ending edition (now table) (now offsets) (now recording) (now scratch) (now room) g budget outcome ⌝ }
-    ensures { λ r. ⌜ Concluded edition (now (table .entry)) (now (recording .entry)) budget (now (scratch .entry)) (now (room .entry)) (now (scratch .exit)) (now (room .exit)) r ⌝ }
+    ensures { λ r. ⌜ Concluded edition (monitorBy g (now (table .entry))) (now (recording .entry)) budget (now (scratch .entry)) (now (room .entry)) (now (scratch .exit)) (now (room .exit)) r ⌝ }
 {
     match outcome {
         Outcome::Spent { instant } => Verdict::Exhausted { budget, instant },
@@ -59,7 +60,7 @@ pub(crate) fn judge<'a>(
     room: &mut [u8],
 ) -> Verdict
     requires { ⌜ Judging edition (now table) (now recording) (now scratch) (now room) g ⌝ }
-    ensures { λ r. ⌜ Settled edition (now (table .entry)) (now (recording .entry)) budget (now (scratch .entry)) (now (room .entry)) (now (scratch .exit)) (now (room .exit)) r ⌝ }
+    ensures { λ r. ⌜ Settled edition (monitorBy g (now (table .entry))) (now (recording .entry)) budget (now (scratch .entry)) (now (room .entry)) (now (scratch .exit)) (now (room .exit)) r ⌝ }
 {
     clear(scratch); // whatever it held
     let found = offsets(table);

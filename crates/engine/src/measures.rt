@@ -1,7 +1,9 @@
 // What a validation measures of a table and a recording before it starts.
 use guard::size::table_size;
+use model::Rule;
 use model::Situation;
 use model::TableParts;
+use rule::masks;
 use situation::Shape;
 use situation::numbering::number;
 use situation::numbering::shape_of;
@@ -52,15 +54,16 @@ fn first_number(h: Shape) -> u64
             variables: 0,
             clocks,
             air: 0,
+            window: 0,
         },
     )
 }
 
-pub(crate) fn measure(parts: TableParts, recording: &[u8]) -> Measures
-    ensures { λ r. ⌜ Measured parts (now (recording .entry)) r ⌝ }
+pub(crate) fn measure(parts: TableParts, rule: Rule, recording: &[u8]) -> Measures
+    ensures { λ r. ⌜ Measured parts rule (now (recording .entry)) r ⌝ }
 {
-    let shape = shape_of(parts);
-    let size = table_size(parts) as usize;
+    let shape = shape_of(parts, rule);
+    let size = table_size(parts) as usize * masks(rule) as usize;
     Measures {
         shape,
         size,

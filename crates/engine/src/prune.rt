@@ -14,7 +14,7 @@ ghost use mathlib.Core.Path.{_≡_};
 ghost use lib.ListN.{length};
 ghost use Rattle.situation.specs.Rows.{heardAt, heardOf};
 ghost use Rattle.layers.specs.Advance.{stepAt};
-ghost use Rattle.engine.specs.Setting.{Setting, LayersUpTo};
+ghost use Rattle.engine.specs.Setting.{monitorBy, Setting, LayersUpTo};
 ghost use Rattle.engine.specs.PruneRows.{cursorBefore, CutIn, RowCut, PrunedRows};
 
 // The cursor of instant t, from that of the next instant.
@@ -106,8 +106,8 @@ pub(crate) fn prune<'a>(
     g: Measures,
     scratch: &mut [u8],
 )
-    requires { ⌜ Setting (now table) (now offsets) (now recording) g × LayersUpTo (now table) (now recording) (now scratch) (g .row) (g .last) ⌝ }
-    ensures { λ r. ⌜ (length (now (scratch .exit)) ≡ length (now (scratch .entry))) × PrunedRows (now (table .entry)) (now (recording .entry)) (now (scratch .exit)) (g .row) (g .size) (g .last) ⌝ }
+    requires { ⌜ Setting (now table) (now offsets) (now recording) g × LayersUpTo (monitorBy g (now table)) (now recording) (now scratch) (g .row) (g .last) ⌝ }
+    ensures { λ r. ⌜ (length (now (scratch .exit)) ≡ length (now (scratch .entry))) × PrunedRows (monitorBy g (now (table .entry))) (now (recording .entry)) (now (scratch .exit)) (g .row) (g .size) (g .last) ⌝ }
 {
     let mut cursor = word(recording, 3) as usize;
     let mut t = g.last;

@@ -39,6 +39,7 @@ ghost use Rattle.model.specs.Witness.{added, rowsBytes, witnessBytes};
 ghost use Rattle.witness.specs.Rows.{rowOf};
 ghost use Rattle.situation.specs.Rows.{heardOf};
 ghost use Rattle.layers.specs.Advance.{stepAt, leastInto};
+ghost use Rattle.engine.specs.Setting.{monitorBy};
 ghost use Rattle.engine.specs.WalkRows.{Triggers, Ground, RowsPut, Room, Stands, rowsAfter, WalkedOn};
 
 // A least move, and the number that it leads to.
@@ -163,8 +164,8 @@ fn walk_on<'a>(
     t: usize,
     at: Place,
 ) -> Place
-    requires { ⌜ Ground (now table) (now offsets) (now recording) (now scratch) g × (t < g .last) × Stands (now table) (now recording) (g .last) t (at .number) (at .cursor) × Room (rowsAfter (now table) (now recording) (g .last) t (at .number)) (at .rows) (now room) ⌝ }
-    ensures { λ r. ⌜ WalkedOn (now (table .entry)) (now (recording .entry)) (g .last) t (at .number) (at .rows) (r .number) (r .cursor) (r .rows) (now (room .entry)) (now (room .exit)) ⌝ }
+    requires { ⌜ Ground (now table) (now offsets) (now recording) (now scratch) g × (t < g .last) × Stands (monitorBy g (now table)) (now recording) (g .last) t (at .number) (at .cursor) × Room (rowsAfter (monitorBy g (now table)) (now recording) (g .last) t (at .number)) (at .rows) (now room) ⌝ }
+    ensures { λ r. ⌜ WalkedOn (monitorBy g (now (table .entry))) (now (recording .entry)) (g .last) t (at .number) (at .rows) (r .number) (r .cursor) (r .rows) (now (room .entry)) (now (room .exit)) ⌝ }
 {
     let instant = t as u64 + 1;
     let heard = heard_at(recording, at.cursor, instant);
@@ -201,8 +202,8 @@ fn walk_rows<'a>(
     scratch: &'a [u8],
     room: &mut [u8],
 ) -> usize
-    requires { ⌜ Ground (now table) (now offsets) (now recording) (now scratch) g × (0 < count (possibleAfter (monitorAt (now table)) (packetsAt (now recording)) (g .last))) × (5 * (g .last + length (packetsAt (now recording))) ≤ length (now room)) ⌝ }
-    ensures { λ r. ⌜ (r ≡ length (preferred (monitorAt (now (table .entry))) (packetsAt (now (recording .entry))))) × (now (room .exit) ≡ over (rowsBytes (preferred (monitorAt (now (table .entry))) (packetsAt (now (recording .entry))))) (now (room .entry))) × (r ≤ g .last) ⌝ }
+    requires { ⌜ Ground (now table) (now offsets) (now recording) (now scratch) g × (0 < count (possibleAfter (monitorBy g (now table)) (packetsAt (now recording)) (g .last))) × (5 * (g .last + length (packetsAt (now recording))) ≤ length (now room)) ⌝ }
+    ensures { λ r. ⌜ (r ≡ length (preferred (monitorBy g (now (table .entry))) (packetsAt (now (recording .entry))))) × (now (room .exit) ≡ over (rowsBytes (preferred (monitorBy g (now (table .entry))) (packetsAt (now (recording .entry))))) (now (room .entry))) × (r ≤ g .last) ⌝ }
 {
     let mut at = Place {
         number: g.first,
@@ -227,8 +228,8 @@ pub(crate) fn walk<'a>(
     scratch: &'a [u8],
     room: &mut [u8],
 ) -> usize
-    requires { ⌜ Ground (now table) (now offsets) (now recording) (now scratch) g × (0 < count (possibleAfter (monitorAt (now table)) (packetsAt (now recording)) (g .last))) × (rowsPlace edition + 5 * (g .last + length (packetsAt (now recording))) ≤ length (now room)) ⌝ }
-    ensures { λ r. ⌜ (r ≡ length (preferred (monitorAt (now (table .entry))) (packetsAt (now (recording .entry))))) × (now (room .exit) ≡ over (witnessBytes edition (preferred (monitorAt (now (table .entry))) (packetsAt (now (recording .entry))))) (now (room .entry))) ⌝ }
+    requires { ⌜ Ground (now table) (now offsets) (now recording) (now scratch) g × (0 < count (possibleAfter (monitorBy g (now table)) (packetsAt (now recording)) (g .last))) × (rowsPlace edition + 5 * (g .last + length (packetsAt (now recording))) ≤ length (now room)) ⌝ }
+    ensures { λ r. ⌜ (r ≡ length (preferred (monitorBy g (now (table .entry))) (packetsAt (now (recording .entry))))) × (now (room .exit) ≡ over (witnessBytes edition (preferred (monitorBy g (now (table .entry))) (packetsAt (now (recording .entry))))) (now (room .entry))) ⌝ }
 {
     let head = rows_place(edition);
     let rows = walk_rows(table, offsets, recording, g, scratch, &mut room[head..]);

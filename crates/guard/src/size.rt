@@ -8,7 +8,7 @@ use wire::byte;
 ghost use mathlib.Core.Path.{_≡_};
 ghost use Prim.Native.Nat.{_+_, _*_, _^_, _≤_, min};
 ghost use Rattle.model.specs.Limits.{sizeLimit};
-ghost use Rattle.model.specs.Size.{largestBound, largestAirtime, cap, size};
+ghost use Rattle.model.specs.Size.{largestBound, largestAirtime, cap, tableSize};
 ghost use Rattle.model.specs.Table.{monitorOf};
 
 // N above the limit is answered as one above it.
@@ -79,7 +79,7 @@ fn power(n: u8) -> u64
 
 // N, the number of situations, and one above the limit for all that are more.
 pub fn table_size(t: TableParts) -> u64
-    ensures { λ r. ⌜ r ≡ min (size (monitorOf t)) (sizeLimit + 1) ⌝ }
+    ensures { λ r. ⌜ r ≡ min (tableSize (monitorOf t)) (sizeLimit + 1) ⌝ }
 {
     let clocks = times(
         clock_values(t, 0),

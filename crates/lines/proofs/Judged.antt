@@ -5,31 +5,28 @@ use mathlib.Core.Path.{_≡_, refl, sym, ap, subst, _∙_}
 use mathlib.Core.List.{List, [], _∷_, _++_, List·Memᴰ, List·Memᴰ·head, List·Memᴰ·tail}
 use mathlib.Core.Option.{none, some}
 use lib.ListN.{length, take, drop, getElem?, List·getD-append, length-append}
-use lib.Dec.{leb}
 use borrow.Author.Tests.{lt-ltb, le-ltb, le-leb, lt-leb}
 use Rattle.model.specs.Edition.{mostRows, latestTime}
 use Rattle.model.specs.Bytes.{tab}
 use Rattle.model.specs.Numbers.{refusalValues}
-use Rattle.model.specs.First.{unless}
 use Rattle.model.specs.Room.{over}
 use Rattle.model.specs.Table.{monitorAt}
 use Rattle.model.specs.Recording.{packetsAt, recordingAnswer, SoundRecording, endOf}
 use Rattle.model.specs.Witness.{Row, rowAt, rowsAt, witnessCountAt, witnessBytes}
 use Rattle.model.specs.Order.{Preferred}
 use Rattle.model.specs.Claims.{Judged}
-use Rattle.model.specs.Validation.{preferred, verdict, refusal, validation, roomBy, scratchAfter, roomAfter, scratchWanted, roomWanted}
+use Rattle.model.specs.Validation.{preferred, verdict, validationOf, refusal, validation, roomBy, roomLeft, scratchAfter, roomAfter}
 use Rattle.model.specs.Desk.{filesIn, tableLength, tableIn, recordingIn, budgetIn, line, acceptedWord, exhaustedWord, refusedWord, rowLines, verdictLines, judgedLines, linesFor, scratchFor, roomFor}
 use Rattle.model.specs.declared.Edition.the-variants.{One}
 use Rattle.model.specs.declared.Reading.{Reading}
 use Rattle.model.specs.declared.Reading.the-variants.{Sound, Unsound}
-use Rattle.model.specs.declared.Refusal.the-variants.{Scratch, WitnessRoom}
 use Rattle.model.specs.declared.Verdict.{Verdict}
 use Rattle.model.specs.declared.Verdict.the-variants.{Accepted, Rejected, Exhausted, Refused}
 use Rattle.model.proofs.Basics.{length-tab}
-use Rattle.model.proofs.Tests.{test, le-test}
 use Rattle.model.proofs.Places.{tab-same}
 use Rattle.model.proofs.WitnessForm.{witness-back, witness-length}
 use Rattle.model.proofs.Judgement.{sound-judged}
+use Rattle.model.proofs.LongRecordings.{unrefused}
 use Rattle.lines.specs.Written.{Wrote, rowsStanding, FewRows, FilesJudged, Lines}
 use Rattle.lines.proofs.Stores.{wrote-front}
 use Rattle.lines.proofs.Digits.{line-length, rejected-length}
@@ -128,27 +125,21 @@ module _ (table recording : List ℕ) (sound : SoundRecording table recording) (
 
 pub validation-holds : (table recording : List ℕ) (budget scratchLength roomLength : ℕ)
     → Holds (validation One table recording budget scratchLength roomLength) (preferred (monitorAt table) (packetsAt recording))
-unfolding validation refusal
+unfolding validationOf
 validation-holds table recording budget scratchLength roomLength = by (refusal One table recording scratchLength roomLength) refl
   where
     by : (x : Reading) → refusal One table recording scratchLength roomLength ≡ x
         → Holds (elim x [ Sound ↦ verdict (monitorAt table) (packetsAt recording) budget | Unsound r ↦ Refused r ]) (preferred (monitorAt table) (packetsAt recording))
     by Sound e =
-        let tests : List Reading =
-        recordingAnswer table recording
-        ∷ unless (leb (scratchWanted table recording) scratchLength) (Scratch (scratchWanted table recording))
-        ∷ unless (leb (endOf (packetsAt recording)) (latestTime One)) (WitnessRoom 0)
-        ∷ unless (leb (roomWanted One recording) roomLength) (WitnessRoom (roomWanted One recording))
-        ∷ []
-        in
-        verdict-holds table recording (test tests e 0) (le-test _ _ (WitnessRoom 0) (test tests e 2)) budget
+        let (sound, early) = unrefused (recordingAnswer table recording) One (monitorAt table) (packetsAt recording) scratchLength roomLength e in
+        verdict-holds table recording sound early budget
     by (Unsound r) e = tt
 
 -- the lines of a validation, with its rows read back from the room that it left
 pub judged-back : (table recording : List ℕ) (budget : ℕ) (scratch room : List ℕ) →
     let v : Verdict = validation One table recording budget (length scratch) (length room) in
     verdictLines v (rowsStanding v (roomAfter One table recording budget scratch room)) ≡ judgedLines (length scratch) (length room) table recording budget
-unfolding judgedLines roomAfter
+unfolding judgedLines roomLeft
 judged-back table recording budget scratch room =
     lines-back (validation One table recording budget (length scratch) (length room)) (preferred (monitorAt table) (packetsAt recording)) room
     (validation-holds table recording budget (length scratch) (length room))

@@ -12,7 +12,8 @@ use lib.Dec.{eqb}
 use borrow.Author.Tests.{lt-ltb, eq-eqb}
 use Rattle.model.specs.Guard.{Guard, always, atMost, atLeast, variable, negation, conjunction, holds, largest}
 use Rattle.model.specs.Readiness.{waited, readiness}
-use Rattle.model.specs.Monitor.{Monitor, Config, Transition, fires, after, enabled, reset, toUnit, airtime}
+use Rattle.model.specs.Rule.{windowBehind, allows}
+use Rattle.model.specs.Monitor.{Monitor, Config, Transition, fires, after, enabled, reset, toUnit, airtime, isGuess, withinRule}
 use Rattle.model.specs.Size.{largestIn, largestBound, cap, size}
 use Rattle.model.specs.Situation.{TwoClocks, InRange, Move, keep, rest, add, configOf, withAir, capped, uncapped, firstBy, firstNumber, onAir, sent, missed, triggerOf, moved, tick, stepBy, recordedAt, moveOf, moveLimit, number, stepNumber}
 use Rattle.model.specs.Trace.{Packet}
@@ -25,7 +26,7 @@ use Rattle.model.proofs.Numbering.{outcome, sending, number-below, back
 
 -- a situation with its clocks as they are written
 abbrev pub written : Monitor → Situation → Situation
-written m s = record { state = s .state; variables = s .variables; clocks = capped m (s .clocks); air = s .air }
+written m s = record { state = s .state; variables = s .variables; clocks = capped m (s .clocks); air = s .air; window = s .window }
 
 -- guards
 
@@ -120,36 +121,52 @@ module _ (m : Monitor) where
   alike-bind (some x) f g h = h x
 
 module _ {m : Monitor} (sane : Sane m) (s : Situation) (two : TwoClocks (s .clocks)) where
-  alike-fired : (j k : ℕ) (t : Transition) → getElem? (m .transitions) j ≡ some t → Alike m (Option·map (sending m k) (outcome m k (configOf (written m s)) t)) (Option·map (sending m k) (outcome m k (configOf s) t))
-  alike-fired j k t e =
+  -- two outcomes of a transition that are written alike after the tick, whatever the window is then
+  abbrev AlikeSent : (k window : ℕ) → (o r : Option Config) → Type 0
+  AlikeSent k window o r = Alike m (Option·map (sending m k window) o) (Option·map (sending m k window) r)
+
+  alike-fired : (window j k : ℕ) (t : Transition) → getElem? (m .transitions) j ≡ some t → AlikeSent k window (outcome m k (configOf (written m s)) t) (outcome m k (configOf s) t)
+  alike-fired window j k t e =
       rw (same-guard m (sane .clocks) (t .guard) (s .variables) (s .clocks) (sane .transition j t e .closed) (largest-listed (m .transitions) j t e)) (on (enabled t k (configOf s)))
     where
-      on : (fits : Bool) → Alike m (Option·map (sending m k) (cond fits (some (after m t (configOf (written m s)))) none)) (Option·map (sending m k) (cond fits (some (after m t (configOf s))) none))
+      on : (fits : Bool) → AlikeSent k window (cond fits (some (after m t (configOf (written m s)))) none) (cond fits (some (after m t (configOf s))) none)
       on true =
-          let u : Situation = tick uncapped (sending m k (after m t (configOf s))) in
-          ap {B = Option Situation} (λ (c : List ℕ). some (record { state = u .state; variables = u .variables; clocks = c; air = u .air })) (reset-ticked m (t .resets) (s .clocks) two)
+          let u : Situation = tick uncapped (sending m k window (after m t (configOf s))) in
+          ap {B = Option Situation} (λ (c : List ℕ). some (record { state = u .state; variables = u .variables; clocks = c; air = u .air; window = u .window })) (reset-ticked m (t .resets) (s .clocks) two)
       on false = refl
 
-  alike-air : (k : ℕ) (o r : Option Config) → Alike m (Option·map (sending m k) o) (Option·map (sending m k) r) → Alike m (onAir m k (written m s) o) (onAir m k s r)
-  alike-air k o r = alike-cond m (eqb (s .air) 0) (Option·map (sending m k) o) (Option·map (sending m k) r)
+  alike-air : (k window : ℕ) (o r : Option Config) → AlikeSent k window o r → Alike m (onAir m k (written m s) window o) (onAir m k s window r)
+  alike-air k window o r = alike-cond m (eqb (s .air) 0) (Option·map (sending m k window) o) (Option·map (sending m k window) r)
 
-  alike-sent : (j k : ℕ) → Alike m (sent m j k (written m s)) (sent m j k s)
-  unfolding sent fires bind
-  alike-sent j k = alike-air k (fires m j k (configOf (written m s))) (fires m j k (configOf s)) (on (getElem? (m .transitions) j) (alike-fired j k))
+  alike-sent : (guess : Bool) (j k : ℕ) → Alike m (sent m guess j k (written m s)) (sent m guess j k s)
+  unfolding sent withinRule fires bind
+  alike-sent guess j k =
+      alike-air k window (withinRule m (s .window) guess (fires m j k (configOf (written m s)))) (withinRule m (s .window) guess (fires m j k (configOf s)))
+      (within (allows (m .rule) (s .window) guess) (fires m j k (configOf (written m s))) (fires m j k (configOf s)) (on (getElem? (m .transitions) j) (alike-fired window j k)))
     where
-      on : (o : Option Transition) → ((t : Transition) → o ≡ some t → Alike m (Option·map (sending m k) (outcome m k (configOf (written m s)) t)) (Option·map (sending m k) (outcome m k (configOf s) t))) → Alike m (Option·map (sending m k) (bind o (outcome m k (configOf (written m s))))) (Option·map (sending m k) (bind o (outcome m k (configOf s))))
+      window : ℕ
+      window = windowBehind (m .rule) (s .window) guess
+
+      on : (o : Option Transition) → ((t : Transition) → o ≡ some t → AlikeSent k window (outcome m k (configOf (written m s)) t) (outcome m k (configOf s) t))
+          → AlikeSent k window (bind o (outcome m k (configOf (written m s)))) (bind o (outcome m k (configOf s)))
       on none h = refl
       on (some t) h = h t refl
 
+      within : (allowed : Bool) (o r : Option Config) → AlikeSent k window o r → AlikeSent k window (cond allowed o none) (cond allowed r none)
+      within true o r h = h
+      within false o r h = refl
+
   -- the tick alone, whatever it leaves of the air
-  alike-rest : (air : ℕ) → Alike m (some (withAir (configOf (written m s)) air)) (some (withAir (configOf s) air))
-  alike-rest air = ap {B = Option Situation} (λ (c : List ℕ). some (record { state = s .state; variables = s .variables; clocks = c; air = air - 1 })) (ticked m (s .clocks) two)
+  alike-rest : (air : ℕ) → Alike m (some (withAir (configOf (written m s)) air (s .window))) (some (withAir (configOf s) air (s .window)))
+  alike-rest air =
+      ap {B = Option Situation} (λ (c : List ℕ). some (record { state = s .state; variables = s .variables; clocks = c; air = air - 1; window = s .window }))
+      (ticked m (s .clocks) two)
 
   alike-missed : (k : ℕ) → Alike m (missed m k (written m s)) (missed m k s)
   unfolding missed
-  alike-missed k = alike-air k (cond (toUnit m k) (some (configOf (written m s))) none) (cond (toUnit m k) (some (configOf s)) none) (on (toUnit m k))
+  alike-missed k = alike-air k (s .window) (cond (toUnit m k) (some (configOf (written m s))) none) (cond (toUnit m k) (some (configOf s)) none) (on (toUnit m k))
     where
-      on : (b : Bool) → Alike m (Option·map (sending m k) (cond b (some (configOf (written m s))) none)) (Option·map (sending m k) (cond b (some (configOf s)) none))
+      on : (b : Bool) → AlikeSent k (s .window) (cond b (some (configOf (written m s))) none) (cond b (some (configOf s)) none)
       on true = alike-rest (airtime m k + 1)
       on false = refl
 
@@ -157,8 +174,8 @@ module _ {m : Monitor} (sane : Sane m) (s : Situation) (two : TwoClocks (s .cloc
   unfolding moved
   alike-moved none (keep j) = refl
   alike-moved none rest = alike-rest (s .air)
-  alike-moved none (add j) = alike-bind m (triggerOf m j) (λ k. sent m j k (written m s)) (λ k. sent m j k s) (λ k. alike-sent j k)
-  alike-moved (some r) (keep j) = alike-sent j r
+  alike-moved none (add j) = alike-bind m (triggerOf m j) (λ k. sent m (isGuess m k) j k (written m s)) (λ k. sent m (isGuess m k) j k s) (λ k. alike-sent (isGuess m k) j k)
+  alike-moved (some r) (keep j) = alike-sent false j r
   alike-moved (some r) rest = alike-missed r
   alike-moved (some r) (add j) = refl
 
@@ -171,7 +188,7 @@ module _ {m : Monitor} (sane : Sane m) (s : Situation) (two : TwoClocks (s .cloc
   step-two-clocks recorded a e =
       every-step m uncapped s (λ x. TwoClocks (x .clocks))
       waited (λ k. waited)
-      (λ j k t q. of-two (λ c. TwoClocks (map (λ x. x + 1) (reset (t .resets) c))) (λ x y. refl) (s .clocks) two)
+      (λ guess j k t q. of-two (λ c. TwoClocks (map (λ x. x + 1) (reset (t .resets) c))) (λ x y. refl) (s .clocks) two)
       recorded a e
     where
       waited : TwoClocks (map (λ x. x + 1) (s .clocks))

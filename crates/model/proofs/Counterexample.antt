@@ -12,7 +12,7 @@ use Rattle.model.specs.Rules.{sends, removes, keeps, adds, account, brok
 use Rattle.model.specs.Validation.{preferred}
 use Rattle.model.specs.declared.Edition.{Edition}
 use Rattle.model.specs.declared.Edition.the-variants.{One, Two}
-use Rattle.model.proofs.Examples.{run}
+use Rattle.model.proofs.Examples.{runOf}
 
 -- two states, two kinds to the unit. Kind 0 leads from state 0 to state 1, from where nothing leads; kind 1 stays in state 0
 pub table : List ℕ
@@ -49,7 +49,7 @@ pub record NotTheMost : Type 0 where
   pub fewer : keptRows keepsFirst < keptRows keepsMost
 
 pub not-the-most : NotTheMost
-unfolding table recording keepsFirst keepsMost keptRows run row sends removes keeps adds account broken inForm
+unfolding table recording keepsFirst keepsMost keptRows runOf row sends removes keeps adds account broken inForm
 not-the-most =
     record {
       first = refl;

@@ -8,7 +8,7 @@ use Rattle.model.specs.Numbers.{values, counts}
 use Rattle.model.specs.declared.Readiness.{Readiness}
 use Rattle.model.specs.declared.Readiness.the-variants.{Yes, NotYet, NoMore}
 use Rattle.model.specs.declared.Edition.the-variants.{One}
-use Rattle.model.proofs.Examples.{run, rejected, printed, table, two}
+use Rattle.model.proofs.Examples.{runOf, run, rejected, printed, table, two}
 
 -- a guard, variables, what the clocks read, and the answer
 pub guards : List (Guard × ℕ × List ℕ × Readiness)
@@ -54,5 +54,5 @@ pub record EarlyLate : Type 0 where
   pub late-output : printed (table ++ tooLate ++ (0 ∷ 0 ∷ 39 ∷ 16 ∷ [])) ≡ tooLateOutput
 
 pub early-late : EarlyLate
-unfolding guards tooEarly tooLate both tooLateOutput run rejected printed table
+unfolding guards tooEarly tooLate both tooLateOutput runOf rejected printed table
 early-late = record { guards-answer = refl; early = refl; late = refl; either = refl; late-output = refl }

@@ -9,20 +9,23 @@ use Rattle.model.specs.Bytes.{tab, joined, padded}
 use Rattle.model.specs.Frame.{framed, framedRows}
 use Rattle.model.specs.Guard.{holds, largest, leafAt, guardAt}
 use Rattle.model.specs.Readiness.{greatestBound, comesBy, readiness}
-use Rattle.model.specs.Monitor.{changed, reset, fires, tried}
-use Rattle.model.specs.Size.{largestIn, greatest, cap, size}
+use Rattle.model.specs.Rule.{windowBehind, setBits, allows}
+use Rattle.model.specs.Monitor.{Monitor, changed, reset, fires, withinRule, tried}
+use Rattle.model.specs.Size.{largestIn, greatest, cap, tableSize, size}
 use Rattle.model.specs.Reach.{among, targets, reachedIn, isReached, lowestMissing, statesAnswer}
 use Rattle.model.specs.Kinds.{impliedDevice, deviceAt, deviceFits, kindRecord}
 use Rattle.model.specs.Table.{guardIn, transitionIn, monitorOf, countsOf, kindRecords, apart, transitionFields, guardRecord, transitionRecord, transitionRecords, transitionAt, guardPlace, tableParts, scanWith, tableScan, wholeAnswer, answerWith, tableAnswer, monitorAt}
 use Rattle.model.specs.Recording.{clearOfBefore, recordedRow, recordedRows, recordingFrame, recordingScan, recordingAnswer, recordingParts, packetsOf, packetsAt, endOf}
+use Rattle.model.specs.Ruled.{ruleAnswer, ruledAnswer}
 use Rattle.model.specs.Situation.{capped, sent, missed, moved, stepBy, recordedAt, moveOf, number, situationOf, stepNumber}
 use Rattle.model.specs.Layers.{count, firstFrom, spread, image, layer, total, lastInstant, cost, passing, leads, live, walk, leastMoves}
 use Rattle.model.specs.Pairs.{howMany, pairs, answerIn}
 use Rattle.model.specs.Numbers.{Values, values, verdictValues, Counts, counts, verdictCounts}
 use Rattle.model.specs.Witness.{rowsBytes, witnessBytes}
-use Rattle.model.specs.Validation.{rowsBy, rowsOf, preferred, pairsAt, verdict, scratchWanted, refusal, validation, scratchBy, roomBy, scratchAfter, roomAfter, possibleAfter}
+use Rattle.model.specs.Validation.{rowsBy, rowsOf, preferred, pairsAt, verdict, scratchWanted, refusalOf, validationOf, validation, scratchBy, roomBy, scratchLeft, roomLeft, scratchAfter, roomAfter, possibleAfter}
 use Rattle.model.specs.Desk.{digits, rowLines, verdictLines, judgedLines, tableLength, linesFor, deskLines}
 use Rattle.model.specs.declared.Edition.{Edition}
+use Rattle.model.specs.declared.Reading.{Reading}
 use Rattle.model.specs.declared.Verdict.{Verdict}
 use Rattle.model.specs.declared.Edition.the-variants.{One}
 
@@ -49,17 +52,20 @@ defined edition table recording budget =
       room = roomAfter edition table recording budget dirtyScratch dirtyRoom;
     }
 
--- the same, with the verdict worked out once
-unfoldable pub run : Edition → (table recording : List ℕ) → ℕ → Run
-unfolding dirtyScratch dirtyRoom tab joined padded holds largest leafAt guardAt changed reset fires largestIn greatest cap size among targets reachedIn isReached lowestMissing statesAnswer wholeAnswer guardIn transitionIn monitorOf framed framedRows countsOf impliedDevice deviceAt deviceFits kindRecord kindRecords apart transitionFields guardRecord transitionRecord transitionRecords transitionAt guardPlace tableParts scanWith tableScan answerWith tableAnswer clearOfBefore recordedRow recordedRows recordingFrame recordingScan recordingAnswer recordingParts packetsOf endOf capped sent missed moved stepBy recordedAt moveOf number situationOf stepNumber count firstFrom spread image layer total lastInstant cost passing leads live walk leastMoves rowsBy rowsOf preferred greatestBound comesBy readiness tried howMany pairs answerIn pairsAt verdict refusal validation bind rowsBytes witnessBytes
-run edition table recording budget =
-    let v : Verdict = validation edition table recording budget (length dirtyScratch) (length dirtyRoom) in
+-- the same, with the verdict worked out once; given: the answer on table, recording and rule
+unfoldable pub runOf : Reading → Edition → Monitor → (recording : List ℕ) → ℕ → Run
+unfolding dirtyScratch dirtyRoom tab joined padded holds largest leafAt guardAt changed reset fires largestIn greatest cap tableSize size among targets reachedIn isReached lowestMissing statesAnswer wholeAnswer ruleAnswer ruledAnswer guardIn transitionIn monitorOf framed framedRows countsOf impliedDevice deviceAt deviceFits kindRecord kindRecords apart transitionFields guardRecord transitionRecord transitionRecords transitionAt guardPlace tableParts scanWith tableScan answerWith tableAnswer clearOfBefore recordedRow recordedRows recordingFrame recordingScan recordingAnswer recordingParts packetsOf endOf capped windowBehind setBits allows withinRule sent missed moved stepBy recordedAt moveOf number situationOf stepNumber count firstFrom spread image layer total lastInstant cost passing leads live walk leastMoves rowsBy rowsOf preferred greatestBound comesBy readiness tried howMany pairs answerIn pairsAt verdict refusalOf validationOf bind rowsBytes witnessBytes
+runOf given edition m recording budget =
+    let v : Verdict = validationOf given edition m (packetsAt recording) budget (length dirtyScratch) (length dirtyRoom) in
     record {
       answer = verdictValues v;
       counts = verdictCounts v;
-      scratch = scratchBy v (scratchWanted table recording) dirtyScratch;
-      room = roomBy v (witnessBytes edition (preferred (monitorAt table) (packetsAt recording))) dirtyRoom;
+      scratch = scratchBy v (scratchWanted m (packetsAt recording)) dirtyScratch;
+      room = roomBy v (witnessBytes edition (preferred m (packetsAt recording))) dirtyRoom;
     }
+
+abbrev pub run : Edition → (table recording : List ℕ) → ℕ → Run
+run edition table recording = runOf (recordingAnswer table recording) edition (monitorAt table) recording
 
 -- a run that answers 0, 1 or 2: so many bytes of the scratch are zero, and these stand at the start of the room
 judgedWith : Counts → Values → ℕ → List ℕ → Run
@@ -101,7 +107,7 @@ unfoldable pub p5 : List ℕ
 p5 = 0 ∷ 12 ∷ 1 ∷ 0 ∷ 3 ∷ 0 ∷ 1 ∷ 0 ∷ 0 ∷ 3 ∷ 2 ∷ 0 ∷ 6 ∷ 1 ∷ []
 
 unfoldable pub runs : Edition → (table : List ℕ) → List Run
-unfolding run one two p5
+unfolding runOf one two p5
 runs edition table =
     run edition table (0 ∷ 3 ∷ 1 ∷ 0 ∷ 0 ∷ []) 0
     ∷ run edition table (one 1 0) 10000
@@ -148,11 +154,11 @@ unfolding table p5
 p5Input = table ++ p5 ++ (0 ∷ 0 ∷ 39 ∷ 16 ∷ [])
 
 pub works : (table recording : List ℕ) → ℕ → List ℕ
-unfolding run
+unfolding runOf
 works table recording n = tab (λ t. count (possibleAfter (monitorAt table) (packetsAt recording) t)) n
 
 unfoldable pub printed : List ℕ → List ℕ
-unfolding run digits rowLines verdictLines judgedLines tableLength linesFor
+unfolding runOf digits rowLines verdictLines judgedLines tableLength linesFor
 printed s = deskLines s
 
 -- accepted 13 3, kept 1 0 0, removed 3 2 255, kept 6 1 2: a line each
@@ -172,7 +178,7 @@ pub record Page : Type 0 where
   pub p5-output : printed p5Input ≡ p5Output
 
 run-defined : (edition : Edition) (table recording : List ℕ) (budget : ℕ) → run edition table recording budget ≡ defined edition table recording budget
-unfolding run scratchAfter roomAfter
+unfolding runOf scratchLeft roomLeft
 run-defined edition table recording budget = refl
 
 pub page : Page

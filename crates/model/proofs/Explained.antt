@@ -8,14 +8,16 @@ use mathlib.Core.Option.{Option, none, some}
 use mathlib.Core.Logic.{_↔_, _⊎_, ⊎-elim}
 use lib.Dec.{leb, eqb}
 use borrow.Author.Tests.{ltb-true, leb-true, eqb-true, le-leb, eq-eqb, ne-eqb}
-use Rattle.model.specs.Monitor.{Monitor, Config, wait, fires, toUnit}
+use Rattle.model.specs.Rule.{noRule, windowBehind, allows}
+use Rattle.model.specs.Monitor.{Monitor, Config, wait, fires, toUnit, withinRule}
 use Rattle.model.specs.Trace.{Packet, PacketTrace}
 use Rattle.model.specs.Witness.{Row, kept, removed, added, isRemoved, inForm, follows, inPlace, misformed, Formed, marked}
-use Rattle.model.specs.Rules.{Progress, begin, noneBefore, isNext, noneAt, others, behindRow, sends, removes, keeps, adds, account, broken}
-use Rattle.model.specs.Claims.{packetOf, heard, sentRows, packets, CarriedBy, Explains}
+use Rattle.model.specs.Rules.{Progress, begin, noneBefore, isNext, noneAt, others, behindRow, guessed, sends, removes, keeps, adds, account, broken}
+use Rattle.model.specs.Claims.{packetOf, heard, sentRows, packets, CarriedBy, Explains, guesses, ExplainsUnder}
 use Rattle.model.specs.declared.Edition.{Edition}
 use Rattle.model.proofs.Basics.{and-left, and-right, both-true, cond-some}
-use Rattle.model.proofs.RowLaws.{in-form, byMark, passed, sends-fires, first-row}
+use Rattle.model.proofs.RowLaws.{in-form, byMark, passed, behindSent, sends-fires, first-row}
+use Rattle.model.proofs.RuleLaws.{Keeping, row-by-row, no-rule-kept}
 use Rattle.model.proofs.Spacing.{freeAfter, TraceFrom, trace-from, from-earlier, spaced-from}
 
 -- tests and options
@@ -80,19 +82,24 @@ record Continues (m : Monitor) (p : Progress) (rows : List Row) : Type 0 where
   inbound : (r : Row) → List·Memᴰ r rows → r .mark ≡ removed → toUnit m (r .kind) ≡ true
   clear : TraceFrom m (p .free) (packets rows)
   carried : CarriedBy m (p .now) (p .config) (sentRows rows)
+  kept : Keeping (m .rule) (p .window) (guesses m (sentRows rows))
 
 module _ (m : Monitor) (p : Progress) (r : Row) (left : List Packet) where
   sent-continues : (rs : List Row) (q : Progress) → sends m p r left ≡ some q → Continues m q rs
-      → (heard rs ≡ left) × TraceFrom m (freeAfter m (packetOf r)) (packets rs) × CarriedBy m (p .now) (p .config) (r ∷ sentRows rs)
+      → (heard rs ≡ left)
+      × TraceFrom m (freeAfter m (packetOf r)) (packets rs)
+      × CarriedBy m (p .now) (p .config) (r ∷ sentRows rs)
+      × Keeping (m .rule) (p .window) (guesses m (r ∷ sentRows rs))
+  unfolding guesses
   sent-continues rs q e c =
       let g = sends-fires m p r left q e in
-      let d : Continues m (behindRow m r left (r .time) (g .0)) rs = subst (λ x. Continues m x rs) (sym (g .2)) c in
-      (d .accounts, d .clear, (g .0, g .1, d .carried))
+      let d : Continues m (behindSent m p r left (g .0)) rs = subst (λ x. Continues m x rs) (sym (g .2)) c in
+      (d .accounts, d .clear, (g .0, g .1, d .carried), (g .3, d .kept))
 
   some-sends : (c : Config) → fires m (r .transition) (r .kind) (wait (r .time - p .now) (p .config)) ≡ some c
-      → sends m p r left ≡ some (behindRow m r left (r .time) c)
-  unfolding sends
-  some-sends c e = rw e
+      → allows (m .rule) (p .window) (guessed m r) ≡ true → sends m p r left ≡ some (behindSent m p r left c)
+  unfolding sends withinRule
+  some-sends c e a = rw (e, a)
 
 -- removed rows are to the unit: the first, and those behind it
 inbound-cons : (m : Monitor) (r : Row) (rs : List Row) → (r .mark ≡ removed → toUnit m (r .kind) ≡ true) →
@@ -105,7 +112,7 @@ inbound-cons m r rs now behind s i e = ⊎-elim (λ q. here q) (λ l. behind s l
 -- one row, forwards
 
 abbrev removedTo : Monitor → Progress → Row → Progress
-removedTo m p r = behindRow m r (others (p .left)) (p .now) (p .config)
+removedTo m p r = behindRow m r (others (p .left)) (p .now) (p .window) (p .config)
 
 module _ (edition : Edition) (m : Monitor) (rs : List Row) where
   continues-cons : (mark t k j : ℕ) (p q : Progress) → account edition m p (marked mark t k j) ≡ some q → Continues m q rs → Continues m p (marked mark t k j ∷ rs)
@@ -120,6 +127,7 @@ module _ (edition : Edition) (m : Monitor) (rs : List Row) where
         inbound = inbound-cons m r rs (λ z. absurd (omega arith)) (c .inbound);
         clear = (a .free, spaced-from m (packetOf r) (packets rs) .1 (f .1));
         carried = f .2;
+        kept = f .3;
       }
   continues-cons (suc zero) t k j p q e c =
       let r : Row = marked 1 t k j in
@@ -132,6 +140,7 @@ module _ (edition : Edition) (m : Monitor) (rs : List Row) where
         inbound = inbound-cons m r rs (λ z. and-right (isNext (p .left) r) (toUnit m k) (n .0)) (d .inbound);
         clear = (a .free, spaced-from m (packetOf r) (packets rs) .1 (d .clear));
         carried = d .carried;
+        kept = d .kept;
       }
   continues-cons (suc (suc zero)) t k j p q e c =
       let r : Row = marked 2 t k j in
@@ -143,6 +152,7 @@ module _ (edition : Edition) (m : Monitor) (rs : List Row) where
         inbound = inbound-cons m r rs (λ z. absurd (omega arith)) (c .inbound);
         clear = (a .free, spaced-from m (packetOf r) (packets rs) .1 (f .1));
         carried = f .2;
+        kept = f .3;
       }
   continues-cons (suc (suc (suc n))) t k j p q e c =
       let r : Row = marked (suc (suc (suc n))) t k j in
@@ -176,23 +186,23 @@ cons-next left r l e =
 
 module _ (edition : Edition) (m : Monitor) (rs : List Row) where
   -- rows that explain what is left explain, without the first, what is left behind it
-  continues-behind : {p : Progress} (r : Row) (left : List Packet) (now : ℕ) (d : Config) → Continues m p (r ∷ rs) → heard rs ≡ left → CarriedBy m now d (sentRows rs)
-      → Continues m (behindRow m r left now d) rs
+  continues-behind : {p : Progress} (r : Row) (left : List Packet) (now window : ℕ) (d : Config) → Continues m p (r ∷ rs) → heard rs ≡ left
+      → CarriedBy m now d (sentRows rs) → Keeping (m .rule) window (guesses m (sentRows rs)) → Continues m (behindRow m r left now window d) rs
   unfolding packets
-  continues-behind r left now d c a b =
-      record { accounts = a; inbound = λ s l. c .inbound s (List·Memᴰ·tail l); clear = spaced-from m (packetOf r) (packets rs) .0 (c .clear .1); carried = b }
+  continues-behind r left now window d c a b k =
+      record { accounts = a; inbound = λ s l. c .inbound s (List·Memᴰ·tail l); clear = spaced-from m (packetOf r) (packets rs) .0 (c .clear .1); carried = b; kept = k }
 
   account-cons : (mark t k j : ℕ) (p : Progress) (i : ℕ) → misformed edition (p .before) i (marked mark t k j ∷ rs) ≡ none → Continues m p (marked mark t k j ∷ rs) → Accounted edition m p (marked mark t k j) rs
-  unfolding keeps removes adds heard sentRows packets
+  unfolding keeps removes adds heard sentRows packets guesses
   account-cons zero t k j p i e c =
       let r : Row = marked 0 t k j in
       let n = cons-next (p .left) r (heard rs) (c .accounts) in
       let d = c .carried in
       record {
-        next = behindRow m r (others (p .left)) t (d .0);
-        accounted = account-ready edition m p r rs i e (c .accounts) (c .clear .0) ∙ (cond-true (isNext (p .left) r) _ (n .0) ∙ some-sends m p r (others (p .left)) (d .0) (d .1));
+        next = behindSent m p r (others (p .left)) (d .0);
+        accounted = account-ready edition m p r rs i e (c .accounts) (c .clear .0) ∙ (cond-true (isNext (p .left) r) _ (n .0) ∙ some-sends m p r (others (p .left)) (d .0) (d .1) (c .kept .0));
         last = refl;
-        continues = continues-behind r (others (p .left)) t (d .0) c (n .1) (d .2);
+        continues = continues-behind r (others (p .left)) t (windowBehind (m .rule) (p .window) (guessed m r)) (d .0) c (n .1) (d .2) (c .kept .1);
       }
   account-cons (suc zero) t k j p i e c =
       let r : Row = marked 1 t k j in
@@ -203,7 +213,7 @@ module _ (edition : Edition) (m : Monitor) (rs : List Row) where
             account-ready edition m p r rs i e (c .accounts) (c .clear .0)
             ∙ cond-true (isNext (p .left) r && toUnit m k) _ (both-true _ _ (n .0) (c .inbound r (List·Memᴰ·head refl) refl));
         last = refl;
-        continues = continues-behind r (others (p .left)) (p .now) (p .config) c (n .1) (c .carried);
+        continues = continues-behind r (others (p .left)) (p .now) (p .window) (p .config) c (n .1) (c .carried) (c .kept);
       }
   account-cons (suc (suc zero)) t k j p i e c =
       let r : Row = marked 2 t k j in
@@ -211,10 +221,10 @@ module _ (edition : Edition) (m : Monitor) (rs : List Row) where
       let f = misformed-cons edition (p .before) i r rs e .1 in
       let n : noneAt (p .left) t ≡ true = subst (λ (l : List Packet). noneAt l t ≡ true) (c .accounts) (none-at (heard rs) t (heard-from edition (suc t) (some r) (suc i) rs f (from-past edition r (suc i) rs f))) in
       record {
-        next = behindRow m r (p .left) t (d .0);
-        accounted = account-ready edition m p r rs i e (c .accounts) (c .clear .0) ∙ (cond-true (noneAt (p .left) t) _ n ∙ some-sends m p r (p .left) (d .0) (d .1));
+        next = behindSent m p r (p .left) (d .0);
+        accounted = account-ready edition m p r rs i e (c .accounts) (c .clear .0) ∙ (cond-true (noneAt (p .left) t) _ n ∙ some-sends m p r (p .left) (d .0) (d .1) (c .kept .0));
         last = refl;
-        continues = continues-behind r (p .left) t (d .0) c (c .accounts) (d .2);
+        continues = continues-behind r (p .left) t (windowBehind (m .rule) (p .window) (guessed m r)) (d .0) c (c .accounts) (d .2) (c .kept .1);
       }
   account-cons (suc (suc (suc n))) t k j p i e c =
       let r : Row = marked (suc (suc (suc n))) t k j in
@@ -225,8 +235,8 @@ module _ (edition : Edition) (m : Monitor) (rs : List Row) where
 
 -- rows that break no rule explain what is left
 broken-continues : (edition : Edition) (m : Monitor) (p : Progress) (i : ℕ) (rows : List Row) → broken edition m p i rows ≡ none → Continues m p rows
-unfolding broken heard sentRows packets
-broken-continues edition m p i [] e = record { accounts = empty (p .left) refl; inbound = λ r l. absurd (List·Memᴰ·not-nil l); clear = tt; carried = tt }
+unfolding broken heard sentRows packets guesses
+broken-continues edition m p i [] e = record { accounts = empty (p .left) refl; inbound = λ r l. absurd (List·Memᴰ·not-nil l); clear = tt; carried = tt; kept = tt }
   where
     empty : (left : List Packet) → p .left ≡ left → [] ≡ p .left
     empty [] h = sym h
@@ -268,21 +278,39 @@ broken-formed edition m p i j (r ∷ rs) e =
 pub unbroken-formed : (edition : Edition) (m : Monitor) (recording : List Packet) (rows : List Row) → broken edition m (begin recording) 0 rows ≡ none → Formed edition rows
 unbroken-formed edition m recording rows e = broken-formed edition m (begin recording) 0 0 rows e
 
-pub explained : (edition : Edition) (m : Monitor) (recording : List Packet) (rows : List Row) → Formed edition rows → (broken edition m (begin recording) 0 rows ≡ none) ↔ Explains m recording rows
+pub explained-under : (edition : Edition) (m : Monitor) (recording : List Packet) (rows : List Row) → 1 ≤ m .rule .window → Formed edition rows
+    → (broken edition m (begin recording) 0 rows ≡ none) ↔ ExplainsUnder m recording rows
 unfolding packets
-explained edition m recording rows f = (onto, from)
+explained-under edition m recording rows w f = (onto, from)
   where
     -- times are from 1 up by the form
     formed-trace : (l : List Row) → Formed edition l → TraceFrom m 0 (packets l) → PacketTrace m (packets l)
     formed-trace [] h x = tt
     formed-trace (r ∷ rs) h x = (in-form edition none r (misformed-cons edition none 0 r rs h .0) .time, x .1)
 
-    onto : broken edition m (begin recording) 0 rows ≡ none → Explains m recording rows
+    onto : broken edition m (begin recording) 0 rows ≡ none → ExplainsUnder m recording rows
     onto e =
         let c = broken-continues edition m (begin recording) 0 rows e in
-        record { accounts = c .accounts; inbound = c .inbound; spaced = formed-trace rows f (c .clear); carried = c .carried }
+        record {
+          explains = record { accounts = c .accounts; inbound = c .inbound; spaced = formed-trace rows f (c .clear); carried = c .carried };
+          keeps = row-by-row (m .rule) (guesses m (sentRows rows)) w .0 (c .kept);
+        }
 
-    from : Explains m recording rows → broken edition m (begin recording) 0 rows ≡ none
-    from x =
+    from : ExplainsUnder m recording rows → broken edition m (begin recording) 0 rows ≡ none
+    from y =
+        let x : Explains m recording rows = y .explains in
         continues-broken edition m (begin recording) 0 0 rows f
-        (record { accounts = x .accounts; inbound = x .inbound; clear = from-earlier m 1 0 (packets rows) (omega arith) (trace-from m (packets rows) .0 (x .spaced)); carried = x .carried })
+        (record {
+          accounts = x .accounts;
+          inbound = x .inbound;
+          clear = from-earlier m 1 0 (packets rows) (omega arith) (trace-from m (packets rows) .0 (x .spaced));
+          carried = x .carried;
+          kept = row-by-row (m .rule) (guesses m (sentRows rows)) w .1 (y .keeps);
+        })
+
+-- demand 2 without a rule
+pub explained : (edition : Edition) (m : Monitor) (recording : List Packet) (rows : List Row) → m .rule ≡ noRule → Formed edition rows
+    → (broken edition m (begin recording) 0 rows ≡ none) ↔ Explains m recording rows
+explained edition m recording rows plain f =
+    let (onto, from) = explained-under edition m recording rows (rw plain (omega arith)) f in
+    (λ e. onto e .explains, λ x. from (record { explains = x; keeps = rw plain (no-rule-kept _) }))

@@ -1,16 +1,17 @@
 -- What explains a recording makes it possible: the kept and added rows are the mutation trace, and all rows are what was on the air.
-use Prim.Native.Nat.{ℕ, _-_}
+use Prim.Native.Nat.{ℕ, _-_, _<_, _≤_}
 use native.Mathlib.Omega.{arith}
 use mathlib.Core.Path.{_≡_, refl, sym, ap, subst, _∙_}
 use mathlib.Core.List.{List, [], _∷_, List·Memᴰ, List·Memᴰ·head, List·Memᴰ·tail, List·Memᴰ·cases-cons, List·Memᴰ·not-nil}
-use mathlib.Core.Bool.{Bool, true, false, cond}
+use mathlib.Core.Bool.{Bool, true, false, cond, not, _&&_}
 use mathlib.Core.Logic.{_↔_, _⊎_, inl, inr, ⊎-elim}
 use lib.Dec.{eqb}
-use borrow.Author.Tests.{eqb-true}
-use Rattle.model.specs.Monitor.{Monitor, Config, start, toUnit}
-use Rattle.model.specs.Trace.{Packet, Carries, Possible}
+use borrow.Author.Tests.{eqb-true, eq-eqb, ne-eqb}
+use Rattle.model.specs.Rule.{KeepsRule}
+use Rattle.model.specs.Monitor.{Monitor, Config, start, toUnit, isGuess}
+use Rattle.model.specs.Trace.{Packet, Carries, Possible, isRecorded, guessesIn, PossibleUnder}
 use Rattle.model.specs.Witness.{Row, removed, added, isRemoved}
-use Rattle.model.specs.Claims.{packetOf, heard, sentRows, packets, CarriedBy, Explains}
+use Rattle.model.specs.Claims.{packetOf, heard, sentRows, packets, CarriedBy, Explains, guesses, ExplainsUnder}
 use Rattle.model.proofs.Spacing.{freeAfter, TraceFrom, trace-from, from-earlier, spaced-from}
 
 carried-carries : (m : Monitor) (now : ℕ) (c : Config) (rows : List Row) → CarriedBy m now c rows → Carries m now c (packets rows)
@@ -117,3 +118,62 @@ explains-possible m recording rows x =
           };
       satisfied = carried-carries m 0 start (sentRows rows) (x .carried);
     }
+
+-- under a rule: a sent row is a guess exactly if its entry of the trace is one, since an added row is not recorded, and any other is
+
+-- no packet before the rows is among those recorded
+none-recorded : (m : Monitor) (n : ℕ) (rows : List Row) (p : Packet) → TraceFrom m n (packets rows) → p .time < n → isRecorded (heard rows) p ≡ false
+unfolding heard packets isRecorded
+none-recorded m n [] p x h = refl
+none-recorded m n (r ∷ rs) p x h =
+    go (eqb (r .mark) added) (none-recorded m (freeAfter m (packetOf r)) rs p (spaced-from m (packetOf r) (packets rs) .0 (x .1)) (omega (arith, x .0)))
+  where
+    go : (t : Bool) → isRecorded (heard rs) p ≡ false → isRecorded (cond t (heard rs) (packetOf r ∷ heard rs)) p ≡ false
+    go true e = e
+    go false e = rw (ne-eqb (r .time) (p .time) (omega (arith, x .0))) e
+
+-- what is recorded from an instant on is what the rows from there on were heard as
+abbrev HeardFrom : (n : ℕ) → (recording : List Packet) → List Row → Type 0
+HeardFrom n recording rows = (p : Packet) → n ≤ p .time → isRecorded recording p ≡ isRecorded (heard rows) p
+
+same-guesses : (m : Monitor) (recording : List Packet) (n : ℕ) (rows : List Row) → TraceFrom m n (packets rows) → HeardFrom n recording rows
+    → guessesIn m recording (packets (sentRows rows)) ≡ guesses m (sentRows rows)
+unfolding heard sentRows packets guesses guessesIn isRecorded
+same-guesses m recording n [] x h = refl
+same-guesses m recording n (r ∷ rs) x h = go (isRemoved r) refl (same-guesses m recording (freeAfter m (packetOf r)) rs after later)
+  where
+    after : TraceFrom m (freeAfter m (packetOf r)) (packets rs)
+    after = spaced-from m (packetOf r) (packets rs) .0 (x .1)
+
+    later : HeardFrom (freeAfter m (packetOf r)) recording rs
+    later p l = h p (omega (arith, x .0)) ∙ on (eqb (r .mark) added)
+      where
+        on : (t : Bool) → isRecorded (cond t (heard rs) (packetOf r ∷ heard rs)) p ≡ isRecorded (heard rs) p
+        on true = refl
+        on false = rw (ne-eqb (r .time) (p .time) (omega arith))
+
+    -- the row itself
+    here : (t : Bool) → eqb (r .mark) added ≡ t → isRemoved r ≡ false → not (isRecorded recording (packetOf r)) ≡ t
+    here t e f = ap not (h (packetOf r) (x .0)) ∙ on t e
+      where
+        on : (t : Bool) → eqb (r .mark) added ≡ t → not (isRecorded (cond (eqb (r .mark) added) (heard rs) (packetOf r ∷ heard rs)) (packetOf r)) ≡ t
+        on true e = rw e (ap not (none-recorded m (freeAfter m (packetOf r)) rs (packetOf r) after (omega arith)))
+        on false e = rw (e, eq-eqb (r .time) (r .time) refl, eq-eqb (r .kind) (r .kind) refl)
+
+    go : (away : Bool) → isRemoved r ≡ away → guessesIn m recording (packets (sentRows rs)) ≡ guesses m (sentRows rs)
+        → guessesIn m recording (packets (cond away (sentRows rs) (r ∷ sentRows rs))) ≡ guesses m (cond away (sentRows rs) (r ∷ sentRows rs))
+    go true e again = again
+    go false e again = λ i. (here (eqb (r .mark) added) refl e i && isGuess m (r .kind)) ∷ again i
+
+pub explains-possible-under : (m : Monitor) (recording : List Packet) (rows : List Row) → ExplainsUnder m recording rows → PossibleUnder m recording
+unfolding explains-possible packets
+explains-possible-under m recording rows x =
+    record {
+      possible = explains-possible m recording rows (x .explains);
+      keeps = subst (KeepsRule (m .rule)) (sym same) (x .keeps);
+    }
+  where
+    same : guessesIn m recording (packets (sentRows rows)) ≡ guesses m (sentRows rows)
+    same =
+        same-guesses m recording 1 rows (trace-from m (packets rows) .0 (x .explains .spaced))
+        (λ p l. ap (λ (l : List Packet). isRecorded l p) (sym (x .explains .accounts)))

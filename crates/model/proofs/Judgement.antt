@@ -10,18 +10,20 @@ use mathlib.Core.Option.{none}
 use lib.ListN.{length}
 use lib.Dec.{ltb}
 use borrow.Author.Tests.{ltb-true, ltb-false, eqb-true, eqb-false}
+use Rattle.model.specs.Rule.{Rule, noRule}
 use Rattle.model.specs.Monitor.{Monitor}
-use Rattle.model.specs.Trace.{Packet, Possible}
+use Rattle.model.specs.Trace.{Packet, Possible, PossibleUnder}
 use Rattle.model.specs.Size.{size}
 use Rattle.model.specs.Table.{monitorAt}
 use Rattle.model.specs.Recording.{SoundRecording, packetsAt, endOf}
+use Rattle.model.specs.Ruled.{monitorUnder, SoundUnder}
 use Rattle.model.specs.Witness.{Row}
 use Rattle.model.specs.Rules.{broken, begin, Permits}
 use Rattle.model.specs.Order.{Before, EndsBy, Preferred}
 use Rattle.model.specs.Situation.{firstBy, uncapped, moveLimit, stepNumber, firstNumber}
 use Rattle.model.specs.Layers.{count, isEmpty}
 use Rattle.model.specs.Validation.{rowsOf, movesOf, preferred, verdict, costOf, lastOf, passingOf, possibleAfter, pairsAt}
-use Rattle.model.specs.Claims.{FirstEmpty, FirstPast, Judged}
+use Rattle.model.specs.Claims.{FirstEmpty, FirstPast, Judged, JudgedUnder}
 use Rattle.model.specs.declared.Readiness.the-variants.{NotYet, NoMore}
 use Rattle.model.specs.declared.Situation.{Situation}
 use Rattle.model.specs.declared.Verdict.{Verdict}
@@ -29,16 +31,18 @@ use Rattle.model.specs.declared.Verdict.the-variants.{Accepted, Rejected
 use Rattle.model.specs.Sane.{Sane, SaneRecording}
 use Rattle.model.specs.Edition.{latestTime}
 use Rattle.model.specs.declared.Edition.{Edition}
+use Rattle.model.proofs.RuleLaws.{no-rule-kept}
+use Rattle.model.proofs.RuledForm.{sane-under, sane-recording-under}
 use Rattle.model.proofs.Chains.{Moves, Less}
-use Rattle.model.proofs.TableForm.{sane-table}
+use Rattle.model.proofs.TableForm.{sane-table, plain-rule}
 use Rattle.model.proofs.RecordingForm.{sound-table, sane-recording}
 use Rattle.model.proofs.LayerLaws.{reached, cost-le, last-le, last-before, passing-passes}
 use Rattle.model.proofs.LeastLaws.{least, length-least}
 use Rattle.model.proofs.Numbering.{first-number-below, numbered}
 use Rattle.model.proofs.Capping.{same-moves}
 use Rattle.model.proofs.PairLaws.{counted-pairs}
-use Rattle.model.proofs.Explained.{unbroken-formed, explained}
-use Rattle.model.proofs.ExplainedTraces.{explains-possible}
+use Rattle.model.proofs.Explained.{unbroken-formed, explained-under}
+use Rattle.model.proofs.ExplainedTraces.{explains-possible-under}
 use Rattle.model.proofs.Ordered.{rows-before}
 use Rattle.model.proofs.TraceMoves.{possible-moves}
 use Rattle.model.proofs.MoveRows.{moves-permitted, rows-short}
@@ -69,11 +73,11 @@ module _ (edition : Edition) (m : Monitor) (recording : List Packet) (sane : San
   abbrev left : ℕ
   left = count (possibleAfter m recording (lastOf m recording))
 
-  carried-possible : Carried → Possible m recording
+  carried-possible : Carried → PossibleUnder m recording
   carried-possible (ks, z, e, h) =
       let rows : List Row = rowsOf m recording 1 ks in
       let u : broken edition m (begin recording) 0 rows ≡ none = moves-permitted edition m recording sane sound fits ks z e h .0 in
-      explains-possible m recording rows (explained edition m recording rows (unbroken-formed edition m recording rows u) .0 u)
+      explains-possible-under m recording rows (explained-under edition m recording rows (sane .window) (unbroken-formed edition m recording rows u) .0 u)
 
   carried-left : Carried → 0 < left
   carried-left (ks, z, e, h) =
@@ -86,7 +90,7 @@ module _ (edition : Edition) (m : Monitor) (recording : List Packet) (sane : San
       let r = same-moves sane recording ks .0 (z, l) in
       (ks, r .0, e, r .1)
 
-  left-possible : (0 < left) ↔ Possible m recording
+  left-possible : (0 < left) ↔ PossibleUnder m recording
   left-possible = (λ h. carried-possible (left-carried h), λ p. carried-left (possible-moves m recording sane sound p))
 
   least-carried : Carried → (z : Situation) × Moves m recording 0 (firstBy uncapped) (movesOf m recording) z
@@ -131,14 +135,14 @@ module _ (edition : Edition) (m : Monitor) (recording : List Packet) (sane : San
         first = before-others c;
       }
 
-  -- where a mutation trace satisfies the monitor, the witness of the least moves is the preferred one
-  pub possible-preferred : Possible m recording → Preferred edition m recording (preferred m recording)
+  -- where a mutation trace that keeps the rule satisfies the monitor, the witness of the least moves is the preferred one
+  pub possible-preferred : PossibleUnder m recording → Preferred edition m recording (preferred m recording)
   possible-preferred p = preferred-first (possible-moves m recording sane sound p)
 
   bounded : costOf m recording ≤ endOf recording * size m
   bounded = cost-le (size m) moveLimit (stepNumber m recording) (firstNumber m) (endOf recording)
 
-  none-left : isEmpty (possibleAfter m recording (lastOf m recording)) ≡ true → Possible m recording → ⊥
+  none-left : isEmpty (possibleAfter m recording (lastOf m recording)) ≡ true → PossibleUnder m recording → ⊥
   none-left e p =
       let h = left-possible .1 p in
       let z = eqb-true left 0 e in
@@ -163,7 +167,7 @@ module _ (edition : Edition) (m : Monitor) (recording : List Packet) (sane : San
       record { within = w; past = p; before = b }
 
   by-tests : (budget : ℕ) (over empty : Bool) → ltb budget (costOf m recording) ≡ over
-      → isEmpty (possibleAfter m recording (lastOf m recording)) ≡ empty → Judged edition m recording budget (verdict-by m recording budget over empty)
+      → isEmpty (possibleAfter m recording (lastOf m recording)) ≡ empty → JudgedUnder edition m recording budget (verdict-by m recording budget over empty)
   by-tests budget true empty p q =
       let h : budget < costOf m recording = ltb-true budget (costOf m recording) p in
       record {
@@ -201,12 +205,35 @@ module _ (edition : Edition) (m : Monitor) (recording : List Packet) (sane : San
         distinct = numbered sane;
       }
 
-  pub judged : (budget : ℕ) → Judged edition m recording budget (verdict m recording budget)
-  judged budget =
-      subst (λ (v : Verdict). Judged edition m recording budget v) (sym (verdict-is m recording budget _ _ refl refl)) (by-tests budget _ _ refl refl)
+  -- demand 3 under the monitor's rule
+  pub judged-under : (budget : ℕ) → JudgedUnder edition m recording budget (verdict m recording budget)
+  judged-under budget =
+      subst (λ (v : Verdict). JudgedUnder edition m recording budget v) (sym (verdict-is m recording budget _ _ refl refl)) (by-tests budget _ _ refl refl)
+
+  -- .. and where that forbids nothing
+  pub judged : m .rule ≡ noRule → (budget : ℕ) → Judged edition m recording budget (verdict m recording budget)
+  judged plain budget =
+      let j : JudgedUnder edition m recording budget (verdict m recording budget) = judged-under budget in
+      let under : Possible m recording → PossibleUnder m recording = λ p. record { possible = p; keeps = rw plain (no-rule-kept _) } in
+      record {
+        exhausted = j .exhausted;
+        accepted = λ within. (λ a. j .accepted within .0 a .possible, λ p. j .accepted within .1 (under p));
+        rejected = λ within. (λ r p. j .rejected within .0 r (under p), λ never. j .rejected within .1 (λ p. never (p .possible)));
+        valued = j .valued;
+        witnessed = j .witnessed;
+        short = j .short;
+        bounded = j .bounded;
+        distinct = j .distinct;
+      }
 
 -- demand 3 for bytes: a sound recording against its sound table
 pub sound-judged : (edition : Edition) (table recording : List ℕ) → SoundRecording table recording → endOf (packetsAt recording) ≤ latestTime edition → (budget : ℕ)
     → Judged edition (monitorAt table) (packetsAt recording) budget (verdict (monitorAt table) (packetsAt recording) budget)
 sound-judged edition table recording sound fits budget =
-    judged edition (monitorAt table) (packetsAt recording) (sane-table table (sound-table table recording sound)) (sane-recording table recording sound) fits budget
+    judged edition (monitorAt table) (packetsAt recording) (sane-table table (sound-table table recording sound)) (sane-recording table recording sound) fits (plain-rule table) budget
+
+-- .. and under a rule of which neither 25 nor 26 says anything
+pub sound-judged-under : (rule : Rule) (edition : Edition) (table recording : List ℕ) → SoundUnder rule table recording → endOf (packetsAt recording) ≤ latestTime edition → (budget : ℕ)
+    → JudgedUnder edition (monitorUnder rule table) (packetsAt recording) budget (verdict (monitorUnder rule table) (packetsAt recording) budget)
+sound-judged-under rule edition table recording sound fits budget =
+    judged-under edition (monitorUnder rule table) (packetsAt recording) (sane-under rule table recording sound) (sane-recording-under rule table recording sound) fits budget

@@ -1,4 +1,5 @@
 pub mod Basics
+pub mod RuleLaws
 pub mod Chains
 pub mod Places
 pub mod Tests
@@ -15,6 +16,7 @@ pub mod RoomLaws
 pub mod DeviceLaws
 pub mod EditionLaws
 pub mod RecordingForm
+pub mod RuledForm
 pub mod WitnessForm
 pub mod SetLaws
 pub mod LayerLaws
@@ -38,6 +40,8 @@ pub mod VerdictLaws
 pub mod WalkLaws
 pub mod DeviceFree
 pub mod OtherBytes
+pub mod WithoutRule
+pub mod FirstBreak
 pub mod Examples
 pub mod Counterexample
 pub mod Overheard
@@ -46,3 +50,4 @@ pub mod TwoVersions
 pub mod TwoEditions
 pub mod EarlyLate
 pub mod AnswerLaws
+pub mod Unlikely

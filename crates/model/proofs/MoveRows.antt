@@ -12,11 +12,12 @@ use lib.ListN.{length, length-append}
 use lib.Dec.{leb, eqb}
 use borrow.Author.Tests.{leb-true, leb-false, le-leb, lt-ltb, eq-eqb, ne-eqb}
 use Rattle.model.specs.Edition.{latestTime}
-use Rattle.model.specs.Monitor.{Monitor, Config, wait, fires, toUnit, airtime}
+use Rattle.model.specs.Rule.{windowBehind}
+use Rattle.model.specs.Monitor.{Monitor, Config, wait, fires, toUnit, airtime, withinRule}
 use Rattle.model.specs.Trace.{Packet, PacketTrace, Spaced}
 use Rattle.model.specs.Recording.{endOf}
 use Rattle.model.specs.Witness.{Row, kept, removed, added, noTransition, marked, inForm, follows, inPlace}
-use Rattle.model.specs.Rules.{Progress, begin, noneBefore, isNext, noneAt, others, behindRow, sends, keeps, removes, adds, account, broken}
+use Rattle.model.specs.Rules.{Progress, begin, noneBefore, isNext, noneAt, others, behindRow, guessed, sends, keeps, removes, adds, account, broken}
 use Rattle.model.specs.Order.{EndsBy}
 use Rattle.model.specs.Situation.{Move, keep, rest, add, moveOf, moved, onAir, sent, missed, stepBy, tick, uncapped, firstBy, withAir, triggerOf, recordedAt}
 use Rattle.model.specs.Validation.{rowFor, rowsBy, HasRows, rowsOf}
@@ -114,7 +115,7 @@ rows-short m recording t (k ∷ ks) =
 -- a progress and the situation just before instant t + 1
 
 abbrev pub situationAt : ℕ → Progress → Situation
-situationAt t p = withAir (wait (suc t - p .now) (p .config)) (p .free - suc t)
+situationAt t p = withAir (wait (suc t - p .now) (p .config)) (p .free - suc t) (p .window)
 
 -- the row before is not after t
 abbrev Past : ℕ → Option Row → Type 0
@@ -131,14 +132,15 @@ pub tied-first : (m : Monitor) (recording : List Packet) → SaneRecording m rec
 tied-first m recording h = record { early = omega arith; past = tt; ahead = ahead-first m recording (h .trace) }
 
 -- waiting goes on: a tick later the clocks read one more
-tick-later : (t now : ℕ) (c : Config) (taken left : ℕ) → now ≤ t → taken - 1 ≡ left
-    → tick uncapped (withAir (wait (suc t - now) c) taken) ≡ withAir (wait (suc (suc t) - now) c) left
-tick-later t now c taken left h air =
+tick-later : (t now : ℕ) (c : Config) (taken left window : ℕ) → now ≤ t → taken - 1 ≡ left
+    → tick uncapped (withAir (wait (suc t - now) c) taken window) ≡ withAir (wait (suc (suc t) - now) c) left window
+tick-later t now c taken left window h air =
     λ i. record {
       state = c .state;
       variables = c .variables;
       clocks = clocks (c .clocks) i;
       air = air i;
+      window = window;
     }
   where
     clocks : (l : List ℕ) → map (λ x. x + 1) (map (λ x. x + (suc t - now)) l) ≡ map (λ x. x + (suc (suc t) - now)) l
@@ -167,17 +169,23 @@ accounts edition m p (r ∷ rs) = bind (account edition m p r) (λ q. accounts e
 
 module _ (m : Monitor) (t : ℕ) (p : Progress) where
   -- a packet on the air at instant t + 1
-  on-air : (k : ℕ) (o : Option Config) (x : Option Progress)
-      → Option·map (tick uncapped) (Option·map (λ c. withAir c (airtime m k + 1)) o) ≡ Option·map (situationAt (suc t)) x
-      → Option·map (tick uncapped) (onAir m k (situationAt t p) o) ≡ Option·map (situationAt (suc t)) (cond (leb (p .free) (suc t)) x none)
-  on-air k o x e = rw (air-free (p .free) t) (map-cond (tick uncapped) (situationAt (suc t)) (leb (p .free) (suc t)) _ x e)
+  on-air : (k window : ℕ) (o : Option Config) (x : Option Progress)
+      → Option·map (tick uncapped) (Option·map (λ c. withAir c (airtime m k + 1) window) o) ≡ Option·map (situationAt (suc t)) x
+      → Option·map (tick uncapped) (onAir m k (situationAt t p) window o) ≡ Option·map (situationAt (suc t)) (cond (leb (p .free) (suc t)) x none)
+  on-air k window o x e = rw (air-free (p .free) t) (map-cond (tick uncapped) (situationAt (suc t)) (leb (p .free) (suc t)) _ x e)
 
   sent-sends : (mark k j : ℕ) (left : List Packet)
-      → Option·map (tick uncapped) (sent m j k (situationAt t p))
+      → Option·map (tick uncapped) (sent m (guessed m (marked mark (suc t) k j)) j k (situationAt t p))
       ≡ Option·map (situationAt (suc t)) (cond (leb (p .free) (suc t)) (sends m p (marked mark (suc t) k j) left) none)
   unfolding sent sends
-  sent-sends mark k j left = on-air k (fires m j k _) (sends m p (marked mark (suc t) k j) left) (go (fires m j k _))
+  sent-sends mark k j left = on-air k window (withinRule m (p .window) guess (fires m j k _)) (sends m p (marked mark (suc t) k j) left) (go (withinRule m (p .window) guess (fires m j k _)))
     where
+      guess : Bool
+      guess = guessed m (marked mark (suc t) k j)
+
+      window : ℕ
+      window = windowBehind (m .rule) (p .window) guess
+
       clock : 1 ≡ suc (suc t) - suc t
       clock = omega arith
 
@@ -185,28 +193,28 @@ module _ (m : Monitor) (t : ℕ) (p : Progress) where
       air = omega arith
 
       go : (o : Option Config)
-          → Option·map (tick uncapped) (Option·map (λ c. withAir c (airtime m k + 1)) o)
-          ≡ Option·map (situationAt (suc t)) (Option·map (behindRow m (marked mark (suc t) k j) left (suc t)) o)
+          → Option·map (tick uncapped) (Option·map (λ c. withAir c (airtime m k + 1) window) o)
+          ≡ Option·map (situationAt (suc t)) (Option·map (behindRow m (marked mark (suc t) k j) left (suc t) window) o)
       go none = refl
-      go (some c) = λ i. some (record { state = c .state; variables = c .variables; clocks = map (λ x. x + clock i) (c .clocks); air = air i })
+      go (some c) = λ i. some (record { state = c .state; variables = c .variables; clocks = map (λ x. x + clock i) (c .clocks); air = air i; window = window })
 
   -- the progress after the next recorded row, of kind k, is removed
   abbrev without : ℕ → Progress
-  without k = behindRow m (marked removed (suc t) k noTransition) (others (p .left)) (p .now) (p .config)
+  without k = behindRow m (marked removed (suc t) k noTransition) (others (p .left)) (p .now) (p .window) (p .config)
 
   missed-removed : p .now ≤ t → (k : ℕ)
       → Option·map (tick uncapped) (missed m k (situationAt t p))
       ≡ Option·map (situationAt (suc t)) (cond (leb (p .free) (suc t)) (cond (toUnit m k) (some (without k)) none) none)
   unfolding missed
   missed-removed h k =
-      on-air k (cond (toUnit m k) (some (wait (suc t - p .now) (p .config))) none) (cond (toUnit m k) (some (without k)) none) (go (toUnit m k))
+      on-air k (p .window) (cond (toUnit m k) (some (wait (suc t - p .now) (p .config))) none) (cond (toUnit m k) (some (without k)) none) (go (toUnit m k))
     where
       go : (b : Bool)
-          → Option·map (tick uncapped) (Option·map (λ c. withAir c (airtime m k + 1)) (cond b (some (wait (suc t - p .now) (p .config))) none))
+          → Option·map (tick uncapped) (Option·map (λ c. withAir c (airtime m k + 1) (p .window)) (cond b (some (wait (suc t - p .now) (p .config))) none))
           ≡ Option·map (situationAt (suc t)) (cond b (some (without k)) none)
       go true =
           ap {B = Option Situation} some
-          (tick-later t (p .now) (p .config) (airtime m k + 1) (suc t + airtime m k + 1 - suc (suc t)) h (omega arith))
+          (tick-later t (p .now) (p .config) (airtime m k + 1) (suc t + airtime m k + 1 - suc (suc t)) (p .window) h (omega arith))
       go false = refl
 
   sends-tied : (recording : List Packet) (mark k j : ℕ) (left : List Packet) (q : Progress) → Ahead recording (suc t) left
@@ -276,7 +284,7 @@ module _ (edition : Edition) (m : Monitor) (recording : List Packet) (t : ℕ) (
     unfolding accounts rowsBy stepBy moved bind
     quiet-instant (keep j) f = absurd f
     quiet-instant rest f =
-        instant-by none rest (some p) refl (ap {B = Option Situation} some (tick-later t (p .now) (p .config) (p .free - suc t) (p .free - suc (suc t)) (tied .early) (omega arith)))
+        instant-by none rest (some p) refl (ap {B = Option Situation} some (tick-later t (p .now) (p .config) (p .free - suc t) (p .free - suc (suc t)) (p .window) (tied .early) (omega arith)))
         (λ q h. subst (Tied recording (suc t)) (Option·some-injective p q h)
         (record { early = omega (arith, tied .early); past = past-later t (p .before) (tied .past); ahead = ahead }))
     quiet-instant (add j) f =

@@ -8,7 +8,7 @@ use Rattle.model.specs.declared.Reading.the-variants.{Sound, Unsound}
 use Rattle.model.specs.declared.Writing.{Writing}
 use Rattle.model.specs.declared.Writing.the-variants.{Written, Unwritten}
 use Rattle.model.specs.declared.Refusal.{Refusal}
-use Rattle.model.specs.declared.Refusal.the-variants.{TableFrame, TableVersion, TableCount, TableLength, TableField, TableGuard, TableSize, TableState, RecordingFrame, RecordingVersion, RecordingCount, RecordingRange, RecordingOrder, Scratch, WitnessRoom, WriteRoom, WitnessFrame, WitnessVersion, WitnessCount, WitnessRow}
+use Rattle.model.specs.declared.Refusal.the-variants.{TableFrame, TableVersion, TableCount, TableLength, TableField, TableGuard, TableSize, TableState, RecordingFrame, RecordingVersion, RecordingCount, RecordingRange, RecordingOrder, RuleRange, RuleSize, Scratch, WitnessRoom, WriteRoom, WitnessFrame, WitnessVersion, WitnessCount, WitnessRow}
 
 -- a refusal's number is 10 or more, and 17 for a state alone
 refusal-number : (r : Refusal) → (10 ≤ refusalValues r .number) × (refusalValues r .number ≡ 17 → r ≡ TableState (refusalValues r .second))
@@ -25,6 +25,8 @@ refusal-number RecordingVersion = (omega arith, λ e. absurd (omega arith))
 refusal-number RecordingCount = (omega arith, λ e. absurd (omega arith))
 refusal-number (RecordingRange n) = (omega arith, λ e. absurd (omega arith))
 refusal-number (RecordingOrder n) = (omega arith, λ e. absurd (omega arith))
+refusal-number RuleRange = (omega arith, λ e. absurd (omega arith))
+refusal-number RuleSize = (omega arith, λ e. absurd (omega arith))
 refusal-number (Scratch n) = (omega arith, λ e. absurd (omega arith))
 refusal-number (WitnessRoom n) = (omega arith, λ e. absurd (omega arith))
 refusal-number (WriteRoom n) = (omega arith, λ e. absurd (omega arith))

@@ -1,36 +1,31 @@
 -- Sound tables with the same bytes but for length, version and devices are answered alike (R-6).
-use Prim.Native.Nat.{ℕ, zero, suc, _+_, _*_, _<_}
+use Prim.Native.Nat.{ℕ, zero, suc, _+_, _*_, _<_, _≤_}
 use native.Mathlib.Nat.{add-zero}
 use native.Mathlib.Omega.{arith}
 use mathlib.Core.Path.{_≡_, refl, sym, ap, ap₂, _∙_}
 use mathlib.Core.List.{List, [], _∷_}
-use lib.ListN.{length, take, drop}
+use lib.ListN.{take, drop}
 use lib.Seq.{getD-take, getD-drop}
 use lib.Dec.{ltb}
 use Rattle.model.specs.Limits.{kindLimit, transitionLimit, guardLimit}
 use Rattle.model.specs.Bytes.{byteAt, tab}
 use Rattle.model.specs.First.{firstOf}
+use Rattle.model.specs.Rule.{Rule}
 use Rattle.model.specs.Monitor.{Monitor, airtime}
-use Rattle.model.specs.Trace.{Packet}
-use Rattle.model.specs.Size.{size}
 use Rattle.model.specs.Kinds.{versionAt, kindAt}
 use Rattle.model.specs.Table.{guardIn, transitionIn, monitorOf, monitorAt, kindsAt, transitionsAt, guardLengthAt, transitionAt, kindColumn, transitionColumn, tableParts, SoundTable}
 use Rattle.model.specs.Recording.{timeAt, rowKindAt, countAt, clearOfBefore, recordedRow, recordedRows, recordingScan, recordingAnswer, packetsAt}
 use Rattle.model.specs.Witness.{rowsAt}
-use Rattle.model.specs.Rules.{begin, broken, checkRefusal, checkAnswer}
-use Rattle.model.specs.Validation.{preferred, verdict, refusal, validation, scratchAfter, roomAfter}
+use Rattle.model.specs.Rules.{checked, checkAnswer}
 use Rattle.model.specs.Same.{SameTable}
 use Rattle.model.specs.Versions.{SameOtherBytes, SameAnswers}
 use Rattle.model.specs.declared.Edition.{Edition}
 use Rattle.model.specs.declared.TableParts.{TableParts}
 use Rattle.model.specs.declared.Reading.{Reading}
-use Rattle.model.specs.declared.Reading.the-variants.{Sound, Unsound}
-use Rattle.model.specs.declared.Verdict.{Verdict}
-use Rattle.model.specs.declared.Verdict.the-variants.{Refused}
 use Rattle.model.proofs.Places.{getD-column}
-use Rattle.model.proofs.TableForm.{table-facts, guard-byte}
+use Rattle.model.proofs.TableForm.{table-facts, guard-byte, plain-rule}
 use Rattle.model.proofs.TableTrip.{length-few, same-monitor}
-use Rattle.model.proofs.DeviceFree.{withDevices, same-size, same-preferred, same-verdict, same-broken}
+use Rattle.model.proofs.DeviceFree.{withDevices, same-validation, same-scratch, same-room, same-checking}
 
 -- bytes of a part that two lists share
 module _ (b c : List ℕ) (at to : ℕ) where
@@ -151,7 +146,7 @@ module _ (b c : List ℕ) (soundb : SoundTable b) (soundc : SoundTable c) (same 
   abbrev devices : List ℕ
   devices = tab (byteAt (tableParts b .devices)) (tableParts c .kinds)
 
-  same-monitors : monitorAt b ≡ withDevices devices (monitorAt c)
+  same-monitors : monitorAt b ≡ withDevices devices 0 (monitorAt c)
   unfolding monitorOf transitionIn guardIn tableParts
   same-monitors = same-monitor (tableParts b) likewise same-parts (length-few c (table-facts c soundc))
 
@@ -180,34 +175,23 @@ module _ (b c : List ℕ) (soundb : SoundTable b) (soundc : SoundTable c) (same 
 
   -- the rest is asked of the monitor
 
-  size-alike : size (monitorAt b) ≡ size (monitorAt c)
-  size-alike = ap size same-monitors ∙ same-size devices (monitorAt c)
+  one : monitorAt c .rule .window ≡ 1
+  one = ap (λ (r : Rule). r .window) (plain-rule c)
 
-  preferred-alike : (recording : List Packet) → preferred (monitorAt b) recording ≡ preferred (monitorAt c) recording
-  preferred-alike recording = ap (λ (m : Monitor). preferred m recording) same-monitors ∙ same-preferred devices (monitorAt c) recording
-
-  verdict-alike : (recording : List Packet) (budget : ℕ) → verdict (monitorAt b) recording budget ≡ verdict (monitorAt c) recording budget
-  verdict-alike recording budget = ap (λ (m : Monitor). verdict m recording budget) same-monitors ∙ same-verdict devices (monitorAt c) recording budget
-
-  refusal-alike : (edition : Edition) (recording : List ℕ) (scratchLength roomLength : ℕ) → refusal edition b recording scratchLength roomLength ≡ refusal edition c recording scratchLength roomLength
-  unfolding refusal
-  refusal-alike edition recording scratchLength roomLength = rw (answer-alike recording, size-alike)
-
-  validation-alike : (edition : Edition) (recording : List ℕ) (budget scratchLength roomLength : ℕ) → validation edition b recording budget scratchLength roomLength ≡ validation edition c recording budget scratchLength roomLength
-  unfolding validation
-  validation-alike edition recording budget scratchLength roomLength =
-      ap₂ by (refusal-alike edition recording scratchLength roomLength) (verdict-alike (packetsAt recording) budget)
-    where
-      by : Reading → Verdict → Verdict
-      by x v = elim x [ Sound ↦ v | Unsound r ↦ Refused r ]
+  any : 1 ≤ monitorAt c .rule .most
+  any = omega (arith, ap (λ (r : Rule). r .most) (plain-rule c))
 
   pub same-answers : SameAnswers b c
-  unfolding scratchAfter roomAfter checkAnswer checkRefusal
+  unfolding checkAnswer
   same-answers =
       record {
-        verdict = validation-alike;
-        scratch = λ edition recording budget scratch room. rw (validation-alike edition recording budget (length scratch) (length room), size-alike);
-        room = λ edition recording budget scratch room. rw (validation-alike edition recording budget (length scratch) (length room), preferred-alike (packetsAt recording));
+        verdict = λ edition recording budget scratchLength roomLength.
+            rw (answer-alike recording, same-monitors) (same-validation devices 0 (monitorAt c) one any (recordingAnswer c recording) edition (packetsAt recording) budget scratchLength roomLength);
+        scratch = λ edition recording budget scratch room.
+            rw (answer-alike recording, same-monitors) (same-scratch devices 0 (monitorAt c) one any (recordingAnswer c recording) edition (packetsAt recording) budget scratch room);
+        room = λ edition recording budget scratch room.
+            rw (answer-alike recording, same-monitors) (same-room devices 0 (monitorAt c) one any (recordingAnswer c recording) edition (packetsAt recording) budget scratch room);
         checking = λ edition recording witness.
-            rw (answer-alike recording, ap (λ (m : Monitor). broken edition m (begin (packetsAt recording)) 0 (rowsAt edition witness)) same-monitors ∙ same-broken devices (monitorAt c) edition (begin (packetsAt recording)) 0 (rowsAt edition witness));
+            rw (answer-alike recording, same-monitors)
+            (ap (λ (x : Reading). checked x (rowsAt edition witness)) (same-checking devices 0 (monitorAt c) one any (recordingAnswer c recording) edition recording witness));
       }

@@ -11,7 +11,7 @@ use lib.ListN.{set}
 use lib.Dec.{eqb}
 use borrow.Author.Tests.{eq-eqb}
 use Rattle.model.specs.Size.{size}
-use Rattle.model.specs.Monitor.{Monitor, start, toUnit}
+use Rattle.model.specs.Monitor.{Monitor, start, toUnit, isGuess}
 use Rattle.model.specs.Trace.{Packet, PacketTrace, Possible}
 use Rattle.model.specs.Table.{monitorAt}
 use Rattle.model.specs.Recording.{SoundRecording, packetsAt, endOf}
@@ -24,7 +24,7 @@ use Rattle.model.specs.declared.Edition.the-variants.{Two}
 use Rattle.model.specs.declared.Situation.{Situation}
 use Rattle.model.specs.declared.Verdict.{Verdict}
 use Rattle.model.specs.declared.Verdict.the-variants.{Rejected}
-use Rattle.model.proofs.Examples.{run, table, two}
+use Rattle.model.proofs.Examples.{runOf, table, two}
 use Rattle.model.proofs.Judgement.{sound-judged}
 use Rattle.model.proofs.RecordingForm.{sane-recording}
 
@@ -38,9 +38,9 @@ pub record ExplainedBefore (m : Monitor) (recording : List Packet) (rows : List 
 -- a removed row took no air, and a row of another kind could be added at its instant
 unfoldable pub movedBefore : Monitor → Option ℕ → Situation → Move → Option Situation
 movedBefore m none s a = moved m none s a
-movedBefore m (some k) s (keep j) = sent m j k s
+movedBefore m (some k) s (keep j) = sent m false j k s
 movedBefore m (some k) s rest = cond (toUnit m k) (some s) none
-movedBefore m (some k) s (add j) = bind (triggerOf m j) (λ a. cond (toUnit m k && not (eqb a k)) (sent m j a s) none)
+movedBefore m (some k) s (add j) = bind (triggerOf m j) (λ a. cond (toUnit m k && not (eqb a k)) (sent m (isGuess m a) j a s) none)
 
 unfoldable pub stepBefore : Monitor → List Packet → (t n k : ℕ) → Option ℕ
 stepBefore m recording t n k =
@@ -97,7 +97,7 @@ record Verdicts : Type 0 where
   airtime : verdict (monitorAt longerAck) (packetsAt inItsAirtime) 10000 ≡ Rejected 13 6 2 0
 
 verdicts : Verdicts
-unfolding table longerAck atItsInstant inAnother inItsAirtime run
+unfolding table longerAck atItsInstant inAnother inItsAirtime runOf
 verdicts = record { instant = refl; another = refl; airtime = refl }
 
 -- each removed row is to the unit
@@ -143,7 +143,7 @@ pub record Narrower : Type 0 where
   pub airtime : Narrowed (monitorAt longerAck) (packetsAt inItsAirtime) (64 ∷ 65 ∷ 64 ∷ 64 ∷ 64 ∷ 2 ∷ []) inItsAirtimeGiven 13 6 2 0
 
 pub narrower : Narrower
-unfolding table longerAck atItsInstant inAnother inItsAirtime atItsInstantGiven inAnotherGiven inItsAirtimeGiven run movedBefore stepBefore heard sentRows packets
+unfolding table longerAck atItsInstant inAnother inItsAirtime atItsInstantGiven inAnotherGiven inItsAirtimeGiven runOf movedBefore stepBefore heard sentRows packets
 narrower =
     record {
       instant =

@@ -2,15 +2,16 @@
 use Prim.Native.Nat.{ℕ, suc, _-_, _≤_}
 use mathlib.Core.Path.{_≡_, refl, sym, _∙_}
 use mathlib.Core.List.{List, _∷_}
-use mathlib.Core.Bool.{Bool, true, cond, not, _&&_, _||_}
+use mathlib.Core.Bool.{Bool, true, false, cond, not, _&&_, _||_}
 use mathlib.Core.Option.{Option, none, some, Option·map, Option·none-ne-some, Option·some-ne-none, Option·some-injective}
 use lib.Dec.{leb, eqb}
 use borrow.Author.Tests.{eqb-true, leb-true, eq-eqb}
 use Rattle.model.specs.Edition.{latestTime}
-use Rattle.model.specs.Monitor.{Monitor, Config, wait, fires}
+use Rattle.model.specs.Rule.{windowBehind, allows}
+use Rattle.model.specs.Monitor.{Monitor, Config, wait, fires, withinRule}
 use Rattle.model.specs.Trace.{Packet}
 use Rattle.model.specs.Witness.{Row, kept, removed, noTransition, isRemoved, inForm, follows, inPlace}
-use Rattle.model.specs.Rules.{Progress, noneBefore, behindRow, sends, removes, keeps, adds, account, broken}
+use Rattle.model.specs.Rules.{Progress, noneBefore, behindRow, guessed, sends, removes, keeps, adds, account, broken}
 use Rattle.model.specs.declared.Edition.{Edition}
 use Rattle.model.proofs.Basics.{and-left, and-right, cond-some}
 
@@ -66,16 +67,29 @@ passed edition m p r q e =
       by = h .1;
     }
 
--- a kept or added row fires its transition
+-- behind a kept or added row that led to c
+abbrev pub behindSent : Monitor → Progress → Row → List Packet → Config → Progress
+behindSent m p r left c = behindRow m r left (r .time) (windowBehind (m .rule) (p .window) (guessed m r)) c
+
+-- a kept or added row fires its transition and keeps the rule
 pub sends-fires : (m : Monitor) (p : Progress) (r : Row) (left : List Packet) (q : Progress) → sends m p r left ≡ some q
-    → (c : Config) × (fires m (r .transition) (r .kind) (wait (r .time - p .now) (p .config)) ≡ some c) × (behindRow m r left (r .time) c ≡ q)
-unfolding sends
-sends-fires m p r left q e = go (fires m (r .transition) (r .kind) (wait (r .time - p .now) (p .config))) refl e
+    → (c : Config)
+    × (fires m (r .transition) (r .kind) (wait (r .time - p .now) (p .config)) ≡ some c)
+    × (behindSent m p r left c ≡ q)
+    × (allows (m .rule) (p .window) (guessed m r) ≡ true)
+unfolding sends withinRule
+sends-fires m p r left q e = go (allows (m .rule) (p .window) (guessed m r)) refl (fires m (r .transition) (r .kind) (wait (r .time - p .now) (p .config))) refl e
   where
-    go : (o : Option Config) → fires m (r .transition) (r .kind) (wait (r .time - p .now) (p .config)) ≡ o → Option·map (behindRow m r left (r .time)) o ≡ some q
-        → (c : Config) × (fires m (r .transition) (r .kind) (wait (r .time - p .now) (p .config)) ≡ some c) × (behindRow m r left (r .time) c ≡ q)
-    go none f h = absurd (Option·none-ne-some q h)
-    go (some c) f h = (c, f, Option·some-injective (behindRow m r left (r .time) c) q h)
+    go : (allowed : Bool) → allows (m .rule) (p .window) (guessed m r) ≡ allowed
+        → (o : Option Config) → fires m (r .transition) (r .kind) (wait (r .time - p .now) (p .config)) ≡ o
+        → Option·map (behindSent m p r left) (cond allowed o none) ≡ some q
+        → (c : Config)
+        × (fires m (r .transition) (r .kind) (wait (r .time - p .now) (p .config)) ≡ some c)
+        × (behindSent m p r left c ≡ q)
+        × (allows (m .rule) (p .window) (guessed m r) ≡ true)
+    go true a none f h = absurd (Option·none-ne-some q h)
+    go true a (some c) f h = (c, f, Option·some-injective (behindSent m p r left c) q h, a)
+    go false a o f h = absurd (Option·none-ne-some q h)
 
 -- rows, the first of which is accounted for
 

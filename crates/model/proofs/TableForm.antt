@@ -3,7 +3,7 @@ use Prim.Native.Nat.{ℕ, zero, suc, _+_, _*_, _^_, _<_, _≤_}
 use native.Mathlib.Nat.{zero-add, add-zero}
 use native.Mathlib.Decide.{ℕ-discrete}
 use native.Mathlib.Omega.{arith}
-use mathlib.Core.Path.{_≡_, sym, ap, subst, _∙_}
+use mathlib.Core.Path.{_≡_, refl, sym, ap, subst, _∙_}
 use mathlib.Core.List.{List, [], _∷_}
 use mathlib.Core.Bool.{Bool, true}
 use mathlib.Core.Option.{some}
@@ -16,8 +16,9 @@ use Rattle.model.specs.First.{unless, firstOf}
 use Rattle.model.specs.Frame.{framed}
 use Rattle.model.specs.Guard.{upTo, guardAt, endsAt, guardOf}
 use Rattle.model.specs.Kinds.{versionAt, kindAt, kindRecord}
+use Rattle.model.specs.Rule.{noRule}
 use Rattle.model.specs.Monitor.{Transition}
-use Rattle.model.specs.Size.{size}
+use Rattle.model.specs.Size.{tableSize, size}
 use Rattle.model.specs.Reach.{statesAnswer}
 use Rattle.model.specs.Table.{guardIn, transitionIn, monitorOf, statesAt, variablesAt, clocksAt, kindsAt, transitionsAt, tableCounts, countsOf, kindRecords, apart, guardLengthAt, transitionFields, guardRecord, transitionRecord, transitionRecords, transitionAt, guardPlace, deviceColumn, tableParts, scanWith, tableScan, wholeAnswer, answerWith, tableAnswer, SoundTable, monitorAt}
 use Rattle.model.specs.declared.Reading.{Reading}
@@ -188,12 +189,22 @@ pub table-facts : (b : List ℕ) → SoundTable b → TableFacts (deviceColumn b
 unfolding tableAnswer
 table-facts b e = scan-facts (deviceColumn b) b (scan-sound (deviceColumn b) b e)
 
-pub table-small : (b : List ℕ) → SoundTable b → size (monitorAt b) ≤ sizeLimit
+pub table-small : (b : List ℕ) → SoundTable b → tableSize (monitorAt b) ≤ sizeLimit
 unfolding tableAnswer answerWith tableScan wholeAnswer
 table-small b e =
     let all : List Reading = tableScan b ∷ wholeAnswer (monitorAt b) ∷ [] in
-    let whole : List Reading = unless (leb (size (monitorAt b)) sizeLimit) TableSize ∷ statesAnswer (monitorAt b) ∷ [] in
+    let whole : List Reading = unless (leb (tableSize (monitorAt b)) sizeLimit) TableSize ∷ statesAnswer (monitorAt b) ∷ [] in
     le-test _ _ TableSize (test whole (test all e 1) 0)
+
+-- a table's monitor has no rule, and so no larger N
+
+pub plain-rule : (b : List ℕ) → monitorAt b .rule ≡ noRule
+unfolding monitorOf
+plain-rule b = refl
+
+pub plain-size : (b : List ℕ) → size (monitorAt b) ≡ tableSize (monitorAt b)
+unfolding size monitorOf
+plain-size b = omega arith
 
 -- the parts, where the counts reach
 
@@ -281,4 +292,5 @@ sane-table b s =
           let f : some (transitionIn (tableParts b) j) ≡ some t = sym (getElem-tab (transitionIn (tableParts b)) (transitionsAt b) j h) ∙ e in
           let same : transitionIn (tableParts b) j ≡ t = cc in
           subst (λ (x : Transition). SaneTransition (monitorAt b) x) same (sane-transition b facts j h);
+      window = omega arith;
     }

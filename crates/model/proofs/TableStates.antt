@@ -10,7 +10,7 @@ use Rattle.model.specs.Limits.{sizeLimit}
 use Rattle.model.specs.First.{unless, firstOf}
 use Rattle.model.specs.Monitor.{Monitor}
 use Rattle.model.specs.Reach.{Reached, LowestUnreached, StatesJudged, isReached, lowestMissing, statesAnswer}
-use Rattle.model.specs.Size.{size}
+use Rattle.model.specs.Size.{tableSize}
 use Rattle.model.specs.Table.{tableParts, tableScan, wholeAnswer, answerWith, tableAnswer, monitorOf, monitorAt}
 use Rattle.model.specs.Numbers.{readingValues}
 use Rattle.model.specs.Answers.{SoundButStates, RefusesUnreached}
@@ -52,7 +52,7 @@ module _ (b : List ℕ) where
   states = statesAnswer (monitorAt b)
 
   abbrev sized : Reading
-  sized = unless (leb (size (monitorAt b)) sizeLimit) TableSize
+  sized = unless (leb (tableSize (monitorAt b)) sizeLimit) TableSize
 
   abbrev whole : List Reading
   whole = sized ∷ states ∷ []
@@ -64,19 +64,19 @@ module _ (b : List ℕ) where
 
   sound-last : (tableAnswer b ≡ Sound) ↔ (SoundButStates b × (states ≡ Sound))
   unfolding tableAnswer answerWith tableScan wholeAnswer
-  sound-last = (there, λ w. rw (w .0 .0, le-leb (size (monitorAt b)) sizeLimit (w .0 .1), w .1))
+  sound-last = (there, λ w. rw (w .0 .0, le-leb (tableSize (monitorAt b)) sizeLimit (w .0 .1), w .1))
     where
       there : firstOf all ≡ Sound → SoundButStates b × (states ≡ Sound)
       there e = let w : firstOf whole ≡ Sound = test all e 1 in ((test all e 0, le-test _ _ TableSize (test whole w 0)), test whole w 1)
 
   refused-last : (s : ℕ) → (tableAnswer b ≡ Unsound (TableState s)) ↔ (SoundButStates b × (states ≡ Unsound (TableState s)))
   unfolding tableAnswer answerWith tableScan wholeAnswer
-  refused-last s = (there, λ w. rw (w .0 .0, le-leb (size (monitorAt b)) sizeLimit (w .0 .1), w .1))
+  refused-last s = (there, λ w. rw (w .0 .0, le-leb (tableSize (monitorAt b)) sizeLimit (w .0 .1), w .1))
     where
       there : firstOf all ≡ Unsound (TableState s) → SoundButStates b × (states ≡ Unsound (TableState s))
       there e =
           let scanned = behind-earlier (tableScan b) (firstOf whole) s (scan-earlier b) e in
-          let last = behind-earlier sized states s (unless-earlier (leb (size (monitorAt b)) sizeLimit) TableSize refl) (scanned .1) in
+          let last = behind-earlier sized states s (unless-earlier (leb (tableSize (monitorAt b)) sizeLimit) TableSize refl) (scanned .1) in
           ((scanned .0, le-test _ _ TableSize (last .0)), last .1)
 
   pub refuses-unreached : RefusesUnreached b (tableAnswer b)

@@ -11,6 +11,7 @@ use Rattle.model.specs.Bytes.{byteAt, wordAt, wordBytes, joined}
 use lib.Dec.{eqb}
 use Rattle.model.specs.Guard.{guardAt, guardOf}
 use Rattle.model.proofs.GuardForm.{guard-moved, moved-guard}
+use Rattle.model.specs.Rule.{noRule}
 use Rattle.model.specs.Table.{guardIn, transitionIn, monitorOf, monitorAt, kindsAt, transitionsAt, guardLengthAt, transitionAt, guardPlace, tableParts, SoundTable, kindRecords, scanWith, answerWith, tableAnswer, tableWritable, kindColumn, deviceColumn, transitionColumn, fieldBytes, guardBytesIn, transitionBytes, countBytes, tableBody, tableBytes}
 use Rattle.model.specs.Kinds.{versionAt, kindWidth, kindAt, deviceAt, kindRecord, kindFields, kindBytes}
 use Rattle.model.specs.Same.{Zero, SameTable, TableZero}
@@ -352,6 +353,7 @@ module _ (t u : TableParts) (same : SameTable t u) (few : (j : ℕ) → j < u .t
         airtimes = airtimes i;
         devices = devices i;
         transitions = transitions i;
+        rule = noRule;
       }
 
 pub monitor-back : (t : TableParts) → length (t .guards) ≡ guardLimit * transitionLimit → scanWith (t .devices) (tableBytes t) ≡ Sound → monitorAt (tableBytes t) ≡ monitorOf t

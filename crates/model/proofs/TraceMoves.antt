@@ -5,18 +5,21 @@ use native.Mathlib.Omega.{arith}
 use native.Mathlib.Decide.{ℕ-discrete}
 use mathlib.Core.Path.{_≡_, refl, sym, ap, subst, _∙_}
 use mathlib.Core.List.{List, [], _∷_, map-map, map-id, List·Memᴰ, List·Memᴰ·head, List·Memᴰ·tail, List·Memᴰ·not-nil, List·Memᴰ·cases-cons, List·Memᴰ·eq-of-singleton}
-use mathlib.Core.Bool.{true}
-use mathlib.Core.Option.{Option, none, some, Option·map, bind, Option·none-ne-some, Option·some-injective}
+use mathlib.Core.Bool.{Bool, true, false, not, _&&_, _||_}
+use mathlib.Core.Option.{Option, none, some, Option·map, bind, Option·none-ne-some, Option·some-ne-none, Option·some-injective}
 use mathlib.Core.Logic.{_↔_, _⊎_, inl, inr, ⊎-elim}
 use lib.ListN.{length}
-use borrow.Author.Tests.{eq-eqb}
+use lib.Dec.{eqb}
+use borrow.Author.Tests.{eq-eqb, ne-eqb}
 use Rattle.model.specs.Limits.{transitionLimit}
-use Rattle.model.specs.Monitor.{Monitor, Config, start, wait, fires, toUnit, airtime}
-use Rattle.model.specs.Trace.{Packet, Spaced, PacketTrace, Carries, Possible}
+use Rattle.model.specs.Rule.{windowBehind, allows}
+use Rattle.model.specs.Monitor.{Monitor, Config, start, wait, fires, toUnit, airtime, isGuess, withinRule}
+use Rattle.model.specs.Trace.{Packet, Spaced, PacketTrace, Carries, Possible, isRecorded, guessesIn, PossibleUnder}
 use Rattle.model.specs.Recording.{endOf}
 use Rattle.model.specs.Situation.{configOf, withAir, uncapped, firstBy, sent, missed, triggerOf, moved, tick, stepBy, recordedAt, moveLimit, moveOf, restMove, firstAdd}
 use Rattle.model.specs.declared.Situation.{Situation}
 use Rattle.model.specs.Sane.{Sane, SaneRecording}
+use Rattle.model.proofs.RuleLaws.{Keeping, row-by-row}
 use Rattle.model.proofs.Chains.{Moves}
 use Rattle.model.proofs.Instants.{moveOf-keep, moveOf-rest, moveOf-add, recorded-here, recorded-later, fires-trigger, trigger-number}
 use Rattle.model.proofs.Spacing.{TraceFrom, freeAfter, trace-from, from-earlier, from-next, spaced-from, from-time, behind-first, only-first}
@@ -34,6 +37,29 @@ recorded-member (p ∷ ps) t k e = split (λ q. recorded-member ps t k q) (ℕ-d
     split : (recordedAt ps t ≡ some k → List·Memᴰ (record { time = t; kind = k }) ps) → Dec (p .time ≡ t) → List·Memᴰ (record { time = t; kind = k }) (p ∷ ps)
     split below (yes a) = List·Memᴰ·head (same a (Option·some-injective (p .kind) k (sym (recorded-here p ps t a) ∙ e)))
     split below (no a) = List·Memᴰ·tail (below (sym (recorded-later p ps t a) ∙ e))
+
+-- and so it is recorded as an entry; at an instant where nothing is, no entry is
+
+entry-recorded : (recording : List Packet) (p : Packet) → recordedAt recording (p .time) ≡ some (p .kind) → isRecorded recording p ≡ true
+unfolding recordedAt isRecorded
+entry-recorded [] p e = absurd (Option·none-ne-some (p .kind) e)
+entry-recorded (q ∷ qs) p e = split (λ f. entry-recorded qs p f) (ℕ-discrete (q .time) (p .time))
+  where
+    split : (recordedAt qs (p .time) ≡ some (p .kind) → isRecorded qs p ≡ true) → Dec (q .time ≡ p .time)
+        → (eqb (q .time) (p .time) && eqb (q .kind) (p .kind)) || isRecorded qs p ≡ true
+    split below (yes a) =
+        rw (eq-eqb (q .time) (p .time) a, eq-eqb (q .kind) (p .kind) (Option·some-injective (q .kind) (p .kind) (sym (recorded-here q qs (p .time) a) ∙ e)))
+    split below (no a) = rw (ne-eqb (q .time) (p .time) a) (below (sym (recorded-later q qs (p .time) a) ∙ e))
+
+entry-absent : (recording : List Packet) (p : Packet) → recordedAt recording (p .time) ≡ none → isRecorded recording p ≡ false
+unfolding recordedAt isRecorded
+entry-absent [] p e = refl
+entry-absent (q ∷ qs) p e = split (λ f. entry-absent qs p f) (ℕ-discrete (q .time) (p .time))
+  where
+    split : (recordedAt qs (p .time) ≡ none → isRecorded qs p ≡ false) → Dec (q .time ≡ p .time)
+        → (eqb (q .time) (p .time) && eqb (q .kind) (p .kind)) || isRecorded qs p ≡ false
+    split below (yes a) = absurd (Option·some-ne-none (q .kind) (sym (recorded-here q qs (p .time) a) ∙ e))
+    split below (no a) = rw (ne-eqb (q .time) (p .time) a) (below (sym (recorded-later q qs (p .time) a) ∙ e))
 
 -- waiting
 
@@ -79,18 +105,20 @@ module _ (m : Monitor) where
       waited b d e = wait-again b 1 c ∙ rw e
 
   module _ (s : Situation) where
-    -- a packet can be sent where the air is free and its transition fires
-    sent-free : (j k : ℕ) (d : Config) → s .air ≡ 0 → fires m j k (configOf s) ≡ some d → sent m j k s ≡ some (withAir d (airtime m k + 1))
-    unfolding sent
-    sent-free j k d free e = rw (eq-eqb (s .air) 0, e)
+    -- a packet can be sent where the air is free, its transition fires, and the rule is kept
+    sent-free : (guess : Bool) (j k : ℕ) (d : Config) → s .air ≡ 0 → allows (m .rule) (s .window) guess ≡ true → fires m j k (configOf s) ≡ some d
+        → sent m guess j k s ≡ some (withAir d (airtime m k + 1) (windowBehind (m .rule) (s .window) guess))
+    unfolding sent withinRule
+    sent-free guess j k d free allowed e = rw (eq-eqb (s .air) 0, allowed, e)
 
     -- the move by which a packet of kind k goes by transition j: it keeps what is recorded, if anything is
     sends :
         (j k : ℕ) → j < transitionLimit → triggerOf m j ≡ some k → (recorded : Option ℕ) → ((a : ℕ) → recorded ≡ some a → a ≡ k)
-        → (n : ℕ) × (n < moveLimit) × (moved m recorded s (moveOf n) ≡ sent m j k s)
+        → (guess : Bool) → ((a : ℕ) → recorded ≡ some a → guess ≡ false) → (recorded ≡ none → guess ≡ isGuess m k)
+        → (n : ℕ) × (n < moveLimit) × (moved m recorded s (moveOf n) ≡ sent m guess j k s)
     unfolding moved bind
-    sends j k few trigger none same = (firstAdd + j, omega arith, rw (moveOf-add j, trigger))
-    sends j k few trigger (some a) same = (j, omega arith, rw (moveOf-keep j few, same a refl))
+    sends j k few trigger none same guess heard silent = (firstAdd + j, omega arith, rw (moveOf-add j, trigger, silent refl))
+    sends j k few trigger (some a) same guess heard silent = (j, omega arith, rw (moveOf-keep j few, same a refl, heard a refl))
 
     rests : (recorded : Option ℕ) → ((a : ℕ) → recorded ≡ some a → ⊥) → moved m recorded s (moveOf restMove) ≡ some s
     unfolding moved
@@ -98,18 +126,19 @@ module _ (m : Monitor) where
     rests (some a) quiet = absurd (quiet a refl)
 
     -- a recorded packet to the unit can be removed where the air is free
-    misses : (k : ℕ) → s .air ≡ 0 → toUnit m k ≡ true → moved m (some k) s (moveOf restMove) ≡ some (withAir (configOf s) (airtime m k + 1))
+    misses : (k : ℕ) → s .air ≡ 0 → toUnit m k ≡ true → moved m (some k) s (moveOf restMove) ≡ some (withAir (configOf s) (airtime m k + 1) (s .window))
     unfolding moved missed
     misses k free inbound = rw (moveOf-rest, eq-eqb (s .air) 0 free, inbound)
 
   module _ (recording : List Packet) where
     -- what is on the air from instant t + 1 on, where the situation just before that instant is s: it finds the air free, it is what is recorded and what the
-    -- trace has, the trace carries the monitor, and recorded packets that it lacks are to the unit
+    -- trace has, the trace carries the monitor and keeps the rule, and recorded packets that it lacks are to the unit
     record Tracks (t : ℕ) (s : Situation) (all tr : List Packet) : Type 0 where
       ahead : TraceFrom m (suc t + s .air) all
       entries : (p : Packet) → t < p .time → List·Memᴰ p all ↔ (List·Memᴰ p recording ⊎ List·Memᴰ p tr)
       later : TraceFrom m (suc t) tr
       carries : Carries m (suc t) (configOf s) tr
+      kept : Keeping (m .rule) (s .window) (guessesIn m recording tr)
       mutation : (p : Packet) → List·Memᴰ p recording → t < p .time → (List·Memᴰ p tr → ⊥) → toUnit m (p .kind) ≡ true
 
     -- one instant: a move, and what is on the air and in the trace after it
@@ -142,6 +171,7 @@ module _ (m : Monitor) where
                 entries = λ p h. x .entries p (omega arith);
                 later = trace-late;
                 carries = carries-tick (suc t) (configOf s) tr trace-late (x .carries);
+                kept = x .kept;
                 mutation = λ p i h lacks. x .mutation p i (omega arith) lacks;
               };
         }
@@ -164,7 +194,7 @@ module _ (m : Monitor) where
           record {
             number = restMove;
             below = omega arith;
-            next = tick uncapped (withAir (configOf s) (airtime m (p .kind) + 1));
+            next = tick uncapped (withAir (configOf s) (airtime m (p .kind) + 1) (s .window));
             moves =
                 ap (Option·map (tick uncapped))
                 (ap (λ (o : Option ℕ). moved m o s (moveOf restMove)) heard
@@ -178,6 +208,7 @@ module _ (m : Monitor) where
                       λ q h. (λ i. x .entries q (omega arith) .0 (List·Memᴰ·tail i), λ i. behind-first p r q (omega arith) (x .entries q (omega arith) .1 i));
                   later = late;
                   carries = carries-tick (suc t) (configOf s) tr late (x .carries);
+                  kept = x .kept;
                   mutation = λ q i h. x .mutation q i (omega arith);
                 };
           }
@@ -193,13 +224,13 @@ module _ (m : Monitor) where
 
       -- the move of the packet's transition, where the packet on the air at instant t + 1 is in the trace
       goes-sending : (t : ℕ) (s : Situation) (p : Packet) (r tr : List Packet) → p .time ≡ suc t → Tracks t s (p ∷ r) (p ∷ tr) → Goes t s
-      unfolding stepBy
+      unfolding stepBy guessesIn
       goes-sending t s p r tr now x =
           record {
             number = sending .0;
             below = sending .1;
-            next = tick uncapped (withAir d (airtime m (p .kind) + 1));
-            moves = ap (Option·map (tick uncapped)) (sending .2 ∙ sent-free s j (p .kind) d (omega (arith, x .ahead .0)) fired);
+            next = tick uncapped (withAir d (airtime m (p .kind) + 1) (windowBehind (m .rule) (s .window) guess));
+            moves = ap (Option·map (tick uncapped)) (sending .2 ∙ sent-free s guess j (p .kind) d (omega (arith, x .ahead .0)) (x .kept .0) fired);
             all = r;
             trace = tr;
             tracks =
@@ -214,6 +245,7 @@ module _ (m : Monitor) where
                   carries =
                       subst (λ (n : ℕ). Carries m (suc n) (wait 1 d) tr) now
                       (carries-tick (p .time) d tr (from-earlier m _ _ tr (omega arith) behind) (x .carries .3));
+                  kept = x .kept .1;
                   mutation = λ q i h lacks. x .mutation q i (omega arith) (λ l. lacks (behind-first p tr q (omega arith) l));
                 };
           }
@@ -245,8 +277,19 @@ module _ (m : Monitor) where
               (only-first m p r after (record { time = suc t; kind = a }) (sym now)
               (x .entries (record { time = suc t; kind = a }) (omega arith) .1 (inl (recorded-member recording (suc t) a e))))
 
-          sending : (n : ℕ) × (n < moveLimit) × (moved m (recordedAt recording (suc t)) s (moveOf n) ≡ sent m j (p .kind) s)
-          sending = sends s j (p .kind) (trigger-number m sane j (p .kind) trigger) trigger (recordedAt recording (suc t)) same
+          guess : Bool
+          guess = not (isRecorded recording p) && isGuess m (p .kind)
+
+          -- what is recorded at this instant is this packet, which then is no guess
+          if-heard : (a : ℕ) → recordedAt recording (suc t) ≡ some a → guess ≡ false
+          if-heard a e = rw (entry-recorded recording p (ap (recordedAt recording) now ∙ e ∙ ap {B = Option ℕ} some (same a e)))
+
+          if-silent : recordedAt recording (suc t) ≡ none → guess ≡ isGuess m (p .kind)
+          if-silent e = rw (entry-absent recording p (ap (recordedAt recording) now ∙ e))
+
+          sending : (n : ℕ) × (n < moveLimit) × (moved m (recordedAt recording (suc t)) s (moveOf n) ≡ sent m guess j (p .kind) s)
+          sending =
+              sends s j (p .kind) (trigger-number m sane j (p .kind) trigger) trigger (recordedAt recording (suc t)) same guess if-heard if-silent
 
       -- a packet on the air at instant t + 1: the trace's first is that, or later
       goes-busy : (t : ℕ) (s : Situation) (p : Packet) (r tr : List Packet) → p .time ≡ suc t → Tracks t s (p ∷ r) tr → Goes t s
@@ -279,14 +322,16 @@ module _ (m : Monitor) where
 
 -- where some trace explains the recording, moves lead through all its instants
 pub possible-moves :
-    (m : Monitor) (recording : List Packet) → Sane m → SaneRecording m recording → Possible m recording
+    (m : Monitor) (recording : List Packet) → Sane m → SaneRecording m recording → PossibleUnder m recording
     → (ks : List ℕ) × (z : Situation) × (length ks ≡ endOf recording) × Moves m recording 0 (firstBy uncapped) ks z
-possible-moves m recording sane recorded x =
+possible-moves m recording sane recorded y =
+    let x : Possible m recording = y .possible in
     runs m recording sane (recorded .trace) (endOf recording) 0 (firstBy uncapped) (x .together .all) (x .trace)
     (record {
       ahead = trace-from m (x .together .all) .0 (x .together .spaced);
       entries = λ p h. x .together .entries p;
       later = trace-from m (x .trace) .0 (x .spaced);
       carries = carries-tick m 0 start (x .trace) (trace-from m (x .trace) .0 (x .spaced)) (x .satisfied);
+      kept = row-by-row (m .rule) (guessesIn m recording (x .trace)) (sane .window) .1 (y .keeps);
       mutation = λ p i h lacks. x .mutation p i lacks;
     })

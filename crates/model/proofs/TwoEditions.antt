@@ -10,7 +10,7 @@ use Rattle.model.specs.Validation.{validation}
 use Rattle.model.specs.declared.Edition.{Edition}
 use Rattle.model.specs.declared.Edition.the-variants.{One, Two}
 use Rattle.model.specs.declared.WitnessParts.{WitnessParts}
-use Rattle.model.proofs.Examples.{run, runs, expected, table}
+use Rattle.model.proofs.Examples.{runOf, runs, expected, table}
 
 -- a witness of edition 1, of less than 254 bytes, in edition 2; no bytes are no witness
 pub longer : List ℕ → List ℕ
@@ -104,5 +104,5 @@ pub record Answered : Type 0 where
   pub wrote : map (λ c. writingValues (writeWitness (c .0) (c .1) (replicate (c .2) 7) .answer)) writings ≡ map (λ c. c .3) writings
 
 pub two-editions : Answered
-unfolding run runs expected longer table ending handovers short long witnesses empty kept writings inForm misformed rowAt witnessFrame witnessAnswer rowIn witnessWritable writeWitness
+unfolding runOf runs expected longer table ending handovers short long witnesses empty kept writings inForm misformed rowAt witnessFrame witnessAnswer rowIn witnessWritable writeWitness
 two-editions = record { twelve = refl; judged = refl; read = refl; wrote = refl }

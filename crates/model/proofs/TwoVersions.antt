@@ -11,7 +11,7 @@ use Rattle.model.specs.Numbers.{Values, values, readingValues, writingVa
 use Rattle.model.specs.Versions.{SameOtherBytes}
 use Rattle.model.specs.declared.Edition.the-variants.{One}
 use Rattle.model.specs.declared.TableParts.{TableParts}
-use Rattle.model.proofs.Examples.{run, runs, expected, table}
+use Rattle.model.proofs.Examples.{runOf, runs, expected, table}
 use Rattle.model.proofs.OtherBytes.{inVersion}
 
 -- three kinds as version 2 has them: DATA and RETRY from the unit, ACK from device 5
@@ -92,7 +92,7 @@ pub record Answered : Type 0 where
   pub bytes : take 71 (writeTable (inVersion 2 (0 ∷ 0 ∷ 5 ∷ []) small) room .room) ≡ versionTwo
 
 pub two-versions : Answered
-unfolding run runs expected versionTwo smallWith threeKinds table cases small smallBad writings room kindBytes tableBody tableBytes writeTable tableParts
+unfolding runOf runs expected versionTwo smallWith threeKinds table cases small smallBad writings room kindBytes tableBody tableBytes writeTable tableParts
 two-versions = record { twelve = refl; other = record { counts = refl; kinds = kind; transitions = refl }; read = refl; implied = refl; stated = refl; wrote = refl; bytes = refl }
   where
     kind : (i : ℕ) → i < 3 → take 2 (drop (8 + 3 * i) versionTwo) ≡ take 2 (drop (8 + 2 * i) table)

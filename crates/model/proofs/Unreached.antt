@@ -7,7 +7,7 @@ use Rattle.model.specs.Bytes.{wordBytes}
 use Rattle.model.specs.Numbers.{Values, values, readingValues}
 use Rattle.model.specs.Table.{tableAnswer}
 use Rattle.model.specs.declared.Edition.the-variants.{One}
-use Rattle.model.proofs.Examples.{run, refused, table, p5}
+use Rattle.model.proofs.Examples.{runOf, run, refused, table, p5}
 
 -- the small monitor with a fourth state, as a vendor's table had one
 pub vendor : List ℕ
@@ -16,7 +16,7 @@ vendor = set table 3 4
 
 -- Transition records on kind 0 that set, clear and reset nothing
 
-link : ℕ → ℕ → List ℕ
+unfoldable pub link : ℕ → ℕ → List ℕ
 link source target = source ∷ target ∷ 0 ∷ 0 ∷ 0 ∷ 0 ∷ 1 ∷ 0 ∷ []
 
 -- a guard that never holds: not true
@@ -24,17 +24,17 @@ never : ℕ → ℕ → List ℕ
 never source target = source ∷ target ∷ 0 ∷ 0 ∷ 0 ∷ 0 ∷ 2 ∷ 4 ∷ 0 ∷ []
 
 -- from state 0 to itself, while clock 0 is at most T
-clocked : ℕ → List ℕ
+unfoldable pub clocked : ℕ → List ℕ
 clocked T = 0 ∷ 0 ∷ 0 ∷ 0 ∷ 0 ∷ 0 ∷ 3 ∷ 1 ∷ 0 ∷ T ∷ []
 
 -- n - 1 to n, .. 1 to 2, 0 to 1
-falling : ℕ → List ℕ
+unfoldable pub falling : ℕ → List ℕ
 unfolding link
 falling zero = []
 falling (suc n) = link n (suc n) ++ falling n
 
 -- a table of so many states, variables and clocks, one kind, and these transition records
-linked : (states variables clocks count : ℕ) → (records : List ℕ) → List ℕ
+unfoldable pub linked : (states variables clocks count : ℕ) → (records : List ℕ) → List ℕ
 linked states variables clocks count records = wordBytes (8 + length records) ++ (1 ∷ states ∷ variables ∷ clocks ∷ 1 ∷ count ∷ 0 ∷ 0 ∷ records)
 
 -- One state and no transition, two; a chain whose links stand in falling order, whole, without the link to its last state, and with the one to state 8 from 8 itself;
@@ -58,5 +58,5 @@ pub record Answered : Type 0 where
   pub read : map (λ c. readingValues (tableAnswer (c .0))) cases ≡ map (λ c. c .1) cases
 
 pub unreached : Answered
-unfolding run refused vendor table p5 cases
+unfolding runOf refused vendor table p5 cases
 unreached = record { judged = refl; read = refl }

@@ -5,7 +5,7 @@ use mathlib.Core.Logic.{_↔_}
 use mathlib.Core.List.{List}
 use Rattle.model.specs.Limits.{sizeLimit}
 use Rattle.model.specs.Room.{Lent}
-use Rattle.model.specs.Size.{size}
+use Rattle.model.specs.Size.{tableSize}
 use Rattle.model.specs.Reach.{Reached, LowestUnreached}
 use Rattle.model.specs.Table.{statesAt, tableScan, monitorAt}
 use Rattle.model.specs.Numbers.{values, refusalValues, readingValues, writingValues}
@@ -22,7 +22,7 @@ pub record Reads {P : Type 0} (given : Reading) (whole none : P) (answer : Readi
 
 -- none of the numbers 10 to 16 applies
 abbrev pub SoundButStates : List ℕ → Type 0
-SoundButStates b = (tableScan b ≡ Sound) × (size (monitorAt b) ≤ sizeLimit)
+SoundButStates b = (tableScan b ≡ Sound) × (tableSize (monitorAt b) ≤ sizeLimit)
 
 -- "Refuse with 17, after 16, a table in which some state cannot be reached from state 0 [..]; second value the lowest such state" (document 02, R-8)
 pub record RefusesUnreached (b : List ℕ) (answer : Reading) : Type 0 where

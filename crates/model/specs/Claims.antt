@@ -1,17 +1,19 @@
 -- The customer's demands 2 and 3, in the paper's words.
-use Prim.Native.Nat.{ℕ, _*_, _-_, _<_, _≤_}
+use Prim.Native.Nat.{ℕ, _+_, _*_, _-_, _<_, _≤_}
 use mathlib.Core.Path.{_≡_}
 use mathlib.Core.Logic.{_↔_}
 use mathlib.Core.List.{List, [], _∷_, List·Memᴰ}
-use mathlib.Core.Bool.{true, cond}
+use mathlib.Core.Bool.{Bool, true, cond}
 use mathlib.Core.Option.{Option, some}
-use lib.ListN.{length}
+use lib.ListN.{length, take}
+use Rattle.model.specs.Rule.{KeepsRule}
 use Rattle.model.specs.Monitor.{Monitor, Config, start, wait, fires, toUnit}
-use Rattle.model.specs.Trace.{Packet, PacketTrace, Possible}
+use Rattle.model.specs.Trace.{Packet, PacketTrace, Possible, PossibleUnder}
 use Rattle.model.specs.Size.{size}
 use Rattle.model.specs.Situation.{Move, capped, firstBy, stepBy, InRange, number, situationOf}
 use Rattle.model.specs.Recording.{endOf}
 use Rattle.model.specs.Witness.{Row, added, removed, isRemoved}
+use Rattle.model.specs.Rules.{guessed}
 use Rattle.model.specs.Order.{Preferred}
 use Rattle.model.specs.Layers.{count}
 use Rattle.model.specs.Validation.{costOf, totalOf, possibleAfter, preferred}
@@ -55,6 +57,21 @@ pub record Explains (m : Monitor) (recording : List Packet) (rows : List Row) : 
   pub inbound : (r : Row) → List·Memᴰ r rows → r .mark ≡ removed → toUnit m (r .kind) ≡ true
   pub spaced : PacketTrace m (packets rows)
   pub carried : CarriedBy m 0 start (sentRows rows)
+
+-- of each kept or added row, is it a guess (document 02, R-7)?
+unfoldable pub guesses : Monitor → List Row → List Bool
+guesses m [] = []
+guesses m (r ∷ rs) = guessed m r ∷ guesses m rs
+
+-- under the monitor's rule, besides, the kept and added rows keep it
+pub record ExplainsUnder (m : Monitor) (recording : List Packet) (rows : List Row) : Type 0 where
+  pub explains : Explains m recording rows
+  pub keeps : KeepsRule (m .rule) (guesses m (sentRows rows))
+
+-- "a witness row that first breaks it": the kept and added rows before row i keep the rule, and with row i they do not
+pub record FirstBreaks (m : Monitor) (rows : List Row) (i : ℕ) : Type 0 where
+  pub before : KeepsRule (m .rule) (guesses m (sentRows (take i rows)))
+  pub here : KeepsRule (m .rule) (guesses m (sentRows (take (i + 1) rows))) → ⊥
 
 -- Demand 3
 
@@ -107,13 +124,20 @@ pub record Numbered (m : Monitor) : Type 0 where
 
 -- "exhausted exactly when the cost is above the budget; within budget accepted exactly when some mutation trace of any length, at any positive times, satisfies the
 -- monitor, else rejected; [..] the preferred witness is permitted, has no row after the last recorded time, and comes before every other such one. A budget of T
--- times N always suffices"
-pub record Judged (edition : Edition) (m : Monitor) (recording : List Packet) (budget : ℕ) (v : Verdict) : Type 0 where
+-- times N always suffices". Explainable: that there is such a mutation trace
+pub record JudgedBy (explainable : Type 0) (edition : Edition) (m : Monitor) (recording : List Packet) (budget : ℕ) (v : Verdict) : Type 0 where
   pub exhausted : IsExhausted v ↔ (budget < costOf m recording)
-  pub accepted : costOf m recording ≤ budget → IsAccepted v ↔ Possible m recording
-  pub rejected : costOf m recording ≤ budget → IsRejected v ↔ (Possible m recording → ⊥)
+  pub accepted : costOf m recording ≤ budget → IsAccepted v ↔ explainable
+  pub rejected : costOf m recording ≤ budget → IsRejected v ↔ (explainable → ⊥)
   pub valued : ValuesOf m recording budget v
   pub witnessed : IsAccepted v → Preferred edition m recording (preferred m recording)
   pub short : length (preferred m recording) ≤ endOf recording
   pub bounded : costOf m recording ≤ endOf recording * size m
   pub distinct : Numbered m
+
+abbrev pub Judged : Edition → Monitor → List Packet → (budget : ℕ) → Verdict → Type 0
+Judged edition m recording = JudgedBy (Possible m recording) edition m recording
+
+-- under the monitor's rule, of mutation traces that keep it
+abbrev pub JudgedUnder : Edition → Monitor → List Packet → (budget : ℕ) → Verdict → Type 0
+JudgedUnder edition m recording = JudgedBy (PossibleUnder m recording) edition m recording

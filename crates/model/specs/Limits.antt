@@ -1,4 +1,4 @@
--- The limits that document 01 and document 02's R-5 and R-6 set, each once; those of a witness are its edition's.
+-- The limits that document 01 and document 02's R-5, R-6 and R-7 set, each once; those of a witness are its edition's.
 use Prim.Native.Nat.{ℕ}
 
 -- the latest version of a table, which has version 1 or 2 (R-6)
@@ -29,6 +29,10 @@ airtimeLimit = 15
 -- "the sending device, 0 to 15"
 abbrev pub deviceLimit : ℕ
 deviceLimit = 15
+
+-- "l is 1 to 8" (R-7)
+abbrev pub windowLimit : ℕ
+windowLimit = 8
 
 -- "guard length (1 to 32)"; so many places each guard has in a table's parts
 abbrev pub guardLimit : ℕ

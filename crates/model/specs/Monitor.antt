@@ -7,6 +7,7 @@ use lib.ListN.{getD, getElem?}
 use lib.Dec.{eqb}
 use Rattle.model.specs.Guard.{Guard, holds}
 use Rattle.model.specs.Readiness.{waited, readiness}
+use Rattle.model.specs.Rule.{Rule, allows}
 use Rattle.model.specs.declared.Readiness.{Readiness}
 pub use Rattle.model.specs.declared.Config.{Config}
 
@@ -20,7 +21,8 @@ pub record Transition : Type 0 where
   pub resets : ℕ
   pub guard : Guard
 
--- a list has an entry for each kind: is it addressed to the unit, its airtime, and the device that sends it
+-- a list has an entry for each kind: is it addressed to the unit, its airtime, and the device that sends it. The rule is no part of a table: a table's monitor has
+-- the one that forbids nothing
 pub record Monitor : Type 0 where
   pub states : ℕ
   pub variables : ℕ
@@ -29,6 +31,21 @@ pub record Monitor : Type 0 where
   pub airtimes : List ℕ
   pub devices : List ℕ
   pub transitions : List Transition
+  pub rule : Rule
+
+-- a monitor that is judged under another rule (document 02, R-7)
+abbrev pub under : Rule → Monitor → Monitor
+under rule m =
+    record {
+      states = m .states;
+      variables = m .variables;
+      clocks = m .clocks;
+      inbound = m .inbound;
+      airtimes = m .airtimes;
+      devices = m .devices;
+      transitions = m .transitions;
+      rule = rule;
+    }
 
 abbrev pub toUnit : Monitor → ℕ → Bool
 toUnit m k = getD (m .inbound) k false
@@ -39,6 +56,10 @@ airtime m k = getD (m .airtimes) k 0
 -- "the sending device, 0 to 15" (document 02, R-6)
 abbrev pub device : Monitor → ℕ → ℕ
 device m k = getD (m .devices) k 0
+
+-- an added row of kind k is a guess: it is from the rule's device
+abbrev pub isGuess : Monitor → ℕ → Bool
+isGuess m k = eqb (device m k) (m .rule .device)
 
 -- "It starts in state 0, variables false, clocks 0 at tick 0." The format has two places for clocks; an absent one is never read
 abbrev pub start : Config
@@ -73,6 +94,11 @@ enabled t k c = eqb (t .source) (c .state) && eqb (t .trigger) k && holds (t .gu
 -- transition number j on a packet of kind k: the configuration after it, or none
 unfoldable pub fires : Monitor → ℕ → ℕ → Config → Option Config
 fires m j k c = bind (getElem? (m .transitions) j) (λ t. cond (enabled t k c) (some (after m t c)) none)
+
+-- "only moves that keep it are moves" (R-7): behind rows whose guesses are those of a mask, a row that is a guess or not; o is where it leads, none if the rule
+-- forbids it
+unfoldable pub withinRule : Monitor → (window : ℕ) → (guess : Bool) → Option Config → Option Config
+withinRule m window guess o = cond (allows (m .rule) window guess) o none
 
 -- what transition number j answers to a packet of kind k: its guard's answer, none if there is no such transition or it is of another kind or from another state
 unfoldable pub tried : Monitor → ℕ → ℕ → Config → Option Readiness

@@ -8,11 +8,13 @@ use lib.ListN.{length}
 use lib.Dec.{leb, eqb}
 use Rattle.model.specs.Edition.{mostRows}
 use Rattle.model.specs.First.{firstOf}
-use Rattle.model.specs.Monitor.{Monitor, Config, start, wait, fires, toUnit, airtime}
+use Rattle.model.specs.Rule.{Rule, windowBehind}
+use Rattle.model.specs.Monitor.{Monitor, Config, start, wait, fires, toUnit, airtime, isGuess, withinRule}
 use Rattle.model.specs.Trace.{Packet}
 use Rattle.model.specs.Table.{monitorAt}
 use Rattle.model.specs.Recording.{recordingAnswer, packetsAt}
-use Rattle.model.specs.Witness.{Row, kept, isRemoved, inPlace, rowsAt, badRow, witnessFrame}
+use Rattle.model.specs.Ruled.{monitorUnder, ruledAnswer}
+use Rattle.model.specs.Witness.{Row, kept, added, isRemoved, inPlace, rowsAt, badRow, witnessFrame}
 use Rattle.model.specs.declared.Edition.{Edition}
 use Rattle.model.specs.declared.Reading.{Reading}
 use Rattle.model.specs.declared.Reading.the-variants.{Sound, Unsound}
@@ -30,9 +32,11 @@ pub record Progress : Type 0 where
   pub config : Config
   -- the first time at which the air is free
   pub free : ℕ
+  -- which of the last l-1 kept or added rows are guesses, as in a situation
+  pub window : ℕ
 
 abbrev pub begin : List Packet → Progress
-begin recording = record { before = none; left = recording; now = 0; config = start; free = 0 }
+begin recording = record { before = none; left = recording; now = 0; config = start; free = 0; window = 0 }
 
 -- "no recorded row of an earlier time is still unaccounted for"
 abbrev pub noneBefore : List Packet → ℕ → Bool
@@ -54,19 +58,24 @@ others [] = []
 others (p ∷ ps) = ps
 
 -- behind a row, which takes the air for its airtime
-abbrev pub behindRow : Monitor → Row → List Packet → (now : ℕ) → Config → Progress
-behindRow m r left now config =
-    record { before = some r; left = left; now = now; config = config; free = r .time + airtime m (r .kind) + 1 }
+abbrev pub behindRow : Monitor → Row → List Packet → (now window : ℕ) → Config → Progress
+behindRow m r left now window config =
+    record { before = some r; left = left; now = now; config = config; free = r .time + airtime m (r .kind) + 1; window = window }
 
--- of a kept or added row, "its transition has its kind and fires"
+-- the row is a guess: an added row from the rule's device
+abbrev pub guessed : Monitor → Row → Bool
+guessed m r = eqb (r .mark) added && isGuess m (r .kind)
+
+-- of a kept or added row, "its transition has its kind and fires", and with it the rule is kept (R-7)
 unfoldable pub sends : Monitor → Progress → Row → List Packet → Option Progress
 sends m p r left =
-    Option·map (behindRow m r left (r .time)) (fires m (r .transition) (r .kind) (wait (r .time - p .now) (p .config)))
+    Option·map (behindRow m r left (r .time) (windowBehind (m .rule) (p .window) (guessed m r)))
+    (withinRule m (p .window) (guessed m r) (fires m (r .transition) (r .kind) (wait (r .time - p .now) (p .config))))
 
--- "a removed row is to the unit". The monitor stays where it was
+-- "a removed row is to the unit". The monitor stays where it was, and so does the window
 unfoldable pub removes : Monitor → Progress → Row → Option Progress
 removes m p r =
-    cond (isNext (p .left) r && toUnit m (r .kind)) (some (behindRow m r (others (p .left)) (p .now) (p .config))) none
+    cond (isNext (p .left) r && toUnit m (r .kind)) (some (behindRow m r (others (p .left)) (p .now) (p .window) (p .config))) none
 
 unfoldable pub keeps : Monitor → Progress → Row → Option Progress
 keeps m p r = cond (isNext (p .left) r) (sends m p r (others (p .left))) none
@@ -91,18 +100,19 @@ pub record Permits (edition : Edition) (m : Monitor) (recording : List Packet) (
   pub fits : length rows ≤ mostRows edition
   pub unbroken : broken edition m (begin recording) 0 rows ≡ none
 
--- the checker's answer: table, recording, then 40 to 43
+-- the checker's answer: 40 to 43 behind the numbers that come first
 
 unfoldable pub changes : List Row → ℕ
 changes [] = 0
 changes (r ∷ rs) = cond (eqb (r .mark) kept) 0 1 + changes rs
 
-unfoldable pub checkRefusal : Edition → List ℕ → List ℕ → List ℕ → Reading
-checkRefusal edition table recording witness =
+-- given: the answer on table and recording, and on the rule where there is one; m: the monitor that is judged
+unfoldable pub checkRefusal : (given : Reading) → Edition → Monitor → (recording witness : List ℕ) → Reading
+checkRefusal given edition m recording witness =
     firstOf
-    (recordingAnswer table recording
+    (given
     ∷ witnessFrame edition witness
-    ∷ badRow (broken edition (monitorAt table) (begin (packetsAt recording)) 0 (rowsAt edition witness))
+    ∷ badRow (broken edition m (begin (packetsAt recording)) 0 (rowsAt edition witness))
     ∷ [])
 
 -- "on acceptance answers 0 with the number of removed and added rows, and the number of rows"
@@ -110,5 +120,12 @@ abbrev pub checked : Reading → List Row → Checking
 checked Sound rows = Permitted (changes rows) (length rows)
 checked (Unsound r) rows = Unchecked r
 
-unfoldable pub checkAnswer : Edition → List ℕ → List ℕ → List ℕ → Checking
-checkAnswer edition table recording witness = checked (checkRefusal edition table recording witness) (rowsAt edition witness)
+-- table, recording, then 40 to 43
+unfoldable pub checkAnswer : Edition → (table recording witness : List ℕ) → Checking
+checkAnswer edition table recording witness =
+    checked (checkRefusal (recordingAnswer table recording) edition (monitorAt table) recording witness) (rowsAt edition witness)
+
+-- under a rule (R-7): table, recording, 25, 26, then 40 to 43
+unfoldable pub checkAnswerUnder : Rule → Edition → (table recording witness : List ℕ) → Checking
+checkAnswerUnder rule edition table recording witness =
+    checked (checkRefusal (ruledAnswer rule table recording) edition (monitorUnder rule table) recording witness) (rowsAt edition witness)

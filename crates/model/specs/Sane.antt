@@ -1,4 +1,4 @@
--- What a sound table ensures of its monitor, and a sound recording of its packets.
+-- What a sound table ensures of its monitor, 25 of the rule, and a sound recording of its packets.
 use Prim.Native.Nat.{ℕ, _<_, _≤_}
 use mathlib.Core.Path.{_≡_}
 use mathlib.Core.List.{List}
@@ -29,6 +29,7 @@ pub record Sane (m : Monitor) : Type 0 where
   pub clocks : m .clocks ≤ clockLimit
   pub few : length (m .transitions) ≤ transitionLimit
   pub transition : (j : ℕ) (t : Transition) → getElem? (m .transitions) j ≡ some t → SaneTransition m t
+  pub window : 1 ≤ m .rule .window
 
 pub record SaneRecording (m : Monitor) (recording : List Packet) : Type 0 where
   pub trace : PacketTrace m recording

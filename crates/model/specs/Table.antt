@@ -10,10 +10,11 @@ use Rattle.model.specs.Bytes.{byteAt, wordBytes, tab, joined, padded}
 use Rattle.model.specs.First.{unless, firstOf, isSound}
 use Rattle.model.specs.Frame.{framed}
 use Rattle.model.specs.Guard.{Guard, guardAt, endsAt, guardOf}
+use Rattle.model.specs.Rule.{noRule}
 use Rattle.model.specs.Monitor.{Monitor, Transition}
 use Rattle.model.specs.Kinds.{versionAt, kindAt, deviceAt, kindRecord, kindBytes}
 use Rattle.model.specs.Room.{Lent, write}
-use Rattle.model.specs.Size.{size}
+use Rattle.model.specs.Size.{tableSize}
 use Rattle.model.specs.Reach.{statesAnswer}
 use Rattle.model.specs.declared.TableParts.{TableParts}
 use Rattle.model.specs.declared.TableReading.{TableReading}
@@ -49,6 +50,7 @@ monitorOf t =
       airtimes = tab (λ k. getD (t .airtimes) k 0) (t .kinds);
       devices = tab (λ k. getD (t .devices) k 0) (t .kinds);
       transitions = tab (transitionIn t) (t .transitions);
+      rule = noRule;
     }
 
 -- reading: the counts, one byte each, at offsets 3 to 7
@@ -217,7 +219,7 @@ tableScan b = scanWith (deviceColumn b) b
 unfoldable pub wholeAnswer : Monitor → Reading
 wholeAnswer m =
     firstOf
-    (unless (leb (size m) sizeLimit) TableSize
+    (unless (leb (tableSize m) sizeLimit) TableSize
     ∷ statesAnswer m
     ∷ [])
 

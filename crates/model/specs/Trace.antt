@@ -3,9 +3,11 @@ use Prim.Native.Nat.{ℕ, _-_, _≤_, _<_}
 use mathlib.Core.Path.{_≡_}
 use mathlib.Core.Logic.{_↔_, _⊎_}
 use mathlib.Core.List.{List, [], _∷_, List·Memᴰ}
-use mathlib.Core.Bool.{true}
+use mathlib.Core.Bool.{Bool, true, false, not, _&&_, _||_}
 use mathlib.Core.Option.{some}
-use Rattle.model.specs.Monitor.{Monitor, Config, start, wait, fires, toUnit, airtime}
+use lib.Dec.{eqb}
+use Rattle.model.specs.Rule.{KeepsRule}
+use Rattle.model.specs.Monitor.{Monitor, Config, start, wait, fires, toUnit, airtime, isGuess}
 
 pub record Packet : Type 0 where
   pub time : ℕ
@@ -49,3 +51,18 @@ pub record Possible (m : Monitor) (recording : List Packet) : Type 0 where
   pub mutation : Mutation m recording trace
   pub together : Together m recording trace
   pub satisfied : Satisfies m trace
+
+-- "Two entries of the same time and kind are the same entry"
+unfoldable pub isRecorded : List Packet → Packet → Bool
+isRecorded [] p = false
+isRecorded (q ∷ qs) p = (eqb (q .time) (p .time) && eqb (q .kind) (p .kind)) || isRecorded qs p
+
+-- of each entry of a mutation trace, is it a guess (document 02, R-7)? An entry is added exactly if it is not recorded
+unfoldable pub guessesIn : Monitor → (recording trace : List Packet) → List Bool
+guessesIn m recording [] = []
+guessesIn m recording (p ∷ ps) = (not (isRecorded recording p) && isGuess m (p .kind)) ∷ guessesIn m recording ps
+
+-- "demands 2 and 3 speak of mutation traces that keep the rule"
+pub record PossibleUnder (m : Monitor) (recording : List Packet) : Type 0 where
+  pub possible : Possible m recording
+  pub keeps : KeepsRule (m .rule) (guessesIn m recording (possible .trace))

@@ -1,5 +1,5 @@
 -- Validation: the verdict, and what scratch and room hold afterwards, for any bytes and any lengths. The edition of the witness, which the caller names, decides 31
--- and the bytes in the room, and nothing else.
+-- and the bytes in the room, and nothing else. Under a rule (R-7) the monitor carries it, and 25 and 26 come before 30.
 use Prim.Native.Nat.{ℕ, suc, _+_, _-_, _*_}
 use mathlib.Core.Path.{_≡_}
 use mathlib.Core.List.{List, [], _∷_, _++_}
@@ -10,11 +10,13 @@ use lib.Dec.{leb, ltb}
 use Rattle.model.specs.First.{unless, firstOf}
 use Rattle.model.specs.Edition.{rowsPlace, latestTime}
 use Rattle.model.specs.Room.{over}
+use Rattle.model.specs.Rule.{Rule}
 use Rattle.model.specs.Monitor.{Monitor}
 use Rattle.model.specs.Trace.{Packet}
 use Rattle.model.specs.Size.{size, setBytes}
 use Rattle.model.specs.Table.{monitorAt}
 use Rattle.model.specs.Recording.{recordingAnswer, packetsAt, endOf}
+use Rattle.model.specs.Ruled.{monitorUnder, ruledAnswer}
 use Rattle.model.specs.Witness.{Row, kept, removed, added, noTransition, marked, witnessBytes}
 use Rattle.model.specs.Situation.{Move, keep, rest, add, moveOf, moveLimit, recordedAt, triggerOf, stepNumber, firstNumber}
 use Rattle.model.specs.Pairs.{pairs, isPair}
@@ -26,6 +28,8 @@ use Rattle.model.specs.declared.Readiness.{Readiness}
 use Rattle.model.specs.declared.Readiness.the-variants.{NotYet, NoMore}
 use Rattle.model.specs.declared.Verdict.{Verdict}
 use Rattle.model.specs.declared.Verdict.the-variants.{Accepted, Rejected, Exhausted, Refused}
+use Rattle.model.specs.declared.RuledVerdict.{RuledVerdict}
+use Rattle.model.specs.declared.RuledVerdict.the-variants as Ruling
 use Rattle.model.specs.declared.Refusal.the-variants.{Scratch, WitnessRoom}
 
 -- the rows of moves
@@ -99,26 +103,26 @@ verdict m recording budget =
 
 -- "scratch below (T+1) x S", "witness room below 5 + 5(T+n)", in edition 2 "room 9 + 5(T+n)"
 
-abbrev pub scratchWanted : List ℕ → List ℕ → ℕ
-scratchWanted table recording = (endOf (packetsAt recording) + 1) * setBytes (size (monitorAt table))
+abbrev pub scratchWanted : Monitor → List Packet → ℕ
+scratchWanted m recording = (endOf recording + 1) * setBytes (size m)
 
-abbrev pub roomWanted : Edition → List ℕ → ℕ
-roomWanted edition recording = rowsPlace edition + 5 * (endOf (packetsAt recording) + length (packetsAt recording))
+abbrev pub roomWanted : Edition → List Packet → ℕ
+roomWanted edition recording = rowsPlace edition + 5 * (endOf recording + length recording)
 
--- table, recording, 30, 31. "Edition 1 keeps its limits and is written only if T is at most 4,096; otherwise 31 is given with 0 however large the room"
-unfoldable pub refusal : Edition → (table recording : List ℕ) → (scratchLength roomLength : ℕ) → Reading
-refusal edition table recording scratchLength roomLength =
+-- given: the answer on table and recording, and on the rule where there is one; m: the monitor that is judged. "Edition 1 keeps its limits and is written only if
+-- T is at most 4,096; otherwise 31 is given with 0 however large the room"
+unfoldable pub refusalOf : (given : Reading) → Edition → Monitor → List Packet → (scratchLength roomLength : ℕ) → Reading
+refusalOf given edition m recording scratchLength roomLength =
     firstOf
-    (recordingAnswer table recording
-    ∷ unless (leb (scratchWanted table recording) scratchLength) (Scratch (scratchWanted table recording))
-    ∷ unless (leb (endOf (packetsAt recording)) (latestTime edition)) (WitnessRoom 0)
+    (given
+    ∷ unless (leb (scratchWanted m recording) scratchLength) (Scratch (scratchWanted m recording))
+    ∷ unless (leb (endOf recording) (latestTime edition)) (WitnessRoom 0)
     ∷ unless (leb (roomWanted edition recording) roomLength) (WitnessRoom (roomWanted edition recording))
     ∷ [])
 
-unfoldable pub validation : Edition → (table recording : List ℕ) → (budget scratchLength roomLength : ℕ) → Verdict
-validation edition table recording budget scratchLength roomLength =
-    elim (refusal edition table recording scratchLength roomLength)
-    [ Sound ↦ verdict (monitorAt table) (packetsAt recording) budget | Unsound r ↦ Refused r ]
+unfoldable pub validationOf : (given : Reading) → Edition → Monitor → List Packet → (budget scratchLength roomLength : ℕ) → Verdict
+validationOf given edition m recording budget scratchLength roomLength =
+    elim (refusalOf given edition m recording scratchLength roomLength) [ Sound ↦ verdict m recording budget | Unsound r ↦ Refused r ]
 
 -- "After 0, 1 or 2 the wanted part of the scratch is zero and the rest untouched"; "After a refusal every lent byte is untouched"
 abbrev pub scratchBy : Verdict → ℕ → List ℕ → List ℕ
@@ -134,11 +138,45 @@ roomBy (Rejected c i y n) witness room = room
 roomBy (Exhausted b i) witness room = room
 roomBy (Refused r) witness room = room
 
-unfoldable pub scratchAfter : Edition → (table recording : List ℕ) → (budget : ℕ) → (scratch room : List ℕ) → List ℕ
-scratchAfter edition table recording budget scratch room =
-    scratchBy (validation edition table recording budget (length scratch) (length room)) (scratchWanted table recording) scratch
+unfoldable pub scratchLeft : (given : Reading) → Edition → Monitor → List Packet → (budget : ℕ) → (scratch room : List ℕ) → List ℕ
+scratchLeft given edition m recording budget scratch room =
+    scratchBy (validationOf given edition m recording budget (length scratch) (length room)) (scratchWanted m recording) scratch
 
-unfoldable pub roomAfter : Edition → (table recording : List ℕ) → (budget : ℕ) → (scratch room : List ℕ) → List ℕ
-roomAfter edition table recording budget scratch room =
-    roomBy (validation edition table recording budget (length scratch) (length room))
-    (witnessBytes edition (preferred (monitorAt table) (packetsAt recording))) room
+unfoldable pub roomLeft : (given : Reading) → Edition → Monitor → List Packet → (budget : ℕ) → (scratch room : List ℕ) → List ℕ
+roomLeft given edition m recording budget scratch room =
+    roomBy (validationOf given edition m recording budget (length scratch) (length room)) (witnessBytes edition (preferred m recording)) room
+
+-- of a table and a recording: table, recording, 30, 31
+
+abbrev pub refusal : Edition → (table recording : List ℕ) → (scratchLength roomLength : ℕ) → Reading
+refusal edition table recording = refusalOf (recordingAnswer table recording) edition (monitorAt table) (packetsAt recording)
+
+abbrev pub validation : Edition → (table recording : List ℕ) → (budget scratchLength roomLength : ℕ) → Verdict
+validation edition table recording = validationOf (recordingAnswer table recording) edition (monitorAt table) (packetsAt recording)
+
+abbrev pub scratchAfter : Edition → (table recording : List ℕ) → (budget : ℕ) → (scratch room : List ℕ) → List ℕ
+scratchAfter edition table recording = scratchLeft (recordingAnswer table recording) edition (monitorAt table) (packetsAt recording)
+
+abbrev pub roomAfter : Edition → (table recording : List ℕ) → (budget : ℕ) → (scratch room : List ℕ) → List ℕ
+roomAfter edition table recording = roomLeft (recordingAnswer table recording) edition (monitorAt table) (packetsAt recording)
+
+-- the same under a rule (R-7): table, recording, 25, 26, 30, 31
+
+abbrev pub refusalUnder : Rule → Edition → (table recording : List ℕ) → (scratchLength roomLength : ℕ) → Reading
+refusalUnder rule edition table recording = refusalOf (ruledAnswer rule table recording) edition (monitorUnder rule table) (packetsAt recording)
+
+-- "answer 1 is called 'rejected as unlikely'"
+abbrev pub ruled : Verdict → RuledVerdict
+ruled (Accepted cost rows) = Ruling.Accepted cost rows
+ruled (Rejected cost instant notYet noMore) = Ruling.Unlikely cost instant notYet noMore
+ruled (Exhausted budget instant) = Ruling.Exhausted budget instant
+ruled (Refused r) = Ruling.Refused r
+
+abbrev pub validationUnder : Rule → Edition → (table recording : List ℕ) → (budget scratchLength roomLength : ℕ) → Verdict
+validationUnder rule edition table recording = validationOf (ruledAnswer rule table recording) edition (monitorUnder rule table) (packetsAt recording)
+
+abbrev pub scratchAfterUnder : Rule → Edition → (table recording : List ℕ) → (budget : ℕ) → (scratch room : List ℕ) → List ℕ
+scratchAfterUnder rule edition table recording = scratchLeft (ruledAnswer rule table recording) edition (monitorUnder rule table) (packetsAt recording)
+
+abbrev pub roomAfterUnder : Rule → Edition → (table recording : List ℕ) → (budget : ℕ) → (scratch room : List ℕ) → List ℕ
+roomAfterUnder rule edition table recording = roomLeft (ruledAnswer rule table recording) edition (monitorUnder rule table) (packetsAt recording)

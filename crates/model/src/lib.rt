@@ -19,6 +19,9 @@ pub const AIRTIME_LIMIT: u8 = 15;
 
 pub const DEVICE_LIMIT: u8 = 15;
 
+// the longest window of a rule
+pub const WINDOW_LIMIT: u8 = 8;
+
 // the longest guard, and the places of each guard in a table's parts
 pub const GUARD_LIMIT: usize = 32;
 
@@ -95,15 +98,23 @@ pub struct Config {
 }
 
 // A situation (document 01): state, variables as a mask, clocks with values above M written as M + 1, and the ticks for which the air is still taken.
-// A clock that the table does not have stays 0.
+// A clock that the table does not have stays 0. Window: which of the last kept or added rows were guesses of the rule's device (R-7), the last one the lowest bit.
 pub struct Situation {
     pub state: u8,
     pub variables: u8,
     pub clocks: [u16; 2],
     pub air: u8,
+    pub window: u8,
 }
 
-// Why an input is refused: document 01's numbers from 10 on, with those of document 02's requests (17), in their order.
+// A measured loss rate (R-7): in any window of so many consecutive kept or added rows at most so many are added rows from the device.
+pub struct Rule {
+    pub device: u8,
+    pub window: u8,
+    pub most: u8,
+}
+
+// Why an input is refused: document 01's numbers from 10 on, with those of document 02's requests (17, 25, 26), in their order.
 pub enum Refusal {
     TableFrame,
     TableVersion,
@@ -118,6 +129,8 @@ pub enum Refusal {
     RecordingCount,
     RecordingRange { row: u64 },
     RecordingOrder { row: u64 },
+    RuleRange,
+    RuleSize,
     Scratch { wanted: u64 },
     WitnessRoom { wanted: u64 },
     WriteRoom { wanted: u64 },
@@ -157,6 +170,25 @@ pub enum Verdict {
         rows: u64,
     },
     Rejected {
+        cost: u64,
+        instant: u64,
+        not_yet: u64,
+        no_more: u64,
+    },
+    Exhausted {
+        budget: u64,
+        instant: u64,
+    },
+    Refused(Refusal),
+}
+
+// The verdict under a rule (R-7), by which a rejected recording is unlikely, and not certainly wrong.
+pub enum RuledVerdict {
+    Accepted {
+        cost: u64,
+        rows: u64,
+    },
+    Unlikely {
         cost: u64,
         instant: u64,
         not_yet: u64,

@@ -9,6 +9,7 @@ use Rattle.model.specs.Limits.{kindLimit, transitionLimit}
 use Rattle.model.specs.Bytes.{byteAt, tab, padded}
 use Rattle.model.specs.Monitor.{airtime}
 use Rattle.model.specs.Kinds.{versionAt, kindAt, deviceAt}
+use Rattle.model.specs.Rule.{noRule}
 use Rattle.model.specs.Table.{guardIn, transitionIn, monitorOf, kindsAt, transitionsAt, transitionAt, tableParts, SoundTable, monitorAt}
 use Rattle.model.proofs.Places.{getD-column, tab-same}
 use Rattle.model.proofs.TableForm.{TableFacts, table-facts, guard-again}
@@ -70,6 +71,7 @@ module _ {devices : List ℕ} (b : List ℕ) (facts : TableFacts devices b) wher
         airtimes = same-column b (λ k. byteAt b (kindAt (versionAt b) k + 1)) i;
         devices = same-column b (λ k. deviceAt b (kindAt (versionAt b) k)) i;
         transitions = transitions i;
+        rule = noRule;
       }
 
 pub monitor-from : (b : List ℕ) → SoundTable b → monitorFrom b (offsetsOf b) ≡ monitorAt b

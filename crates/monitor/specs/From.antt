@@ -9,6 +9,7 @@ use Rattle.model.specs.Limits.{transitionLimit, guardLimit}
 use Rattle.model.specs.Bytes.{byteAt, tab, padded}
 use Rattle.model.specs.Guard.{Guard, guardAt, guardOf}
 use Rattle.model.specs.Readiness.{readiness}
+use Rattle.model.specs.Rule.{noRule}
 use Rattle.model.specs.Monitor.{Monitor, Transition, after}
 use Rattle.model.specs.declared.Readiness.{Readiness}
 use Rattle.model.specs.Kinds.{versionAt, kindAt, deviceAt}
@@ -58,6 +59,7 @@ monitorFrom b offsets =
       airtimes = tab (λ k. byteAt b (kindAt (versionAt b) k + 1)) (kindsAt b);
       devices = tab (λ k. deviceAt b (kindAt (versionAt b) k)) (kindsAt b);
       transitions = tab (λ j. transitionFrom b (getD offsets j 0)) (transitionsAt b);
+      rule = noRule;
     }
 
 -- where the transition records start: as many as the table counts, at most the limit, and zeros behind them

@@ -1,10 +1,11 @@
 // Document 01's table of numbers, and those of document 02's requests: the number, second and third value of each answer.
 ghost use mathlib.Core.Path.{_≡_};
-ghost use Rattle.model.specs.Numbers.{values, refusalValues, readingValues, writingValues, checkingValues, verdictValues, counts, verdictCounts};
+ghost use Rattle.model.specs.Numbers.{values, refusalValues, readingValues, writingValues, checkingValues, verdictValues, ruledValues, counts, verdictCounts, ruledCounts};
 ghost use Rattle.numbers.specs.Told.{told, verdictTold, countsTold};
 use model::Checking;
 use model::Reading;
 use model::Refusal;
+use model::RuledVerdict;
 use model::Verdict;
 use model::Writing;
 
@@ -53,6 +54,8 @@ pub fn refusal_numbers(refusal: Refusal) -> Answer
         Refusal::RecordingCount => numbered(22, 3, 0),
         Refusal::RecordingRange { row } => numbered(23, row, 0),
         Refusal::RecordingOrder { row } => numbered(24, row, 0),
+        Refusal::RuleRange => numbered(25, 0, 0),
+        Refusal::RuleSize => numbered(26, 0, 0),
         Refusal::Scratch { wanted } => numbered(30, wanted, 0),
         Refusal::WitnessRoom { wanted } => numbered(31, wanted, 0),
         Refusal::WriteRoom { wanted } => numbered(33, wanted, 0),
@@ -102,6 +105,13 @@ fn with_counts(answer: Answer, early: u64, late: u64) -> VerdictAnswer
     }
 }
 
+// 1, certain or, under a rule, unlikely.
+fn rejection(cost: u64, instant: u64, early: u64, late: u64) -> VerdictAnswer
+    ensures { λ r. ⌜ (verdictTold r ≡ values 1 cost instant) × (countsTold r ≡ counts early late) ⌝ }
+{
+    with_counts(numbered(1, cost, instant), early, late)
+}
+
 pub fn verdict_numbers(verdict: Verdict) -> VerdictAnswer
     ensures { λ r. ⌜ (verdictTold r ≡ verdictValues verdict) × (countsTold r ≡ verdictCounts verdict) ⌝ }
 {
@@ -112,8 +122,26 @@ pub fn verdict_numbers(verdict: Verdict) -> VerdictAnswer
             instant,
             not_yet,
             no_more,
-        } => with_counts(numbered(1, cost, instant), not_yet, no_more),
+        } => rejection(cost, instant, not_yet, no_more),
         Verdict::Exhausted { budget, instant } => with_counts(numbered(2, budget, instant), 0, 0),
         Verdict::Refused(refusal) => with_counts(refusal_numbers(refusal), 0, 0),
+    }
+}
+
+pub fn ruled_numbers(verdict: RuledVerdict) -> VerdictAnswer
+    ensures { λ r. ⌜ (verdictTold r ≡ ruledValues verdict) × (countsTold r ≡ ruledCounts verdict) ⌝ }
+{
+    match verdict {
+        RuledVerdict::Accepted { cost, rows } => with_counts(numbered(0, cost, rows), 0, 0),
+        RuledVerdict::Unlikely {
+            cost,
+            instant,
+            not_yet,
+            no_more,
+        } => rejection(cost, instant, not_yet, no_more),
+        RuledVerdict::Exhausted { budget, instant } => {
+            with_counts(numbered(2, budget, instant), 0, 0)
+        }
+        RuledVerdict::Refused(refusal) => with_counts(refusal_numbers(refusal), 0, 0),
     }
 }

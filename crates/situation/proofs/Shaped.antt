@@ -1,14 +1,20 @@
--- The shape of a table's parts is that of its monitor.
+-- The shape of a table's parts and a rule is that of its monitor under the rule.
 use Prim.Native.Nat.{ℕ, _*_, _%_, _^_, _≤_, _<_}
 use native.Mathlib.Nat.{mod-eq-of-lt, one-mul, pow-le-pow-right}
 use native.Mathlib.Omega.{arith}
-use mathlib.Core.Path.{_≡_, refl, sym}
+use mathlib.Core.Path.{_≡_, refl, sym, ap}
 use mathlib.Core.List.{List}
 use borrow.Author.Tests.{le-leb, lt-leb}
-use Rattle.model.specs.Limits.{variableLimit}
+use Rattle.model.specs.Limits.{variableLimit, windowLimit}
+use Rattle.model.specs.Monitor.{under}
+use Rattle.model.specs.Rule.{masks}
+use Rattle.model.specs.Size.{cap}
 use Rattle.model.specs.Table.{tableParts, monitorOf, monitorAt, SoundTable}
+use Rattle.model.specs.declared.Rule.{Rule}
 use Rattle.model.specs.declared.TableParts.{TableParts}
 use Rattle.model.proofs.TableForm.{table-facts}
+use Rattle.rule.specs.Within.{within}
+use Rattle.rule.proofs.Laws.{within-sound}
 use Rattle.situation.specs.Numbering.{Fits, masksOf, shapeOf}
 
 few-masks : (n : ℕ) → n ≤ variableLimit → masksOf n ≡ 2 ^ n
@@ -25,10 +31,14 @@ pub many-masks : (n : ℕ) → variableLimit < n → 0 ≡ masksOf n
 unfolding masksOf
 many-masks n h = simp (lt-leb n variableLimit h)
 
-pub shape-fits : (t : TableParts) → t .variables ≤ variableLimit → Fits (shapeOf t) (monitorOf t)
-unfolding shapeOf monitorOf
-shape-fits t h = record { states = refl; masks = few-masks (t .variables) h; first = refl; second = refl }
+-- under a rule whose window 25 lets through
+module _ (rule : Rule) (some : 1 ≤ rule .window) (few : rule .window ≤ windowLimit) where
+  pub shape-fits : (t : TableParts) → t .variables ≤ variableLimit → Fits (shapeOf t rule) (under rule (monitorOf t))
+  unfolding shapeOf monitorOf cap
+  shape-fits t h =
+      let same : within rule ≡ rule = within-sound rule some few in
+      record { states = refl; masks = few-masks (t .variables) h; first = refl; second = refl; windows = ap masks same; rule = same }
 
-pub table-shape : (b : List ℕ) → SoundTable b → Fits (shapeOf (tableParts b)) (monitorAt b)
-unfolding tableParts
-table-shape b e = shape-fits (tableParts b) (table-facts b e .counts .variables)
+  pub table-shape : (b : List ℕ) → SoundTable b → Fits (shapeOf (tableParts b) rule) (under rule (monitorAt b))
+  unfolding tableParts
+  table-shape b e = shape-fits (tableParts b) (table-facts b e .counts .variables)

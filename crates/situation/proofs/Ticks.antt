@@ -18,10 +18,10 @@ written h (x ∷ []) e = absurd (omega arith)
 written h (x ∷ y ∷ c) e = refl
 
 -- the situation that is made of two clocks one tick later
-pub ticked-with : (h : Shape) (c : Config) (air x y : ℕ) → length (c .clocks) ≡ 2 → x ≡ min (getD (c .clocks) 0 0 + 1) (h .first - 1) → y ≡ min (getD (c .clocks) 1 0 + 1) (h .second - 1) → record { state = c .state; variables = c .variables; clocks = x ∷ y ∷ []; air = air } ≡ tickedBy h c air
-ticked-with h c air x y two p q =
+pub ticked-with : (h : Shape) (c : Config) (air window x y : ℕ) → length (c .clocks) ≡ 2 → x ≡ min (getD (c .clocks) 0 0 + 1) (h .first - 1) → y ≡ min (getD (c .clocks) 1 0 + 1) (h .second - 1) → record { state = c .state; variables = c .variables; clocks = x ∷ y ∷ []; air = air; window = window } ≡ tickedBy h c air window
+ticked-with h c air window x y two p q =
     let clocks : x ∷ y ∷ [] ≡ cappedBy h (map (λ n. n + 1) (c .clocks)) = ap₂ (λ (u v : ℕ). u ∷ v ∷ []) p q ∙ written h (c .clocks) two in
-    λ i. record { state = c .state; variables = c .variables; clocks = clocks i; air = air }
+    λ i. record { state = c .state; variables = c .variables; clocks = clocks i; air = air; window = window }
 
 -- by the shape of a monitor, clocks are written as in the model
 pub same-capped : {h : Shape} {m : Monitor} → Fits h m → (c : List ℕ) → cappedBy h c ≡ capped m c

@@ -3,25 +3,27 @@ use Prim.Native.Nat.{ℕ, _+_, _-_, _<_, _≤_}
 use native.Mathlib.Omega.{arith}
 use mathlib.Core.Path.{_≡_, refl, sym, ap, _∙_}
 use mathlib.Core.List.{List}
+use mathlib.Core.Bool.{false}
 use mathlib.Core.Option.{Option, none, some, Option·map, bind}
 use lib.ListN.{getD, getElem?}
 use lib.Dec.{eqb}
 use Rattle.model.specs.Limits.{transitionLimit}
-use Rattle.model.specs.Monitor.{Monitor, fires}
+use Rattle.model.specs.Rule.{windowBehind, allows}
+use Rattle.model.specs.Monitor.{Monitor, fires, withinRule}
 use Rattle.model.specs.Table.{transitionsAt}
-use Rattle.model.specs.Situation.{Move, keep, add, sent, moved, stepBy, restMove, firstAdd, moveOf}
+use Rattle.model.specs.Situation.{Move, keep, add, onAir, sent, moved, stepBy, restMove, firstAdd, moveOf}
 use Rattle.model.specs.declared.Situation.{Situation}
 use Rattle.model.proofs.Basics.{getElem-tab-past}
 use Rattle.model.proofs.Instants.{moveOf-keep, move-add}
 use Rattle.monitor.specs.From.{monitorFrom, transitionFrom}
 use Rattle.situation.specs.declared.Shape.{Shape}
-use Rattle.situation.specs.Stepping.{numberBy, arriveFrom}
+use Rattle.situation.specs.Stepping.{numberBy, ruledFrom, arriveFrom}
 use Rattle.situation.specs.Steps.{nextOf, cappedBy, stepped}
 use Rattle.situation.proofs.Moves.{neither, next-leading, taken-nowhere}
 
 module _ (table offsets : List ℕ) (h : Shape) (s : Situation) (k : ℕ) where
   abbrev m : Monitor
-  m = monitorFrom table offsets
+  m = ruledFrom h table offsets
 
   -- a move that cannot be made leads nowhere
   nowhere : (heard : Option ℕ) (a : Move) → moveOf k ≡ a → moved m heard s a ≡ none → arriveFrom table offsets h heard s k ≡ none
@@ -37,9 +39,11 @@ module _ (table offsets : List ℕ) (h : Shape) (s : Situation) (k : ℕ) where
   unfolding moved
   no-keep e = nowhere none (keep k) (moveOf-keep k e) refl
 
-  unsent : (j a : ℕ) → getElem? (m .transitions) j ≡ none → sent m j a s ≡ none
-  unfolding sent fires bind
-  unsent j a e = rw e (neither (eqb (s .air) 0))
+  unsent : (j a : ℕ) → getElem? (m .transitions) j ≡ none → sent m false j a s ≡ none
+  unfolding sent fires bind withinRule
+  unsent j a e =
+      let behind : ℕ = windowBehind (m .rule) (s .window) false in
+      rw e (ap (onAir m a s behind) (neither (allows (m .rule) (s .window) false)) ∙ neither (eqb (s .air) 0))
 
   -- a transition that the table does not have
   pub no-transition : (heard : Option ℕ) → transitionsAt table ≤ k → k < transitionLimit → arriveFrom table offsets h heard s k ≡ none

@@ -1,7 +1,7 @@
 -- One step on situations by a shape.
 use Prim.Native.Nat.{ℕ, _+_, _-_, min}
 use mathlib.Core.List.{List, [], _∷_, map}
-use mathlib.Core.Bool.{true, false, cond}
+use mathlib.Core.Bool.{Bool, true, false, cond}
 use mathlib.Core.Option.{Option, none, some, Option·map, bind}
 use lib.ListN.{getD, getElem?}
 use lib.Dec.{eqb}
@@ -30,10 +30,10 @@ triggerKind (Kind k) = some k
 unfoldable pub cappedBy : Shape → List ℕ → List ℕ
 cappedBy h c = min (getD c 0 0) (h .first - 1) ∷ min (getD c 1 0) (h .second - 1) ∷ []
 
--- a configuration one tick later, with the ticks for which the air is then taken
-abbrev pub tickedBy : Shape → Config → ℕ → Situation
-tickedBy h c air =
-    record { state = c .state; variables = c .variables; clocks = cappedBy h (map (λ x. x + 1) (c .clocks)); air = air }
+-- a configuration one tick later, with the ticks for which the air is then taken, and the window
+abbrev pub tickedBy : Shape → Config → (air window : ℕ) → Situation
+tickedBy h c air window =
+    record { state = c .state; variables = c .variables; clocks = cappedBy h (map (λ x. x + 1) (c .clocks)); air = air; window = window }
 
 -- the model's step, with clocks written by a shape
 unfoldable pub stepped : Shape → Monitor → Option ℕ → Situation → Move → Next
@@ -41,8 +41,8 @@ stepped h m recorded s a = leading s (stepBy m (cappedBy h) recorded s a)
 
 -- its parts: a sent or a removed row, and then the tick; the kind on which a transition fires from a state
 
-unfoldable pub sentBy : Shape → Monitor → (j k : ℕ) → Situation → Next
-sentBy h m j k s = leading s (Option·map (tick (cappedBy h)) (sent m j k s))
+unfoldable pub sentBy : Shape → Monitor → (guess : Bool) → (j k : ℕ) → Situation → Next
+sentBy h m guess j k s = leading s (Option·map (tick (cappedBy h)) (sent m guess j k s))
 
 unfoldable pub missedBy : Shape → Monitor → (k : ℕ) → Situation → Next
 missedBy h m k s = leading s (Option·map (tick (cappedBy h)) (missed m k s))

@@ -1,16 +1,20 @@
 // Situations: numbered into a set and back, what a recording says of an instant, and one step.
+use model::Rule;
 use model::Situation;
 
 pub mod numbering;
 pub mod rows;
 pub mod step;
 
-// How situations are numbered: the states, 2 to the number of variables, and the values of each clock, 1 for a clock that the table does not have.
+// How situations are numbered: the states, 2 to the number of variables, the values of each clock, 1 for a clock that the table does not have, and the windows
+// of the rule under which moves are made.
 pub struct Shape {
     pub states: u8,
     pub masks: u8,
     pub first: u16,
     pub second: u16,
+    pub windows: u8,
+    pub rule: Rule,
 }
 
 // What is recorded at an instant.

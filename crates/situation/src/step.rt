@@ -9,8 +9,11 @@ use model::FIRST_ADD;
 use model::REST;
 use model::Situation;
 use monitor::airtime_of;
+use monitor::device_of;
 use monitor::fire;
 use monitor::to_unit;
+use rule::allows;
+use rule::window_behind;
 use wire::byte;
 use wire::short;
 ghost use mathlib.Core.Path.{_≡_};
@@ -20,7 +23,7 @@ ghost use Prim.Native.Nat.{ℕ, _+_, _-_, min};
 ghost use Rattle.model.specs.Situation.{keep, rest, add, configOf, tick, moveOf};
 ghost use Rattle.monitor.specs.From.{monitorFrom};
 ghost use Rattle.situation.specs.Rows.{heardOf};
-ghost use Rattle.situation.specs.Stepping.{arrivalOf, arriveFrom};
+ghost use Rattle.situation.specs.Stepping.{ruledFrom, arrivalOf, arriveFrom};
 ghost use Rattle.situation.specs.Steps.{leading, cappedBy, tickedBy, sentBy, missedBy, triggerKind, triggerFrom, stepped};
 
 // The kind on which a transition fires, where it does.
@@ -43,9 +46,9 @@ fn clock_ticked(reads: u16, values: u16) -> u16
     }
 }
 
-// A configuration one tick later, with the ticks for which the air is then taken.
-fn ticked(h: Shape, c: Config, air: u8) -> Situation
-    ensures { λ r. ⌜ r ≡ tickedBy h c air ⌝ }
+// A configuration one tick later, with the ticks for which the air is then taken, and the window.
+fn ticked(h: Shape, c: Config, air: u8, window: u8) -> Situation
+    ensures { λ r. ⌜ r ≡ tickedBy h c air window ⌝ }
 {
     let clocks = c.clocks;
     let first = clock_ticked(clocks[0], h.first);
@@ -55,6 +58,7 @@ fn ticked(h: Shape, c: Config, air: u8) -> Situation
         variables: c.variables,
         clocks: [first, second],
         air,
+        window,
     }
 }
 
@@ -74,9 +78,9 @@ fn still(h: Shape, s: Situation) -> Situation
     ensures { λ r. ⌜ r ≡ tick (cappedBy h) s ⌝ }
 {
     if s.air == 0 {
-        return ticked(h, config_of(s), 0);
+        return ticked(h, config_of(s), 0, s.window);
     }
-    ticked(h, config_of(s), s.air - 1)
+    ticked(h, config_of(s), s.air - 1, s.window)
 }
 
 fn nowhere(s: Situation) -> Next
@@ -88,15 +92,28 @@ fn nowhere(s: Situation) -> Next
     }
 }
 
-// A row of a kind is sent by transition j, where the air is free.
-fn sent<'a>(table: &'a [u8], offsets: &'a [u16], h: Shape, j: usize, kind: u8, s: Situation) -> Next
+// A row of a kind, which is a guess or not, is sent by transition j, where the air is free and the rule allows it.
+fn sent<'a>(
+    table: &'a [u8],
+    offsets: &'a [u16],
+    h: Shape,
+    guess: bool,
+    j: usize,
+    kind: u8,
+    s: Situation,
+) -> Next
     requires { ⌜ s .air ≡ 0 ⌝ }
-    ensures { λ r. ⌜ r ≡ sentBy h (monitorFrom (now (table .entry)) (now (offsets .entry))) j kind s ⌝ }
+    ensures { λ r. ⌜ r ≡ sentBy h (ruledFrom h (now (table .entry)) (now (offsets .entry))) guess j kind s ⌝ }
 {
+    let rule = h.rule;
+    if !allows(rule, s.window, guess) {
+        return nowhere(s);
+    }
     let f = fire(table, offsets, j, kind, config_of(s));
     if f.fired {
         let c = f.to;
-        let to = ticked(h, c, airtime_of(table, kind));
+        let window = window_behind(rule, s.window, guess);
+        let to = ticked(h, c, airtime_of(table, kind), window);
         return Next { leads: true, to };
     }
     nowhere(s)
@@ -118,7 +135,7 @@ fn trigger_from<'a>(table: &'a [u8], offsets: &'a [u16], state: u8, j: usize) ->
 
 // A recorded row of a kind is removed, where it is to the unit and the air is free. It takes the air; the unit missed it.
 fn missed(table: &[u8], h: Shape, kind: u8, s: Situation) -> Next
-    ensures { λ r. ⌜ ((offsets : List ℕ) → r ≡ missedBy h (monitorFrom (now (table .entry)) offsets) kind s) ⌝ }
+    ensures { λ r. ⌜ ((offsets : List ℕ) → r ≡ missedBy h (ruledFrom h (now (table .entry)) offsets) kind s) ⌝ }
 {
     if 0 < s.air {
         return nowhere(s);
@@ -127,7 +144,7 @@ fn missed(table: &[u8], h: Shape, kind: u8, s: Situation) -> Next
         return nowhere(s);
     }
     let air = airtime_of(table, kind);
-    let to = ticked(h, config_of(s), air);
+    let to = ticked(h, config_of(s), air, s.window);
     Next { leads: true, to }
 }
 
@@ -140,16 +157,16 @@ fn kept<'a>(
     j: usize,
 ) -> Next
     requires { ⌜ s .air ≡ 0 ⌝ }
-    ensures { λ r. ⌜ r ≡ stepped h (monitorFrom (now (table .entry)) (now (offsets .entry))) (heardOf heard) s (keep j) ⌝ }
+    ensures { λ r. ⌜ r ≡ stepped h (ruledFrom h (now (table .entry)) (now (offsets .entry))) (heardOf heard) s (keep j) ⌝ }
 {
     match heard {
         Heard::Nothing => nowhere(s),
-        Heard::Kind(kind) => sent(table, offsets, h, j, kind, s),
+        Heard::Kind(kind) => sent(table, offsets, h, false, j, kind, s),
     }
 }
 
 fn rested(table: &[u8], h: Shape, heard: Heard, s: Situation) -> Next
-    ensures { λ r. ⌜ ((offsets : List ℕ) → r ≡ stepped h (monitorFrom (now (table .entry)) offsets) (heardOf heard) s rest) ⌝ }
+    ensures { λ r. ⌜ ((offsets : List ℕ) → r ≡ stepped h (ruledFrom h (now (table .entry)) offsets) (heardOf heard) s rest) ⌝ }
 {
     match heard {
         Heard::Nothing => Next {
@@ -170,7 +187,7 @@ fn added<'a>(
     j: usize,
 ) -> Next
     requires { ⌜ s .air ≡ 0 ⌝ }
-    ensures { λ r. ⌜ r ≡ stepped h (monitorFrom (now (table .entry)) (now (offsets .entry))) (heardOf heard) s (add j) ⌝ }
+    ensures { λ r. ⌜ r ≡ stepped h (ruledFrom h (now (table .entry)) (now (offsets .entry))) (heardOf heard) s (add j) ⌝ }
 {
     if let Heard::Kind(_) = heard {
         return nowhere(s);
@@ -179,7 +196,8 @@ fn added<'a>(
     let Trigger::Kind(kind) = trigger else {
         return nowhere(s);
     };
-    sent(table, offsets, h, j, kind, s)
+    let guess = device_of(table, kind) == h.rule.device;
+    sent(table, offsets, h, guess, j, kind, s)
 }
 
 // The step by move k: below REST keep by that transition, REST adds nothing and removes what is recorded, from FIRST_ADD on add by transition k - FIRST_ADD.
@@ -191,7 +209,7 @@ pub fn next<'a>(
     s: Situation,
     k: usize,
 ) -> Next
-    ensures { λ r. ⌜ r ≡ stepped h (monitorFrom (now (table .entry)) (now (offsets .entry))) (heardOf heard) s (moveOf k) ⌝ }
+    ensures { λ r. ⌜ r ≡ stepped h (ruledFrom h (now (table .entry)) (now (offsets .entry))) (heardOf heard) s (moveOf k) ⌝ }
 {
     if k == REST {
         return rested(table, h, heard, s);

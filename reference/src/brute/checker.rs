@@ -1,23 +1,28 @@
 //! The rules of a witness against a table and a recording, each stated of a row by itself.
 
+use super::likely::{is_likely, Sent};
 use super::monitor::Monitor;
 use super::trace::{is_packet_trace, Trace};
 use crate::answer::Answer;
 use crate::edition::Edition;
 use crate::recording::Recording;
+use crate::rule::Rule;
 use crate::table::Table;
 use crate::witness::{Row, Witness, ADDED, KEPT, NO_TRANSITION, REMOVED};
 
 /// What the checker should answer for parts that are sound but for the witness's rows.
 pub fn expected_check(
     edition: Edition,
+    rule: Rule,
     table: &Table,
     recording: &Recording,
     witness: &Witness,
 ) -> Answer {
     let rows = &witness.rows;
-    let broken =
-        (0..rows.len()).find(|number| breaks(edition, table, recording, &rows[..=*number]));
+    let broken = (0..rows.len()).find(|number| {
+        let rows = &rows[..=*number];
+        breaks(edition, table, recording, rows) || !is_likely(rule, table, &sent(rows))
+    });
     if let Some(number) = broken {
         return Answer::new(43, number as u64, 0);
     }
@@ -46,6 +51,12 @@ fn breaks_form(edition: Edition, row: &Row, before: &[Row]) -> bool {
         || row.time > last
         || (row.mark == REMOVED && row.transition != NO_TRANSITION)
         || before.iter().any(|it| it.time >= row.time)
+}
+
+/// Kept and added rows alone.
+fn sent(rows: &[Row]) -> Vec<Sent> {
+    let sent = rows.iter().filter(|row| row.mark != REMOVED);
+    sent.map(|row| (row.mark == ADDED, row.kind)).collect()
 }
 
 /// Kept, removed and added rows together.

@@ -11,8 +11,8 @@ use crate::table::Table;
 /// Of the monitors possible just before this instant, at which this kind was heard.
 pub fn counts(table: &Table, possible: &Possible, time: u32, kind: u8) -> Counts {
     let mut pairs = BTreeMap::new();
-    for real in possible.iter().filter(|(_, free_from)| *free_from <= time) {
-        let monitor = real.0;
+    for real in possible.iter().filter(|it| it.free_from <= time) {
+        let monitor = real.monitor;
         let clocks = monitor.last_reset.map(|reset| time - reset);
         let situation = situation(table, real, time);
         for (number, it) in table.transitions.iter().enumerate() {

@@ -5,6 +5,7 @@ use super::counts::counts;
 use super::works::{heard, moves, start, work, Possible};
 use crate::answer::Counts;
 use crate::recording::Recording;
+use crate::rule::Rule;
 use crate::table::Table;
 use crate::witness::Witness;
 
@@ -16,14 +17,14 @@ pub struct Judged {
 }
 
 /// Nothing if more than `most` monitors are possible at some instant.
-pub fn judge_long(table: &Table, recording: &Recording, most: usize) -> Option<Judged> {
+pub fn judge_long(rule: Rule, table: &Table, recording: &Recording, most: usize) -> Option<Judged> {
     let mut works = Vec::new();
-    let mut layers = vec![start()];
+    let mut layers = vec![start(rule)];
     for time in 1..=recording.last_time() as u32 {
         let now = layers.last()?;
         works.push(work(table, now, time));
         let heard = heard(recording, time);
-        let after = now.iter().flat_map(|it| moves(table, heard, it, time)).map(|it| it.1);
+        let after = now.iter().flat_map(|it| moves(rule, table, heard, it, time)).map(|it| it.1);
         let next: Possible = after.collect();
         if next.is_empty() {
             let counts = counts(table, now, time, heard?.kind);
@@ -34,27 +35,32 @@ pub fn judge_long(table: &Table, recording: &Recording, most: usize) -> Option<J
         }
         layers.push(next);
     }
-    let preferred = preferred(table, recording, layers);
+    let preferred = preferred(rule, table, recording, layers);
     Some(Judged { works, dead: None, preferred: Some(preferred) })
 }
 
 /// Layer t-1 is what is possible just before instant t. What cannot last is taken out, and then
 /// the first move that stays is made.
-fn preferred(table: &Table, recording: &Recording, mut layers: Vec<Possible>) -> Witness {
+fn preferred(
+    rule: Rule,
+    table: &Table,
+    recording: &Recording,
+    mut layers: Vec<Possible>,
+) -> Witness {
     let last = recording.last_time();
     for time in (1..=last).rev() {
         let (now, next) = layers.split_at_mut(time);
         let heard = heard(recording, time as u32);
         now[time - 1].retain(|it| {
-            moves(table, heard, it, time as u32).iter().any(|after| next[0].contains(&after.1))
+            let after = moves(rule, table, heard, it, time as u32);
+            after.iter().any(|after| next[0].contains(&after.1))
         });
     }
     let mut witness = Witness::default();
-    let mut real = *layers[0].first().expect("it lasts");
-    for time in 1..=last {
-        let after = moves(table, heard(recording, time as u32), &real, time as u32);
-        let (row, next) =
-            after.into_iter().find(|it| layers[time].contains(&it.1)).expect("it lasts");
+    let mut real = layers[0].first().expect("it lasts").clone();
+    for (time, lasting) in (1..).zip(&layers[1..]) {
+        let after = moves(rule, table, heard(recording, time), &real, time);
+        let (row, next) = after.into_iter().find(|it| lasting.contains(&it.1)).expect("it lasts");
         witness.rows.extend(row);
         real = next;
     }

@@ -1,13 +1,15 @@
 //! Every list of rows that the checker permits with no row after T.
 
-use crate::check::check_witness;
+use crate::check::check_rule;
 use crate::edition::Edition;
 use crate::recording::Recording;
+use crate::rule::Rule;
 use crate::table::Table;
 use crate::witness::{bytes_of, Row, Witness, ADDED, KEPT, NO_TRANSITION, REMOVED};
 
 struct Hunt<'a> {
     edition: Edition,
+    rule: Rule,
     table: &'a [u8],
     recording: &'a [u8],
     last: u16,
@@ -23,12 +25,14 @@ struct Hunt<'a> {
 /// checker names one of its rows.
 pub fn permitted_by_checker(
     edition: Edition,
+    rule: Rule,
     table: (&Table, &[u8]),
     recording: (&Recording, &[u8]),
     most_checks: u32,
 ) -> Option<Vec<Witness>> {
     let mut hunt = Hunt {
         edition,
+        rule,
         table: table.1,
         recording: recording.1,
         last: recording.0.last_time() as u16,
@@ -76,8 +80,8 @@ impl Hunt<'_> {
 
     fn ask(&mut self, rows: &Witness) -> Option<Standing> {
         self.checks_left = self.checks_left.checked_sub(1)?;
-        let answer =
-            check_witness(self.edition, self.table, self.recording, &bytes_of(self.edition, rows));
+        let witness = bytes_of(self.edition, rows);
+        let answer = check_rule(self.edition, self.rule, self.table, self.recording, &witness);
         Some(match (answer.number, answer.second) {
             (0, _) => Standing::Permitted,
             (_, row) if row == rows.rows.len() as u64 => Standing::Unfinished,

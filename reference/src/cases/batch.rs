@@ -4,6 +4,7 @@ use std::io::{self, Write};
 
 use crate::call::Call;
 use crate::edition::Edition;
+use crate::rule::Rule;
 use crate::writing::{Parts, Writing};
 
 pub const DESK: u8 = 5;
@@ -19,7 +20,9 @@ fn by_edition(edition: Edition, one: u8, two: u8) -> u8 {
 pub fn number_of_call(call: &Call) -> u8 {
     match call {
         Call::Validate { edition, .. } => by_edition(*edition, 0, 12),
+        Call::ValidateRule { edition, .. } => by_edition(*edition, 17, 19),
         Call::Check { edition, .. } => by_edition(*edition, 1, 13),
+        Call::CheckRule { edition, .. } => by_edition(*edition, 18, 20),
         Call::RewriteTable { .. } => 2,
         Call::RewriteRecording { .. } => 3,
         Call::RewriteWitness { edition, .. } => by_edition(*edition, 4, 14),
@@ -37,13 +40,6 @@ pub fn number_of_writing(writing: &Writing) -> u8 {
     }
 }
 
-pub fn budget(call: &Call) -> u32 {
-    match call {
-        Call::Validate { budget, .. } => *budget,
-        _ => 0,
-    }
-}
-
 /// The sum goes by place, so that bytes that change places change it.
 pub fn add(sum: u64, byte: u8) -> u64 {
     (sum * 257 + u64::from(byte) + 1) % 1_000_003
@@ -56,11 +52,11 @@ pub fn pattern(length: usize) -> Vec<u8> {
 /// The call with the pattern in what it lends.
 pub fn patterned(mut call: Call) -> Call {
     match &mut call {
-        Call::Validate { scratch, room, .. } => {
+        Call::Validate { scratch, room, .. } | Call::ValidateRule { scratch, room, .. } => {
             *scratch = pattern(scratch.len());
             *room = pattern(room.len());
         }
-        Call::Check { .. } => {}
+        Call::Check { .. } | Call::CheckRule { .. } => {}
         Call::RewriteTable { room, .. }
         | Call::RewriteRecording { room, .. }
         | Call::RewriteWitness { room, .. } => *room = pattern(room.len()),
@@ -82,16 +78,24 @@ pub fn split(call: &Call) -> ((usize, usize), Vec<&[u8]>) {
     (lent, files)
 }
 
-pub fn head(
-    input: &mut Vec<u8>,
-    kind: u8,
-    budget: u32,
-    lent: (usize, usize),
-    files: &[&[u8]],
-) -> io::Result<()> {
-    input.push(kind);
+/// What stands at the front of a case but for its files.
+#[derive(Default)]
+pub struct Head {
+    pub called: u8,
+    /// 0, 0 and 0 of a call without one.
+    pub rule: Option<Rule>,
+    pub budget: u32,
+    pub scratch: usize,
+    pub room: usize,
+}
+
+/// The head and the files behind it.
+pub fn case(input: &mut Vec<u8>, head: &Head, files: &[&[u8]]) -> io::Result<()> {
+    let Rule { device, window, most } = head.rule.unwrap_or(Rule::new(0, 0, 0));
+    input.extend([head.called, device, window, most]);
     let length = |place: usize| files.get(place).map_or(0, |file| file.len());
-    for number in [budget as usize, lent.0, lent.1, length(0), length(1), length(2)] {
+    let Head { budget, scratch, room, .. } = *head;
+    for number in [budget as usize, scratch, room, length(0), length(1), length(2)] {
         input.write_all(&(number as u32).to_be_bytes())?;
     }
     files.iter().try_for_each(|file| input.write_all(file))

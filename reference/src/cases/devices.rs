@@ -32,7 +32,9 @@ impl Tally {
     pub fn note_call(&mut self, call: &Call, answer: Verdict) {
         let bytes = match call {
             Call::Validate { table, .. }
+            | Call::ValidateRule { table, .. }
             | Call::Check { table, .. }
+            | Call::CheckRule { table, .. }
             | Call::RewriteRecording { table, .. }
             | Call::RewriteTable { bytes: table, .. } => table,
             Call::RewriteWitness { .. } => return,

@@ -1,11 +1,13 @@
 //! The recorded cases: a batch of calls as one file, and what they must answer as another.
 //!
-//! A case is a head of 25 bytes and the files behind it. The head: what is called (0 validate, 1
+//! A case is a head of 28 bytes and the files behind it. The head: what is called (0 validate, 1
 //! check, 2 rewrite table, 3 rewrite recording, 4 rewrite witness, 5 the desk, 6 write table, 7
 //! write recording, 8 write witness, 9 to 11 the same and reading back, and in edition 2 12
 //! validate, 13 check, 14 rewrite witness, 15 write witness, 16 the same and reading back; all
-//! before are in edition 1), then six four-byte numbers, big-endian: budget, length of the scratch,
-//! length of the room, and the lengths of the first, second and third file. Before a call byte i of
+//! before are in edition 1; under a rule 17 validate and 18 check in edition 1, 19 validate and 20
+//! check in edition 2), then the rule's device, window and most, one byte each (0, 0 and 0 in a call
+//! without a rule), then six four-byte numbers, big-endian: budget, length of the scratch, length
+//! of the room, and the lengths of the first, second and third file. Before a call byte i of
 //! scratch and room is (7 i + 1) modulo 256. The answer is a line: number, second value, third
 //! value, how many pairs are not yet and how many no more (both 0 but for a rejection), and a sum
 //! over every number of the parts that were read back and every byte of scratch and then room after
@@ -15,6 +17,7 @@ mod batch;
 mod devices;
 mod given;
 
+use batch::Head;
 pub use devices::{Tally, IN_FILES, IN_PARTS};
 
 use std::collections::BTreeMap;
@@ -25,7 +28,7 @@ use crate::call::{Call, ORDINARY};
 use crate::counted;
 use crate::desk;
 use crate::edition::Edition;
-use crate::generate::{calls, rejections, writings, Rng};
+use crate::generate::{calls, rejections, ruled, writings, Rng};
 use crate::limits;
 use crate::longer::handovers;
 use crate::narrowed::NARROWED;
@@ -46,6 +49,10 @@ const MUCH_LENT: usize = 20_000;
 const MOST_LENT_MUCH: usize = 260;
 /// As many random calls that turn on the counts of a rejection.
 const REJECTIONS: usize = 1_200;
+/// As many random calls that turn on a rule of guesses.
+const RULED: usize = 700;
+const MOST_IN_RULED: usize = 1_500;
+const MOST_LENT_RULED: usize = 40_000;
 /// What the batch program takes at most: all files of a case together, and what it lends.
 pub const MOST_IN_FILES: usize = 400_000;
 pub const MOST_SCRATCH: usize = 400_000;
@@ -54,6 +61,8 @@ pub const MOST_ROOM: usize = 331_000;
 const LEAST: usize = 20;
 const NUMBERS: [u64; 23] =
     [0, 1, 2, 10, 11, 12, 13, 14, 15, 16, 17, 20, 21, 22, 23, 24, 30, 31, 33, 40, 41, 42, 43];
+/// The numbers that come as often under rules.
+const UNDER_RULES: [u64; 11] = [0, 1, 2, 25, 26, 30, 31, 40, 41, 42, 43];
 /// As many random writings of parts as this, and the numbers that come as often from writing, and
 /// from writing and reading back.
 const WRITINGS: usize = 900;
@@ -66,7 +75,9 @@ pub type Numbers = BTreeMap<u64, usize>;
 pub struct Cases {
     pub input: Vec<u8>,
     pub output: Vec<u8>,
+    /// Of calls on files, without a rule and under one.
     pub from_files: Numbers,
+    pub under_rules: Numbers,
     pub from_writing: Numbers,
     pub from_back: Numbers,
     /// How often each state was named with 17, from files and parts.
@@ -148,7 +159,8 @@ impl Cases {
             self.call(call)?;
         }
         self.random_calls(seed)?;
-        self.random_rejections(seed)
+        self.random_rejections(seed)?;
+        self.random_ruled(seed)
     }
 
     fn random_calls(&mut self, seed: u64) -> io::Result<()> {
@@ -175,6 +187,22 @@ impl Cases {
                 made += 1;
                 self.desk_of(&call, made)?;
                 self.call(call)?;
+            }
+        }
+        Ok(())
+    }
+
+    fn random_ruled(&mut self, seed: u64) -> io::Result<()> {
+        let mut rng = Rng::new(seed);
+        let mut made = 0;
+        while made < RULED || !often(&self.under_rules, &UNDER_RULES) {
+            for call in ruled(&mut rng) {
+                let ((scratch, room), files) = batch::split(&call);
+                let size: usize = files.iter().map(|file| file.len()).sum();
+                if size <= MOST_IN_RULED && scratch + room <= MOST_LENT_RULED {
+                    made += 1;
+                    self.call(call)?;
+                }
             }
         }
         Ok(())
@@ -215,11 +243,19 @@ impl Cases {
     fn call(&mut self, call: Call) -> io::Result<()> {
         let call = batch::patterned(call);
         let (lent, files) = batch::split(&call);
-        let (kind, budget) = (batch::number_of_call(&call), batch::budget(&call));
-        batch::head(&mut self.input, kind, budget, lent, &files)?;
+        let head = Head {
+            called: batch::number_of_call(&call),
+            rule: call.rule(),
+            budget: call.budget().unwrap_or(0),
+            scratch: lent.0,
+            room: lent.1,
+        };
+        batch::case(&mut self.input, &head, &files)?;
         let outcome = call.run(&ORDINARY);
-        *self.from_files.entry(outcome.answer.number).or_default() += 1;
-        if matches!((&call, outcome.answer.number), (Call::Validate { .. }, 1)) {
+        let tally =
+            if call.rule().is_some() { &mut self.under_rules } else { &mut self.from_files };
+        *tally.entry(outcome.answer.number).or_default() += 1;
+        if call.budget().is_some() && outcome.answer.number == 1 {
             self.pairs.note(outcome.answer.counts);
         }
         self.note_last_word(&call, outcome.answer);
@@ -236,10 +272,11 @@ impl Cases {
     }
 
     fn write(&mut self, writing: &Writing) -> io::Result<()> {
-        let kind = batch::number_of_writing(writing);
+        let called = batch::number_of_writing(writing);
         let files = given::files(&writing.parts);
         let files: Vec<&[u8]> = files.iter().map(Vec::as_slice).collect();
-        batch::head(&mut self.input, kind, 0, (0, writing.room), &files)?;
+        let head = Head { called, room: writing.room, ..Head::default() };
+        batch::case(&mut self.input, &head, &files)?;
         let mut room = batch::pattern(writing.room);
         let (answer, numbers) = writing.run(&mut room);
         let answer = Verdict::from(answer);
@@ -265,7 +302,8 @@ impl Cases {
     }
 
     fn desk(&mut self, input: &[u8]) -> io::Result<()> {
-        batch::head(&mut self.input, batch::DESK, 0, (0, 0), &[input])?;
+        let head = Head { called: batch::DESK, ..Head::default() };
+        batch::case(&mut self.input, &head, &[input])?;
         self.output.write_all(desk::report(input).as_bytes())
     }
 

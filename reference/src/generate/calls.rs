@@ -171,7 +171,7 @@ fn validations(rng: &mut Rng, base: &Base, calls: &mut Vec<Call>) -> Option<Vec<
     learnt.preferred
 }
 
-fn budgets(rng: &mut Rng, learnt: Verdict, most: usize) -> Vec<u32> {
+pub fn budgets(rng: &mut Rng, learnt: Verdict, most: usize) -> Vec<u32> {
     if learnt.number > 2 {
         return vec![rng.draw() as u32];
     }

@@ -2,7 +2,8 @@
 
 use crate::answer::Verdict;
 use crate::edition::Edition;
-use crate::validate::validate;
+use crate::rule::Rule;
+use crate::validate::validate_rule;
 
 pub struct Learnt {
     /// Bytes of scratch and room that the files want; some, if they are refused before that. Where
@@ -16,9 +17,14 @@ pub struct Learnt {
 }
 
 pub fn learn(edition: Edition, table: &[u8], recording: &[u8]) -> Learnt {
-    let (scratch, room) = wanted(edition, table, recording);
+    learn_under(Rule::NONE, edition, table, recording)
+}
+
+/// The same under a rule.
+pub fn learn_under(rule: Rule, edition: Edition, table: &[u8], recording: &[u8]) -> Learnt {
+    let (scratch, room) = wanted(rule, edition, table, recording);
     let (mut lent, mut witness) = (vec![0; scratch], vec![0; room]);
-    let answer = validate(edition, table, recording, u32::MAX, &mut lent, &mut witness);
+    let answer = validate_rule(edition, rule, table, recording, u32::MAX, &mut lent, &mut witness);
     if answer.number == 0 {
         witness.truncate(edition.file().size(answer.third as usize));
     }
@@ -26,15 +32,17 @@ pub fn learn(edition: Edition, table: &[u8], recording: &[u8]) -> Learnt {
 }
 
 /// Found by lending too few.
-fn wanted(edition: Edition, table: &[u8], recording: &[u8]) -> (usize, usize) {
-    let short = validate(edition, table, recording, 0, &mut [], &mut []);
+fn wanted(rule: Rule, edition: Edition, table: &[u8], recording: &[u8]) -> (usize, usize) {
+    let ask = |edition, scratch: &mut [u8]| {
+        validate_rule(edition, rule, table, recording, 0, scratch, &mut [])
+    };
+    let short = ask(edition, &mut []);
     if short.number != 30 {
         return (50, 50);
     }
     let mut scratch = vec![0; short.second as usize];
-    let mut room = |edition| validate(edition, table, recording, 0, &mut scratch, &mut []).second;
-    let wanted = match room(edition) {
-        0 => room(Edition::Two),
+    let wanted = match ask(edition, &mut scratch).second {
+        0 => ask(Edition::Two, &mut scratch).second,
         wanted => wanted,
     };
     (scratch.len(), wanted as usize)

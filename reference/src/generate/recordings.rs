@@ -33,6 +33,18 @@ pub fn overheard_from(rng: &mut Rng, table: &Table, first: u16, last: u16) -> Re
     recording
 }
 
+/// What a sniffer may hear that is deaf to most packets from one device. Sound always.
+pub fn hardly_heard(rng: &mut Rng, table: &Table, device: u8, last: u16) -> Recording {
+    let mut recording = Recording::default();
+    for packet in some_run(rng, table, 1, last) {
+        let from_it = table.kinds[usize::from(packet.kind)].device == device;
+        if !from_it || rng.one_in(4) {
+            hear(&mut recording, table, packet);
+        }
+    }
+    recording
+}
+
 /// The packets of a monitor that keeps to its table. It waits now and then, but not so long that
 /// nothing can follow.
 fn some_run(rng: &mut Rng, table: &Table, first: u16, last: u16) -> Vec<Heard> {

@@ -5,9 +5,11 @@ mod devices;
 mod longer;
 mod parts;
 mod states;
+mod unlikely;
 
 pub use parts::writings;
 pub use states::HEARD;
+pub use unlikely::{IN_RANGE, OUT_OF_RANGE, WIDTHS};
 
 use crate::answer::Verdict;
 use crate::call::{Call, ORDINARY};
@@ -102,6 +104,7 @@ pub fn calls() -> Vec<Call> {
     calls.extend(devices::calls());
     calls.extend(longer::calls());
     calls.extend(counted::calls());
+    calls.extend(unlikely::calls());
     let one = recording(&[(1, DATA)]);
     for table in changed_tables() {
         calls.push(validation(&table, &one, 10_000));

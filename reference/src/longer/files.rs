@@ -78,13 +78,13 @@ fn changed_bytes() -> Vec<Told> {
         let name = format!("byte {place} is {byte}");
         all.push(told(name, Edition::Two, short_with(place, byte), refused));
     };
-    for place in 0..9 {
+    for (place, byte) in SHORT[..9].iter().enumerate() {
         let refused = match place {
             0..=3 => refusal(40, 0),
             4 => refusal(41, 4),
             _ => refusal(42, 5),
         };
-        for byte in [SHORT[place] ^ 1, SHORT[place] ^ 0x80, 255] {
+        for byte in [byte ^ 1, byte ^ 0x80, 255] {
             add(place, byte, refused);
         }
     }

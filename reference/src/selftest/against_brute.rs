@@ -41,11 +41,15 @@ fn small(rng: &mut Rng) -> Input {
     Input::new(table, recording)
 }
 
+/// Whether the search may go through all traces up to this time.
+pub fn few_traces(table: &Table, last: u32) -> bool {
+    let (traces, runs) = (table.kinds.len() as u64 + 1, table.transitions.len() as u64 + 1);
+    traces.pow(last) <= MOST_TRACES && runs.pow(last) <= MOST_RUNS
+}
+
 fn any(rng: &mut Rng) -> (Table, Recording) {
     let table = sound_table(rng, &Shape::TINY);
-    let (traces, runs) = (table.kinds.len() as u64 + 1, table.transitions.len() as u64 + 1);
-    let fits = |last: &u32| traces.pow(*last) <= MOST_TRACES && runs.pow(*last) <= MOST_RUNS;
-    let most = (1..=8).rev().find(fits).unwrap_or(1);
+    let most = (1..=8).rev().find(|last| few_traces(&table, *last)).unwrap_or(1);
     // Short recordings say little, so the longer of two lengths.
     let last = rng.between(0, most as usize).max(rng.between(0, most as usize)) as u16;
     let recording = match rng.one_in(3) {
@@ -55,7 +59,7 @@ fn any(rng: &mut Rng) -> (Table, Recording) {
     (table, recording)
 }
 
-fn test_one(rng: &mut Rng, small: &Input, counts: &mut Counts) -> Result<(), String> {
+pub fn test_one(rng: &mut Rng, small: &Input, counts: &mut Counts) -> Result<(), String> {
     let truth = truth(small, counts)?;
     counts.inputs += 1;
     match truth.dead {
@@ -84,20 +88,22 @@ fn test_one(rng: &mut Rng, small: &Input, counts: &mut Counts) -> Result<(), Str
 fn truth(small: &Input, counts: &mut Counts) -> Result<Judged, String> {
     let Input { table, recording, .. } = small;
     let last = recording.last_time();
-    let mut permitted = witnesses(table, recording);
+    let rule = small.rule();
+    let mut permitted = witnesses(rule, table, recording);
     permitted.sort_by_cached_key(|witness| preference(witness, last));
     counts.witnesses += permitted.len() as u64;
     if ruled_out(table, recording) {
         counts.narrowed += 1;
         counts.left_with_none += u64::from(permitted.is_empty());
     }
-    let dead = first_dead_instant(table, recording);
+    let dead = first_dead_instant(rule, table, recording);
     same("some trace or a dead instant", permitted.is_empty(), dead.is_some())?;
-    let works = works(table, recording);
+    let works = works(rule, table, recording);
     same("instants worked", works.len() as u64, dead.unwrap_or(last as u64))?;
     for edition in Edition::BOTH {
         let asked = permitted_by_checker(
             edition,
+            rule,
             (table, &small.table_bytes),
             (recording, &small.recording_bytes),
             MOST_CHECKS,
@@ -111,22 +117,16 @@ fn truth(small: &Input, counts: &mut Counts) -> Result<Judged, String> {
         same("permitted lists", &by_checker, &permitted)?;
     }
     let dead = match (dead, works.last()) {
-        (Some(instant), Some(work)) => {
-            Some((instant, counted(table, recording, instant as u32, *work)?))
-        }
+        (Some(instant), Some(work)) => Some((instant, counted(small, instant as u32, *work)?)),
         _ => None,
     };
     Ok(Judged { works, dead, preferred: permitted.into_iter().next() })
 }
 
 /// The counts of a dead instant with this work, from whole traces.
-fn counted(
-    table: &Table,
-    recording: &Recording,
-    instant: u32,
-    expected: u64,
-) -> Result<answer::Counts, String> {
-    let possible = possible_before(table, recording, instant);
+fn counted(small: &Input, instant: u32, expected: u64) -> Result<answer::Counts, String> {
+    let Input { table, recording, .. } = small;
+    let possible = possible_before(small.rule(), table, recording, instant);
     same("situations left by traces", work(table, &possible, instant), expected)?;
     let row = recording.rows.iter().find(|row| u32::from(row.time) == instant);
     let kind = row.ok_or("a dead instant without a row")?.kind;

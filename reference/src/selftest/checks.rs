@@ -11,6 +11,7 @@ use crate::generate::{
     long_handover, narrow_table, overheard, sound_table, spoil_witness, Rng, Shape,
 };
 use crate::recording::Recording;
+use crate::rule::Rule;
 use crate::table::Table;
 use crate::witness::Witness;
 
@@ -76,7 +77,7 @@ fn check(
         (Edition::One, 13_107..) => Answer::new(40, 0, 0),
         (Edition::One, 4_609..) => Answer::new(42, 3, 0),
         (Edition::Two, 65_536..) => Answer::new(42, 5, 0),
-        _ => expected_check(edition, table, recording, witness),
+        _ => expected_check(edition, Rule::NONE, table, recording, witness),
     };
     let answer = check_witness(edition, &files[0], &files[1], &files[2]);
     let as_other = check_witness(edition, &files[0], &files[1], &other);

@@ -9,6 +9,7 @@ mod guards;
 mod long;
 mod papers;
 mod rejections;
+mod ruled;
 mod states;
 mod truth;
 
@@ -56,6 +57,19 @@ pub struct Counts {
     /// Guards asked what waiting does for them: yes, not yet, no more.
     pub guards: [u64; 3],
     pub pairs: PairTally,
+    /// Small inputs under rules, of these the accepted ones, those that are accepted without the
+    /// rule alone, and those with other works than without it.
+    pub ruled: u64,
+    pub ruled_accepted: u64,
+    pub ruled_unlikely: u64,
+    pub ruled_other_works: u64,
+    /// Longer ones, and those with too many monitors.
+    pub ruled_longer: u64,
+    pub ruled_left: u64,
+    /// Witnesses under rules, and those that break the rule before any other.
+    pub ruled_checks: u64,
+    pub ruled_broken: u64,
+    pub rules_refused: u64,
 }
 
 /// Runs until the time is up; an error says what differed.
@@ -72,6 +86,7 @@ pub fn selftest(time: Duration, seed: u64) -> Result<Counts, String> {
         devices::test(&mut rng, &mut counts)?;
         guards::test(&mut rng, &mut counts)?;
         rejections::test(&mut rng, &mut counts)?;
+        ruled::test(&mut rng, &mut counts)?;
         if rng.one_in(ROUNDS_TO_LONG) {
             long::test(&mut rng, &mut counts)?;
         }
@@ -81,7 +96,8 @@ pub fn selftest(time: Duration, seed: u64) -> Result<Counts, String> {
 
 impl Counts {
     pub fn report(&self) -> String {
-        [&self.searched(), &self.read(), &self.pairs.line(), "no difference\n"].concat()
+        let lines = [self.searched(), self.read(), self.under_rules(), self.pairs.line()];
+        lines.concat() + "no difference\n"
     }
 
     fn searched(&self) -> String {
@@ -109,6 +125,25 @@ impl Counts {
             self.long_in_2_alone,
             self.long_accepted,
             self.long_left
+        )
+    }
+
+    fn under_rules(&self) -> String {
+        format!(
+            "small inputs under rules: {} ({} accepted, {} rejected by the rule alone, {} with \
+             other works)\n\
+             longer ones: {} ({} left as too many)\n\
+             witnesses under rules: {} ({} break the rule first)\n\
+             rules out of range: {}\n",
+            self.ruled,
+            self.ruled_accepted,
+            self.ruled_unlikely,
+            self.ruled_other_works,
+            self.ruled_longer,
+            self.ruled_left,
+            self.ruled_checks,
+            self.ruled_broken,
+            self.rules_refused
         )
     }
 

@@ -8,6 +8,7 @@ use crate::check::check_witness;
 use crate::edition::Edition;
 use crate::papers::{Paper, PAPERS, SMALL_MONITOR, SMALL_MONITOR_2};
 use crate::recording;
+use crate::rule::Rule;
 use crate::validate::validate;
 
 pub fn test(counts: &mut Counts) -> Result<(), String> {
@@ -22,7 +23,7 @@ pub fn test(counts: &mut Counts) -> Result<(), String> {
     }
     let five = PAPERS[4].recording();
     let (table, five) = recording::read(&SMALL_MONITOR, &five).map_err(|it| format!("{it:?}"))?;
-    same("P5 works", works(&table, &five), vec![1, 1, 1, 2, 3, 5])
+    same("P5 works", works(Rule::NONE, &table, &five), vec![1, 1, 1, 2, 3, 5])
 }
 
 /// With buffers far larger than wanted, so that nothing but the verdict is in question.

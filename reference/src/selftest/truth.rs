@@ -8,10 +8,13 @@ use crate::compare::hex;
 use crate::edition::Edition;
 use crate::generate::{dirty, encode_recording, encode_table, encode_witness, Rng};
 use crate::recording::Recording;
+use crate::rule::Rule;
 use crate::table::Table;
 
-/// A sound table and recording, as parts and as bytes.
+/// A sound table and recording, as parts and as bytes, and a rule that is in range for them if
+/// there is one.
 pub struct Input {
+    pub rule: Option<Rule>,
     pub table: Table,
     pub recording: Recording,
     pub table_bytes: Vec<u8>,
@@ -21,13 +24,22 @@ pub struct Input {
 impl Input {
     pub fn new(table: Table, recording: Recording) -> Input {
         let (table_bytes, recording_bytes) = (encode_table(&table), encode_recording(&recording));
-        Input { table, recording, table_bytes, recording_bytes }
+        Input { rule: None, table, recording, table_bytes, recording_bytes }
+    }
+
+    pub fn under(rule: Rule, table: Table, recording: Recording) -> Input {
+        Input { rule: Some(rule), ..Input::new(table, recording) }
+    }
+
+    /// The rule, or the one that forbids nothing.
+    pub fn rule(&self) -> Rule {
+        self.rule.unwrap_or(Rule::NONE)
     }
 
     /// What was found of it, with its files.
     pub fn describe(&self, found: &str) -> String {
         let (table, recording) = (hex(&self.table_bytes), hex(&self.recording_bytes));
-        format!("{found}\ntable: {table}\nrecording: {recording}")
+        format!("{found}\nrule: {:?}\ntable: {table}\nrecording: {recording}", self.rule)
     }
 }
 
@@ -99,13 +111,11 @@ fn not_written(
 }
 
 fn call(input: &Input, edition: Edition, budget: u32, scratch: &[u8], room: &[u8]) -> Call {
-    Call::Validate {
-        edition,
-        table: input.table_bytes.clone(),
-        recording: input.recording_bytes.clone(),
-        budget,
-        scratch: scratch.to_vec(),
-        room: room.to_vec(),
+    let (table, recording) = (input.table_bytes.clone(), input.recording_bytes.clone());
+    let (scratch, room) = (scratch.to_vec(), room.to_vec());
+    match input.rule {
+        None => Call::Validate { edition, table, recording, budget, scratch, room },
+        Some(rule) => Call::ValidateRule { edition, rule, table, recording, budget, scratch, room },
     }
 }
 
@@ -113,13 +123,17 @@ fn call(input: &Input, edition: Edition, budget: u32, scratch: &[u8], room: &[u8
 fn refused(call: &Call, number: u64, value: usize) -> Result<(), String> {
     let outcome = call.run(&ORDINARY);
     same("refusal", outcome.answer, Verdict::new(number, value as u64, 0))?;
-    let Call::Validate { scratch, room, .. } = call else { unreachable!("a validation") };
+    let (Call::Validate { scratch, room, .. } | Call::ValidateRule { scratch, room, .. }) = call
+    else {
+        unreachable!("a validation")
+    };
     same("scratch and room kept", outcome.scratch == *scratch && outcome.room == *room, true)
 }
 
-/// (T+1) x S.
+/// (T+1) x S, of the larger N under a rule.
 fn scratch_wanted(input: &Input) -> usize {
-    (input.recording.last_time() + 1) * situations(&input.table).div_ceil(8)
+    let windows = (1..input.rule().window).fold(1, |twice, _| 2 * twice);
+    (input.recording.last_time() + 1) * (situations(&input.table) * windows).div_ceil(8)
 }
 
 /// 5 + 5(T+n) in edition 1, which is written up to 4,096, and 9 + 5(T+n) in edition 2.

@@ -7,6 +7,7 @@ use lutarosa_reference::edition::Edition;
 use lutarosa_reference::frame::put;
 use lutarosa_reference::parts::TableParts;
 use lutarosa_reference::recording::{read_against, Recording};
+use lutarosa_reference::rule::Rule as Guesses;
 use lutarosa_reference::table::{self, Kind, Table, COUNT_LIMITS};
 use lutarosa_reference::validate::validate_read;
 use lutarosa_reference::writing::{Parts, Writing};
@@ -67,12 +68,12 @@ macro_rules! other {
             validate: |edition, table, recording, budget, scratch, room| {
                 let read = read_both(&RULE, table, recording);
                 settle(read.and_then(|(table, heard)| {
-                    validate_read(edition, &table, &heard, budget, scratch, room)
+                    validate_read(edition, Guesses::NONE, &table, &heard, budget, scratch, room)
                 }))
             },
             check: |edition, table, recording, witness| {
                 let read = read_both(&RULE, table, recording);
-                settle(read.and_then(|(table, heard)| check_read(edition, &table, &heard, witness)))
+                settle(read.and_then(|(table, heard)| check_read(edition, Guesses::NONE, &table, &heard, witness)))
             },
             rewrite_table: |bytes, room| {
                 settle(read(&RULE, bytes).and_then(|table| write(&RULE, &table, room)))

@@ -7,4 +7,5 @@ pub mod air;
 pub mod counts;
 pub mod devices;
 pub mod editions;
+pub mod guesses;
 pub mod states;

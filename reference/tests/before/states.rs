@@ -8,6 +8,7 @@ use lutarosa_reference::check::check_read;
 use lutarosa_reference::frame::put;
 use lutarosa_reference::guard::Guard;
 use lutarosa_reference::recording::{read_against, Recording};
+use lutarosa_reference::rule::Rule as Guesses;
 use lutarosa_reference::situation::{Space, MOST_SITUATIONS};
 use lutarosa_reference::table::{read_records, Table, Transition};
 use lutarosa_reference::validate::validate_read;
@@ -28,12 +29,14 @@ macro_rules! rule {
             validate: |edition, table, recording, budget, scratch, room| {
                 let read = read_both(JUDGE, table, recording);
                 settle(read.and_then(|(table, heard)| {
-                    validate_read(edition, &table, &heard, budget, scratch, room)
+                    validate_read(edition, Guesses::NONE, &table, &heard, budget, scratch, room)
                 }))
             },
             check: |edition, table, recording, witness| {
                 let read = read_both(JUDGE, table, recording);
-                settle(read.and_then(|(table, heard)| check_read(edition, &table, &heard, witness)))
+                settle(read.and_then(|(table, heard)| {
+                    check_read(edition, Guesses::NONE, &table, &heard, witness)
+                }))
             },
             rewrite_table: |bytes, room| rewrite(read(JUDGE, bytes).map(|_| ()), bytes, room),
             rewrite_recording: |table, bytes, room| {

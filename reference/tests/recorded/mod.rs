@@ -9,13 +9,16 @@ use lutarosa_reference::call::{Call, Engine, Outcome, ORDINARY};
 use lutarosa_reference::cases::cases;
 use lutarosa_reference::edition::Edition;
 use lutarosa_reference::parts::{Placed, TableParts, WitnessParts};
+use lutarosa_reference::rule::Rule;
 use lutarosa_reference::table::Kind;
 use lutarosa_reference::witness::Row;
 use lutarosa_reference::writing::{Parts, Writing};
 
 #[derive(Default)]
 pub struct Recorded {
+    /// Without a rule, and under one.
     pub calls: Vec<Call>,
+    pub under_rules: Vec<Call>,
     /// Of tables, alone or with reading back.
     pub writings: Vec<Writing>,
     /// The same of witnesses.
@@ -32,9 +35,14 @@ const USUALLY_LENT: usize = 30_000;
 const USUALLY_COUNTED: u64 = 100;
 
 impl Recorded {
-    /// The calls and their outcomes.
+    /// The calls without a rule and their outcomes.
     pub fn outcomes(&self) -> impl Iterator<Item = (&Call, &Outcome)> {
         self.calls.iter().zip(OUTCOMES.iter())
+    }
+
+    /// The calls under rules and their outcomes.
+    pub fn outcomes_under_rules(&self) -> impl Iterator<Item = (&Call, &Outcome)> {
+        self.under_rules.iter().zip(OUTCOMES_UNDER_RULES.iter())
     }
 
     /// Those that are no long handovers and have few pairs to count, for rules that say nothing of
@@ -59,6 +67,9 @@ pub static RECORDED: LazyLock<Recorded> =
 
 pub static OUTCOMES: LazyLock<Vec<Outcome>> =
     LazyLock::new(|| RECORDED.calls.iter().map(|it| it.run(&ORDINARY)).collect());
+
+pub static OUTCOMES_UNDER_RULES: LazyLock<Vec<Outcome>> =
+    LazyLock::new(|| RECORDED.under_rules.iter().map(|it| it.run(&ORDINARY)).collect());
 
 /// In how many of the calls this engine answers otherwise, and in how many of the writings this
 /// writer answers or writes otherwise.
@@ -92,9 +103,9 @@ pub fn all_told<'a>(rules: impl Iterator<Item = (&'a str, [usize; 2], [usize; 2]
 fn recorded(batch: &[u8]) -> Recorded {
     let mut recorded = Recorded::default();
     let mut rest = batch;
-    while let Some((head, behind)) = rest.split_first_chunk::<25>() {
+    while let Some((head, behind)) = rest.split_first_chunk::<28>() {
         let number = |place: usize| {
-            let bytes = head[1 + 4 * place..].first_chunk().expect("six numbers");
+            let bytes = head[4 + 4 * place..].first_chunk().expect("six numbers");
             u32::from_be_bytes(*bytes)
         };
         rest = behind;
@@ -105,23 +116,24 @@ fn recorded(batch: &[u8]) -> Recorded {
         });
         let lent = [1, 2].map(|place| number(place) as usize);
         recorded.sizes.push([files.iter().map(Vec::len).sum(), lent[0], lent[1]]);
-        recorded.add(head[0], number(0), lent, files);
+        let rule = Rule::new(head[1], head[2], head[3]);
+        recorded.add(head[0], rule, number(0), lent, files);
     }
     recorded
 }
 
 /// The edition of a call with this number.
 fn edition(number: u8) -> Edition {
-    if number < 12 {
-        Edition::One
-    } else {
-        Edition::Two
+    match number {
+        0..=11 | 17 | 18 => Edition::One,
+        _ => Edition::Two,
     }
 }
 
 impl Recorded {
-    fn add(&mut self, number: u8, budget: u32, lent: [usize; 2], files: [Vec<u8>; 3]) {
+    fn add(&mut self, number: u8, rule: Rule, budget: u32, lent: [usize; 2], files: [Vec<u8>; 3]) {
         let edition = edition(number);
+        assert!(number >= 17 || rule == Rule::new(0, 0, 0), "a call without a rule");
         let writing = |parts, back| Writing { parts, back, room: lent[1] };
         match number {
             5 => return self.desk.extend(files.into_iter().take(1)),
@@ -134,10 +146,16 @@ impl Recorded {
             _ => {}
         }
         let [table, second, witness] = files;
+        let recording = second.clone();
         let [scratch, room] = lent.map(|length| vec![0; length]);
-        self.calls.push(match number {
-            0 | 12 => Call::Validate { edition, table, recording: second, budget, scratch, room },
-            1 | 13 => Call::Check { edition, table, recording: second, witness },
+        let calls = if number < 17 { &mut self.calls } else { &mut self.under_rules };
+        calls.push(match number {
+            0 | 12 => Call::Validate { edition, table, recording, budget, scratch, room },
+            1 | 13 => Call::Check { edition, table, recording, witness },
+            17 | 19 => {
+                Call::ValidateRule { edition, rule, table, recording, budget, scratch, room }
+            }
+            18 | 20 => Call::CheckRule { edition, rule, table, recording, witness },
             2 => Call::RewriteTable { bytes: table, room },
             3 => Call::RewriteRecording { table, bytes: second, room },
             _ => Call::RewriteWitness { edition, bytes: table, room },

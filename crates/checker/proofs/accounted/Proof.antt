@@ -2,8 +2,8 @@ use Rattle.checker.proofs.Steps.{stepped-as, not-accounted, account-kep
 use Rattle.model.specs.Rules.{noneBefore}
 use lib.Dec.{leb}
 use lib.ListN.{drop}
-use Rattle.monitor.specs.From.{monitorFrom}
 use Rattle.model.specs.Recording.{packetsAt}
+use Rattle.checker.specs.Standing.{ruledFrom}
 use borrow.Author.Tests.{not-true, not-false, lt-leb}
 use mathlib.Core.Bool.{true, false}
 use mathlib.Core.Path.{refl, sym, _∙_}
@@ -22,7 +22,7 @@ returns c =
     let a = c .before .before .before .before .before .before .before .args in
     let ps = packetsAt (a .recording .now) in
     stepped-as ps (c .refused .ensures ps)
-    (not-accounted (a .edition) (monitorFrom (a .table .now) (a .offsets .now)) ps (a .s) (a .e)
+    (not-accounted (a .edition) (ruledFrom (a .rule) (a .table .now) (a .offsets .now)) ps (a .s) (a .e)
     false (noneBefore (drop (a .s .next) ps) (a .e .time)) (leb (a .s .free) (a .e .time))
     (sym (c .before .before .in-place .ensures) ∙ not-true _ (c .before .if1 .taken)) refl refl refl)
 
@@ -37,7 +37,7 @@ returns-2 c =
     let a = c .before .before .before .before .before .before .before .before .before .args in
     let ps = packetsAt (a .recording .now) in
     stepped-as ps (c .refused2 .ensures ps)
-    (not-accounted (a .edition) (monitorFrom (a .table .now) (a .offsets .now)) ps (a .s) (a .e)
+    (not-accounted (a .edition) (ruledFrom (a .rule) (a .table .now) (a .offsets .now)) ps (a .s) (a .e)
     true false (leb (a .s .free) (a .e .time))
     (sym (c .before .before .before .before .in-place .ensures) ∙ not-false _ (c .before .before .before .if1 .left))
     (sym (c .before .before .none-before .ensures) ∙ not-true _ (c .before .if2 .taken)) refl refl)
@@ -53,7 +53,7 @@ returns-3 c =
     let a = c .before .before .before .before .before .before .before .before .before .before .before .before .args in
     let ps = packetsAt (a .recording .now) in
     stepped-as ps (c .refused3 .ensures ps)
-    (not-accounted (a .edition) (monitorFrom (a .table .now) (a .offsets .now)) ps (a .s) (a .e)
+    (not-accounted (a .edition) (ruledFrom (a .rule) (a .table .now) (a .offsets .now)) ps (a .s) (a .e)
     true true false
     (sym (c .before .before .before .before .before .before .before .in-place .ensures) ∙ not-false _ (c .before .before .before .before .before .before .if1 .left))
     (sym (c .before .before .before .before .before .none-before .ensures) ∙ not-false _ (c .before .before .before .before .if2 .left))
@@ -69,7 +69,7 @@ returns-4 c =
     let a = c .before .before .before .before .before .before .before .before .before .before .before .before .before .before .args in
     let ps = packetsAt (a .recording .now) in
     stepped-as ps (c .keep-row .ensures)
-    (account-kept (a .edition) (monitorFrom (a .table .now) (a .offsets .now)) ps (a .s) (a .e)
+    (account-kept (a .edition) (ruledFrom (a .rule) (a .table .now) (a .offsets .now)) ps (a .s) (a .e)
     (sym (c .before .before .before .before .before .before .before .before .before .in-place .ensures) ∙ not-false _ (c .before .before .before .before .before .before .before .before .if1 .left))
     (sym (c .before .before .before .before .before .before .before .none-before .ensures) ∙ not-false _ (c .before .before .before .before .before .before .if2 .left))
     (c .before .before .before .if3 .left) (c .before .if4 .taken))
@@ -83,8 +83,8 @@ returns-5 : tie.Need-returns-5
 returns-5 c =
     let a = c .before .before .before .before .before .before .before .before .before .before .before .before .before .before .before .before .args in
     let ps = packetsAt (a .recording .now) in
-    stepped-as ps (c .remove-row .ensures)
-    (account-removed (a .edition) (monitorFrom (a .table .now) (a .offsets .now)) ps (a .s) (a .e)
+    stepped-as ps (c .remove-row .ensures (a .rule))
+    (account-removed (a .edition) (ruledFrom (a .rule) (a .table .now) (a .offsets .now)) ps (a .s) (a .e)
     (sym (c .before .before .before .before .before .before .before .before .before .before .before .in-place .ensures) ∙ not-false _ (c .before .before .before .before .before .before .before .before .before .before .if1 .left))
     (sym (c .before .before .before .before .before .before .before .before .before .none-before .ensures) ∙ not-false _ (c .before .before .before .before .before .before .before .before .if2 .left))
     (c .before .before .before .before .before .if3 .left) (c .before .if5 .taken))
@@ -99,7 +99,7 @@ returns-6 c =
     let a = c .before .before .before .before .before .before .before .before .before .before .before .before .before .before .before .before .args in
     let ps = packetsAt (a .recording .now) in
     stepped-as ps (c .add-row .ensures)
-    (account-added (a .edition) (monitorFrom (a .table .now) (a .offsets .now)) ps (a .s) (a .e)
+    (account-added (a .edition) (ruledFrom (a .rule) (a .table .now) (a .offsets .now)) ps (a .s) (a .e)
     (sym (c .before .before .before .before .before .before .before .before .before .before .before .in-place .ensures) ∙ not-false _ (c .before .before .before .before .before .before .before .before .before .before .if1 .left))
     (sym (c .before .before .before .before .before .before .before .before .before .none-before .ensures) ∙ not-false _ (c .before .before .before .before .before .before .before .before .if2 .left))
     (c .before .before .before .before .before .if3 .left) (c .before .before .before .if4 .left) (c .before .if5 .left))

@@ -1,6 +1,6 @@
 use Rattle.checker.proofs.Steps.{stepped-as, not-added, added-sent}
-use Rattle.monitor.specs.From.{monitorFrom}
 use Rattle.model.specs.Recording.{packetsAt}
+use Rattle.checker.specs.Standing.{ruledFrom}
 use borrow.Author.Tests.{not-true, not-false}
 use mathlib.Core.Path.{sym, _∙_}
 use borrow.Author.Needs.{needs}
@@ -16,7 +16,7 @@ refused-requires c κs = search needs
 returns : tie.Need-returns
 returns c = let a = c .before .before .before .before .before .before .args in
     let ps = packetsAt (a .recording .now) in
-    stepped-as ps (c .refused .ensures ps) (not-added (monitorFrom (a .table .now) (a .offsets .now)) ps (a .s) (a .e) (sym (c .before .before .none-at .ensures) ∙ not-true _ (c .before .if1 .taken)))
+    stepped-as ps (c .refused .ensures ps) (not-added (ruledFrom (a .rule) (a .table .now) (a .offsets .now)) ps (a .s) (a .e) (sym (c .before .before .none-at .ensures) ∙ not-true _ (c .before .if1 .taken)))
 
 sent-requires : tie.Need-sent-requires
 sent-requires c κs = search needs
@@ -24,7 +24,7 @@ sent-requires c κs = search needs
 returns-2 : tie.Need-returns-2
 returns-2 c = let a = c .before .before .before .before .before .before .args in
     let ps = packetsAt (a .recording .now) in
-    stepped-as ps (c .sent .ensures ps) (added-sent (monitorFrom (a .table .now) (a .offsets .now)) ps (a .s) (a .e) (sym (c .before .before .none-at .ensures) ∙ not-false _ (c .before .if1 .left)))
+    stepped-as ps (c .sent .ensures ps) (added-sent (ruledFrom (a .rule) (a .table .now) (a .offsets .now)) ps (a .s) (a .e) (sym (c .before .before .none-at .ensures) ∙ not-false _ (c .before .if1 .left)))
 
 pub add-row-spec : {M : Type 1} → statement M
 add-row-spec =

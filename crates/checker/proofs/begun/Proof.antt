@@ -12,7 +12,7 @@ returns : tie.Need-returns
 returns c =
     let r = c .no-row in (
       record { fired = omega arith; last = omega (arith, r .ok); clocks = refl; first = omega arith; second = omega arith },
-      λ recording i. record { before = r .ensures i; left = recording; now = 0; config = record { state = 0; variables = 0; clocks = 0 ∷ 0 ∷ [] }; free = 0 },
+      λ recording i. record { before = r .ensures i; left = recording; now = 0; config = record { state = 0; variables = 0; clocks = 0 ∷ 0 ∷ [] }; free = 0; window = 0 },
     )
 
 pub begun-spec : {M : Type 1} → statement M

@@ -4,19 +4,18 @@ use mathlib.Core.Path.{_≡_}
 use borrow.Author.Tests.{not-true, not-false}
 use Rattle.model.specs.Recording.{packetsAt}
 use Rattle.model.specs.Witness.{witnessCountAt}
-use Rattle.monitor.specs.From.{monitorFrom}
-use Rattle.checker.specs.Standing.{Bounded}
+use Rattle.checker.specs.Standing.{ruledFrom, Bounded}
 use Rattle.checker.proofs.Pass.{Ahead, ahead-first, ahead-more, ahead-broken, ahead-left, ahead-done}
 use borrow.Author.Needs.{needs}
 use Rattle.checker.proofs.check_rows.Statement.{statement}
 use Rattle.checker.proofs.check_rows.Tie as tie
 
 abbrev Inv-loop : tie.InvT-loop
-Inv-loop edition table offsets recording witness count s₀ changed₀ i₀ s changed i =
-    (count ≡ witnessCountAt edition witness) × Bounded s × Ahead edition (monitorFrom table offsets) recording witness s changed i
+Inv-loop rule edition table offsets recording witness count s₀ changed₀ i₀ s changed i =
+    (count ≡ witnessCountAt edition witness) × Bounded s × Ahead edition (ruledFrom rule table offsets) recording witness s changed i
 
 abbrev μ-loop : tie.MeasureT-loop
-μ-loop edition table offsets recording witness count s₀ changed₀ i₀ s changed i = count - i
+μ-loop rule edition table offsets recording witness count s₀ changed₀ i₀ s changed i = count - i
 
 count-at-requires : tie.Need-count-at-requires Inv-loop μ-loop
 count-at-requires c κs = search needs
@@ -26,7 +25,7 @@ begun-requires c κs = search needs
 
 loop-holds : tie.Need-loop-holds Inv-loop μ-loop
 loop-holds c = let a = c .before .before .before .before .before .before .args in
-    let m = monitorFrom (a .table .now) (a .offsets .now) in
+    let m = ruledFrom (a .rule) (a .table .now) (a .offsets .now) in
     ((c .before .count-at .ensures .0), (c .begun .ensures .0), ahead-first (a .edition) m (a .recording .now) (a .witness .now) (c .begun .result) (c .begun .ensures .1 (packetsAt (a .recording .now))))
 
 row-at-requires : tie.Need-row-at-requires Inv-loop μ-loop
@@ -35,12 +34,12 @@ row-at-requires c κs = search needs
 accounted-requires : tie.Need-accounted-requires Inv-loop μ-loop
 accounted-requires c κs = search needs
 
-cast-t13 : tie.Need-cast-t13 Inv-loop μ-loop
-cast-t13 c = search needs
+cast-t14 : tie.Need-cast-t14 Inv-loop μ-loop
+cast-t14 c = search needs
 
 returns : tie.Need-returns Inv-loop μ-loop
 returns c = let a = c .before .before .before .before .before .before .before .before .before .before .before .before .args in
-    let m = monitorFrom (a .table .now) (a .offsets .now) in
+    let m = ruledFrom (a .rule) (a .table .now) (a .offsets .now) in
     let l = c .before .before .before .before .before .loop in
     ahead-broken (a .edition) m (a .recording .now) (a .witness .now) (l .s) (l .changed) (l .i) (l .inv .2) (c .before .before .before .row-at .result) (c .before .before .accounted .result)
     (omega (arith, l .inv .0, (c .before .before .before .before .loop-test .taken))) (c .before .before .before .row-at .ensures) (c .before .before .accounted .ensures) (not-true _ (c .if1 .taken))
@@ -60,7 +59,7 @@ loop-less c = search needs
 
 loop-again : tie.Need-loop-again Inv-loop μ-loop
 loop-again c = let a = c .before .before .before .before .before .before .before .before .before .before .before .before .before .before .args in
-    let m = monitorFrom (a .table .now) (a .offsets .now) in
+    let m = ruledFrom (a .rule) (a .table .now) (a .offsets .now) in
     let l = c .before .before .before .before .before .before .before .loop in
     let g = (c .before .before .before .before .accounted .ensures) in
     let t = not-false _ (c .before .before .if1 .left) in (
@@ -72,21 +71,21 @@ loop-again c = let a = c .before .before .before .before .before .before .before
 word-requires : tie.Need-word-requires Inv-loop μ-loop
 word-requires c κs = search needs
 
-cast-t18 : tie.Need-cast-t18 Inv-loop μ-loop
-cast-t18 c = search needs
+cast-t19 : tie.Need-cast-t19 Inv-loop μ-loop
+cast-t19 c = search needs
 
 returns-2 : tie.Need-returns-2 Inv-loop μ-loop
 returns-2 c = let a = c .before .before .before .before .before .before .before .before .before .before .before .args in
-    let m = monitorFrom (a .table .now) (a .offsets .now) in
+    let m = ruledFrom (a .rule) (a .table .now) (a .offsets .now) in
     let l = c .before .before .before .before .loop in
     ahead-left (a .edition) m (a .recording .now) (a .witness .now) (l .s) (l .changed) (l .i) (l .inv .2) (omega (arith, l .inv .0, (c .before .before .before .loop-test .left))) (omega (arith, (c .before .before .word .ensures .0), c .if2 .taken))
 
-cast-t20 : tie.Need-cast-t20 Inv-loop μ-loop
-cast-t20 c = search needs
+cast-t21 : tie.Need-cast-t21 Inv-loop μ-loop
+cast-t21 c = search needs
 
 returns-3 : tie.Need-returns-3 Inv-loop μ-loop
 returns-3 c = let a = c .before .before .before .before .before .before .before .before .before .before .before .args in
-    let m = monitorFrom (a .table .now) (a .offsets .now) in
+    let m = ruledFrom (a .rule) (a .table .now) (a .offsets .now) in
     let l = c .before .before .before .before .loop in
     ahead-done (a .edition) m (a .recording .now) (a .witness .now) (l .s) (l .changed) (l .i) (l .inv .2) (omega (arith, l .inv .0, (c .before .before .before .loop-test .left))) (omega (arith, (c .before .before .word .ensures .0), c .if2 .left))
 
@@ -101,7 +100,7 @@ check-rows-spec =
     loop-holds
     row-at-requires
     accounted-requires
-    cast-t13
+    cast-t14
     returns
     change-by-requires
     add-changed
@@ -109,7 +108,7 @@ check-rows-spec =
     loop-less
     loop-again
     word-requires
-    cast-t18
+    cast-t19
     returns-2
-    cast-t20
+    cast-t21
     returns-3)

@@ -1,6 +1,6 @@
 use Rattle.checker.proofs.Steps.{stepped-as, not-next-kept, kept-sent}
-use Rattle.monitor.specs.From.{monitorFrom}
 use Rattle.model.specs.Recording.{packetsAt}
+use Rattle.checker.specs.Standing.{ruledFrom}
 use borrow.Author.Tests.{not-true, not-false}
 use mathlib.Core.Path.{sym, _∙_}
 use native.Mathlib.Omega.{arith}
@@ -17,7 +17,7 @@ refused-requires c κs = search needs
 returns : tie.Need-returns
 returns c = let a = c .before .before .before .before .before .before .args in
     let ps = packetsAt (a .recording .now) in
-    stepped-as ps (c .refused .ensures ps) (not-next-kept (monitorFrom (a .table .now) (a .offsets .now)) ps (a .s) (a .e) (sym (c .before .before .is-next .ensures .0) ∙ not-true _ (c .before .if1 .taken)))
+    stepped-as ps (c .refused .ensures ps) (not-next-kept (ruledFrom (a .rule) (a .table .now) (a .offsets .now)) ps (a .s) (a .e) (sym (c .before .before .is-next .ensures .0) ∙ not-true _ (c .before .if1 .taken)))
 
 add-sent : tie.Need-add-sent
 add-sent c = omega (arith, c .before .is-next .ensures .1 (not-false _ (c .if1 .left)))
@@ -28,7 +28,7 @@ sent-requires c κs = search needs
 returns-2 : tie.Need-returns-2
 returns-2 c = let a = c .before .before .before .before .before .before .args in
     let ps = packetsAt (a .recording .now) in
-    stepped-as ps (c .sent .ensures ps) (kept-sent (monitorFrom (a .table .now) (a .offsets .now)) ps (a .s) (a .e) (sym (c .before .before .is-next .ensures .0) ∙ not-false _ (c .before .if1 .left)))
+    stepped-as ps (c .sent .ensures ps) (kept-sent (ruledFrom (a .rule) (a .table .now) (a .offsets .now)) ps (a .s) (a .e) (sym (c .before .before .is-next .ensures .0) ∙ not-false _ (c .before .if1 .left)))
 
 pub keep-row-spec : {M : Type 1} → statement M
 keep-row-spec =

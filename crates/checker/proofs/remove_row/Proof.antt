@@ -1,7 +1,7 @@
 use Rattle.checker.proofs.Steps.{stepped-as, not-removed, removed-step}
 use Rattle.model.specs.Monitor.{toUnit}
-use Rattle.monitor.specs.From.{monitorFrom}
 use Rattle.model.specs.Recording.{packetsAt}
+use Rattle.checker.specs.Standing.{ruledFrom}
 use borrow.Author.Tests.{not-true, not-false}
 use mathlib.Core.Bool.{true, false}
 use mathlib.Core.Path.{refl, sym, _∙_}
@@ -19,8 +19,9 @@ refused-requires c κs = search needs
 returns : tie.Need-returns
 returns c =
     let a = c .before .before .before .before .before .before .args in
-    let m = monitorFrom (a .table .now) (a .offsets .now) in
     let ps = packetsAt (a .recording .now) in
+    λ rule.
+    let m = ruledFrom rule (a .table .now) (a .offsets .now) in
     stepped-as ps (c .refused .ensures ps)
     (not-removed m ps (a .s) (a .e) false (toUnit m (a .e .kind)) (sym (c .before .before .is-next .ensures .0) ∙ not-true _ (c .before .if1 .taken)) refl refl)
 
@@ -34,8 +35,9 @@ returns-2 : tie.Need-returns-2
 returns-2 c =
     let a = c .before .before .before .before .before .before .before .before .args in
     let ps = packetsAt (a .recording .now) in
+    λ rule.
     stepped-as ps (c .refused2 .ensures ps)
-    (not-removed (monitorFrom (a .table .now) (a .offsets .now)) ps (a .s) (a .e) true false
+    (not-removed (ruledFrom rule (a .table .now) (a .offsets .now)) ps (a .s) (a .e) true false
     (sym (c .before .before .before .before .is-next .ensures .0) ∙ not-false _ (c .before .before .before .if1 .left))
     (sym (c .before .before .to-unit .ensures (a .offsets .now)) ∙ not-true _ (c .before .if2 .taken)) refl)
 
@@ -49,7 +51,8 @@ returns-3 : tie.Need-returns-3
 returns-3 c =
     let a = c .before .before .before .before .before .before .before .before .before .args in
     let ps = packetsAt (a .recording .now) in
-    removed-step (monitorFrom (a .table .now) (a .offsets .now)) ps (a .s) (a .e) (c .free-after .result) (c .before .before .before .before .before .before .before .before .before .pre)
+    λ rule.
+    removed-step (ruledFrom rule (a .table .now) (a .offsets .now)) ps (a .s) (a .e) (c .free-after .result) (c .before .before .before .before .before .before .before .before .before .pre)
     (c .free-after .ensures (a .offsets .now))
     (sym (c .before .before .before .before .before .is-next .ensures .0) ∙ not-false _ (c .before .before .before .before .if1 .left))
     (sym (c .before .before .before .to-unit .ensures (a .offsets .now)) ∙ not-false _ (c .before .before .if2 .left))

@@ -4,8 +4,8 @@ use mathlib.Core.Path.{ap}
 use mathlib.Core.List.{List}
 use lib.ListN.{take, drop}
 use borrow.Author.Needs.{needs}
-use Rattle.model.specs.Validation.{scratchAfter, roomAfter}
-use Rattle.model.proofs.Examples.{run}
+use Rattle.model.specs.Validation.{scratchLeft, roomLeft}
+use Rattle.model.proofs.Examples.{runOf}
 use Rattle.fixed_witness.proofs.main.Statement.{statement}
 use Rattle.fixed_witness.proofs.main.Tie as tie
 
@@ -28,7 +28,7 @@ accepted-requires : tie.Need-accepted-requires
 accepted-requires c κs = search needs
 
 expect-requires : tie.Need-expect-requires
-unfolding run scratchAfter roomAfter
+unfolding runOf scratchLeft roomLeft
 expect-requires c κs = c .accepted .ensures .1 (c .before .before .before .validate .ensures .answered)
 
 sub-same : tie.Need-sub-same
@@ -47,7 +47,7 @@ same-requires : tie.Need-same-requires
 same-requires c κs = search needs
 
 expect-requires-2 : tie.Need-expect-requires-2
-unfolding run scratchAfter roomAfter
+unfolding runOf scratchLeft roomLeft
 expect-requires-2 c κs =
     c .same .ensures .1 (ap (λ (l : List ℕ). take 10 (drop 0 l)) (c .before .before .before .before .before .before .before .before .validate .ensures .written))
 
@@ -67,7 +67,7 @@ same-requires-2 : tie.Need-same-requires-2
 same-requires-2 c κs = search needs
 
 expect-requires-3 : tie.Need-expect-requires-3
-unfolding run scratchAfter roomAfter
+unfolding runOf scratchLeft roomLeft
 expect-requires-3 c κs =
     c .same2 .ensures .1 (ap (λ (l : List ℕ). take 80 (drop 10 l)) (c .before .before .before .before .before .before .before .before .before .before .before .before .before .validate .ensures .written))
 
@@ -87,7 +87,7 @@ same-requires-3 : tie.Need-same-requires-3
 same-requires-3 c κs = search needs
 
 expect-requires-4 : tie.Need-expect-requires-4
-unfolding run scratchAfter roomAfter
+unfolding runOf scratchLeft roomLeft
 expect-requires-4 c κs =
     c .same3 .ensures .1 (ap (λ (l : List ℕ). take 12 (drop 0 l)) (c .before .before .before .before .before .before .before .before .before .before .before .before .before .before .before .before .before .before .validate .ensures .cleared))
 
@@ -107,7 +107,7 @@ same-requires-4 : tie.Need-same-requires-4
 same-requires-4 c κs = search needs
 
 expect-requires-5 : tie.Need-expect-requires-5
-unfolding run scratchAfter roomAfter
+unfolding runOf scratchLeft roomLeft
 expect-requires-5 c κs =
     c .same4 .ensures .1 (ap (λ (l : List ℕ). take 88 (drop 12 l)) (c .before .before .before .before .before .before .before .before .before .before .before .before .before .before .before .before .before .before .before .before .before .before .before .validate .ensures .cleared))
 

@@ -82,47 +82,59 @@ enum-known-refusal-7 c = search needs
 numbered-requires-13 : tie.Need-numbered-requires-13
 numbered-requires-13 c κs = search needs
 
-enum-known-refusal-8 : tie.Need-enum-known-refusal-8
-enum-known-refusal-8 c = search needs
+enum-told-7 : tie.Need-enum-told-7
+enum-told-7 c = search needs
 
 numbered-requires-14 : tie.Need-numbered-requires-14
 numbered-requires-14 c κs = search needs
 
-enum-known-refusal-9 : tie.Need-enum-known-refusal-9
-enum-known-refusal-9 c = search needs
+enum-told-8 : tie.Need-enum-told-8
+enum-told-8 c = search needs
 
 numbered-requires-15 : tie.Need-numbered-requires-15
 numbered-requires-15 c κs = search needs
 
-enum-known-refusal-10 : tie.Need-enum-known-refusal-10
-enum-known-refusal-10 c = search needs
+enum-known-refusal-8 : tie.Need-enum-known-refusal-8
+enum-known-refusal-8 c = search needs
 
 numbered-requires-16 : tie.Need-numbered-requires-16
 numbered-requires-16 c κs = search needs
 
-enum-told-7 : tie.Need-enum-told-7
-enum-told-7 c = search needs
+enum-known-refusal-9 : tie.Need-enum-known-refusal-9
+enum-known-refusal-9 c = search needs
 
 numbered-requires-17 : tie.Need-numbered-requires-17
 numbered-requires-17 c κs = search needs
 
-enum-known-refusal-11 : tie.Need-enum-known-refusal-11
-enum-known-refusal-11 c = search needs
+enum-known-refusal-10 : tie.Need-enum-known-refusal-10
+enum-known-refusal-10 c = search needs
 
 numbered-requires-18 : tie.Need-numbered-requires-18
 numbered-requires-18 c κs = search needs
 
-enum-known-refusal-12 : tie.Need-enum-known-refusal-12
-enum-known-refusal-12 c = search needs
+enum-told-9 : tie.Need-enum-told-9
+enum-told-9 c = search needs
 
 numbered-requires-19 : tie.Need-numbered-requires-19
 numbered-requires-19 c κs = search needs
 
-enum-known-refusal-13 : tie.Need-enum-known-refusal-13
-enum-known-refusal-13 c = search needs
+enum-known-refusal-11 : tie.Need-enum-known-refusal-11
+enum-known-refusal-11 c = search needs
 
 numbered-requires-20 : tie.Need-numbered-requires-20
 numbered-requires-20 c κs = search needs
+
+enum-known-refusal-12 : tie.Need-enum-known-refusal-12
+enum-known-refusal-12 c = search needs
+
+numbered-requires-21 : tie.Need-numbered-requires-21
+numbered-requires-21 c κs = search needs
+
+enum-known-refusal-13 : tie.Need-enum-known-refusal-13
+enum-known-refusal-13 c = search needs
+
+numbered-requires-22 : tie.Need-numbered-requires-22
+numbered-requires-22 c κs = search needs
 
 returns : tie.Need-returns
 returns c = c .numbered .ensures ∙ sym (ap refusalValues (c .before .enum-told .given .1))
@@ -164,25 +176,31 @@ returns-13 : tie.Need-returns-13
 returns-13 c = c .numbered13 .ensures ∙ sym (ap refusalValues (c .before .before .refusal7 .given .1))
 
 returns-14 : tie.Need-returns-14
-returns-14 c = c .numbered14 .ensures ∙ sym (ap refusalValues (c .before .before .refusal8 .given .1))
+returns-14 c = c .numbered14 .ensures ∙ sym (ap refusalValues (c .before .enum-told7 .given .1))
 
 returns-15 : tie.Need-returns-15
-returns-15 c = c .numbered15 .ensures ∙ sym (ap refusalValues (c .before .before .refusal9 .given .1))
+returns-15 c = c .numbered15 .ensures ∙ sym (ap refusalValues (c .before .enum-told8 .given .1))
 
 returns-16 : tie.Need-returns-16
-returns-16 c = c .numbered16 .ensures ∙ sym (ap refusalValues (c .before .before .refusal10 .given .1))
+returns-16 c = c .numbered16 .ensures ∙ sym (ap refusalValues (c .before .before .refusal8 .given .1))
 
 returns-17 : tie.Need-returns-17
-returns-17 c = c .numbered17 .ensures ∙ sym (ap refusalValues (c .before .enum-told7 .given .1))
+returns-17 c = c .numbered17 .ensures ∙ sym (ap refusalValues (c .before .before .refusal9 .given .1))
 
 returns-18 : tie.Need-returns-18
-returns-18 c = c .numbered18 .ensures ∙ sym (ap refusalValues (c .before .before .refusal11 .given .1))
+returns-18 c = c .numbered18 .ensures ∙ sym (ap refusalValues (c .before .before .refusal10 .given .1))
 
 returns-19 : tie.Need-returns-19
-returns-19 c = c .numbered19 .ensures ∙ sym (ap refusalValues (c .before .before .refusal12 .given .1))
+returns-19 c = c .numbered19 .ensures ∙ sym (ap refusalValues (c .before .enum-told9 .given .1))
 
 returns-20 : tie.Need-returns-20
-returns-20 c = c .numbered20 .ensures ∙ sym (ap refusalValues (c .before .before .refusal13 .given .1))
+returns-20 c = c .numbered20 .ensures ∙ sym (ap refusalValues (c .before .before .refusal11 .given .1))
+
+returns-21 : tie.Need-returns-21
+returns-21 c = c .numbered21 .ensures ∙ sym (ap refusalValues (c .before .before .refusal12 .given .1))
+
+returns-22 : tie.Need-returns-22
+returns-22 c = c .numbered22 .ensures ∙ sym (ap refusalValues (c .before .before .refusal13 .given .1))
 
 pub refusal-numbers-spec : {M : Type 1} → statement M
 refusal-numbers-spec =
@@ -214,20 +232,24 @@ refusal-numbers-spec =
     numbered-requires-12
     enum-known-refusal-7
     numbered-requires-13
-    enum-known-refusal-8
-    numbered-requires-14
-    enum-known-refusal-9
-    numbered-requires-15
-    enum-known-refusal-10
-    numbered-requires-16
     enum-told-7
+    numbered-requires-14
+    enum-told-8
+    numbered-requires-15
+    enum-known-refusal-8
+    numbered-requires-16
+    enum-known-refusal-9
     numbered-requires-17
-    enum-known-refusal-11
+    enum-known-refusal-10
     numbered-requires-18
-    enum-known-refusal-12
+    enum-told-9
     numbered-requires-19
-    enum-known-refusal-13
+    enum-known-refusal-11
     numbered-requires-20
+    enum-known-refusal-12
+    numbered-requires-21
+    enum-known-refusal-13
+    numbered-requires-22
     returns
     returns-2
     returns-3
@@ -247,4 +269,6 @@ refusal-numbers-spec =
     returns-17
     returns-18
     returns-19
-    returns-20)
+    returns-20
+    returns-21
+    returns-22)

@@ -16,20 +16,17 @@ with-counts-requires c κs = search needs
 enum-known-verdict-2 : tie.Need-enum-known-verdict-2
 enum-known-verdict-2 c = search needs
 
+rejection-requires : tie.Need-rejection-requires
+rejection-requires c κs = search needs
+
+enum-known-verdict-3 : tie.Need-enum-known-verdict-3
+enum-known-verdict-3 c = search needs
+
 numbered-requires-2 : tie.Need-numbered-requires-2
 numbered-requires-2 c κs = search needs
 
 with-counts-requires-2 : tie.Need-with-counts-requires-2
 with-counts-requires-2 c κs = search needs
-
-enum-known-verdict-3 : tie.Need-enum-known-verdict-3
-enum-known-verdict-3 c = search needs
-
-numbered-requires-3 : tie.Need-numbered-requires-3
-numbered-requires-3 c κs = search needs
-
-with-counts-requires-3 : tie.Need-with-counts-requires-3
-with-counts-requires-3 c κs = search needs
 
 enum-known-verdict-4 : tie.Need-enum-known-verdict-4
 enum-known-verdict-4 c = search needs
@@ -37,8 +34,8 @@ enum-known-verdict-4 c = search needs
 refusal-numbers-requires : tie.Need-refusal-numbers-requires
 refusal-numbers-requires c κs = search needs
 
-with-counts-requires-4 : tie.Need-with-counts-requires-4
-with-counts-requires-4 c κs = search needs
+with-counts-requires-3 : tie.Need-with-counts-requires-3
+with-counts-requires-3 c κs = search needs
 
 returns : tie.Need-returns
 returns c =
@@ -47,18 +44,18 @@ returns c =
 
 returns-2 : tie.Need-returns-2
 returns-2 c =
-    let is = sym (c .before .before .before .verdict2 .given .1) in
-    (c .with-counts2 .ensures .0 ∙ c .before .numbered2 .ensures ∙ ap verdictValues is, c .with-counts2 .ensures .1 ∙ ap verdictCounts is)
+    let is = sym (c .before .before .verdict2 .given .1) in
+    (c .rejection .ensures .0 ∙ ap verdictValues is, c .rejection .ensures .1 ∙ ap verdictCounts is)
 
 returns-3 : tie.Need-returns-3
 returns-3 c =
     let is = sym (c .before .before .before .verdict3 .given .1) in
-    (c .with-counts3 .ensures .0 ∙ c .before .numbered3 .ensures ∙ ap verdictValues is, c .with-counts3 .ensures .1 ∙ ap verdictCounts is)
+    (c .with-counts2 .ensures .0 ∙ c .before .numbered2 .ensures ∙ ap verdictValues is, c .with-counts2 .ensures .1 ∙ ap verdictCounts is)
 
 returns-4 : tie.Need-returns-4
 returns-4 c =
     let is = sym (c .before .before .before .verdict4 .given .1) in
-    (c .with-counts4 .ensures .0 ∙ c .before .refusal-numbers .ensures ∙ ap verdictValues is, c .with-counts4 .ensures .1 ∙ ap verdictCounts is)
+    (c .with-counts3 .ensures .0 ∙ c .before .refusal-numbers .ensures ∙ ap verdictValues is, c .with-counts3 .ensures .1 ∙ ap verdictCounts is)
 
 pub verdict-numbers-spec : {M : Type 1} → statement M
 verdict-numbers-spec =
@@ -68,14 +65,13 @@ verdict-numbers-spec =
     numbered-requires
     with-counts-requires
     enum-known-verdict-2
+    rejection-requires
+    enum-known-verdict-3
     numbered-requires-2
     with-counts-requires-2
-    enum-known-verdict-3
-    numbered-requires-3
-    with-counts-requires-3
     enum-known-verdict-4
     refusal-numbers-requires
-    with-counts-requires-4
+    with-counts-requires-3
     returns
     returns-2
     returns-3

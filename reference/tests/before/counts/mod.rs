@@ -13,6 +13,9 @@ use answers::Asked;
 use known::{known, Known};
 use Readiness::{NoMore, NotYet, Yes};
 
+/// A kind, and the situations in which it was heard.
+type Heard<'a> = (u8, &'a [Situation]);
+
 /// R-10 is what `NOW` has.
 #[derive(Clone, Copy)]
 pub struct Rule {
@@ -23,7 +26,7 @@ pub struct Rule {
     /// Pairs of a situation and a transition's number with the same key are one.
     key: fn(&Space, &Situation, usize) -> (usize, usize),
     /// Kinds, and the situations in which they were heard.
-    looks_at: fn(&Known) -> Vec<(u8, &[Situation])>,
+    looks_at: fn(&Known) -> Vec<Heard>,
     /// Whether an answer with this number has counts.
     gives: fn(u64) -> bool,
     says: fn(Counts) -> Counts,

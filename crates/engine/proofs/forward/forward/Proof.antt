@@ -2,6 +2,7 @@
 use Prim.Native.Nat.{_-_}
 use native.Mathlib.Omega.{arith}
 use mathlib.Core.Path.{sym, subst, _∙_}
+use Rattle.engine.specs.Setting.{monitorBy}
 use borrow.Author.Needs.{needs}
 use Rattle.engine.specs.Forwarding.{Ended}
 use Rattle.engine.proofs.ForwardPass.{Passing, started, through, cost-fits, turn, spent, emptying, emptied, again}
@@ -10,7 +11,7 @@ use Rattle.engine.proofs.forward.forward.Tie as tie
 
 abbrev Inv-loop : tie.InvT-loop
 Inv-loop table offsets recording g budget scratch₀ cost₀ work₀ i₀ t₀ scratch cost work i t =
-    Passing table recording scratch₀ scratch budget (g .row) (g .last) t i cost work
+    Passing (monitorBy g table) recording scratch₀ scratch budget (g .row) (g .last) t i cost work
 
 abbrev μ-loop : tie.MeasureT-loop
 μ-loop table offsets recording g budget scratch₀ cost₀ work₀ i₀ t₀ scratch cost work i t =

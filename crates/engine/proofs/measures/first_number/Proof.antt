@@ -20,7 +20,7 @@ returns : tie.Need-returns
 unfolding cappedBy
 returns c =
     c .number .ensures
-    ∙ ap₂ (λ (a b : ℕ). numberBy (c .before .before .before .args .h) (record { state = 0; variables = 0; clocks = a ∷ b ∷ []; air = 0 }))
+    ∙ ap₂ (λ (a b : ℕ). numberBy (c .before .before .before .args .h) (record { state = 0; variables = 0; clocks = a ∷ b ∷ []; air = 0; window = 0 }))
     (c .before .before .first-clock .ensures) (c .before .first-clock2 .ensures)
 
 pub first-number-spec : {M : Type 1} → statement M

@@ -5,13 +5,14 @@ use mathlib.Core.Path.{_≡_, refl, sym, subst, _∙_}
 use lib.ListN.{length}
 use Rattle.situation.specs.Rows.{Cursor}
 use Rattle.engine.proofs.PruneLayers.{PrunedTo, cursor-first, pruned-first, pruned-turn}
+use Rattle.engine.specs.Setting.{monitorBy}
 use borrow.Author.Needs.{needs}
 use Rattle.engine.proofs.prune.prune.Statement.{statement}
 use Rattle.engine.proofs.prune.prune.Tie as tie
 
 abbrev Inv-loop : tie.InvT-loop
 Inv-loop table offsets recording g scratch₀ cursor₀ t₀ scratch cursor t =
-    (t ≤ g .last) × Cursor recording cursor (t + 1) × (length scratch ≡ length scratch₀) × PrunedTo table recording scratch (g .row) (g .size) (g .last) t
+    (t ≤ g .last) × Cursor recording cursor (t + 1) × (length scratch ≡ length scratch₀) × PrunedTo (monitorBy g table) recording scratch (g .row) (g .size) (g .last) t
 
 abbrev μ-loop : tie.MeasureT-loop
 μ-loop table offsets recording g scratch₀ cursor₀ t₀ scratch cursor t = t

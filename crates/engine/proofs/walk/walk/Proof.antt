@@ -1,7 +1,7 @@
 -- `engine::walk::walk` meets its contract: the frame before the rows, which stand in the part of the room behind it. Assumes nothing.
 use native.Mathlib.Omega.{arith}
 use mathlib.Core.Path.{_∙_}
-use Rattle.model.specs.Table.{monitorAt}
+use Rattle.engine.specs.Setting.{monitorBy}
 use Rattle.model.specs.Recording.{packetsAt}
 use Rattle.model.specs.Validation.{preferred}
 use Rattle.engine.proofs.WalkRoom.{framed-part}
@@ -40,7 +40,7 @@ returns c =
     let few = rows-fit (a .table .now) (a .offsets .now) (a .recording .now) (a .g) (c .before .before .before .before .before .before .before .before .before .before .before .before .before .before .pre .0 .setting) in (
       c .before .before .before .before .before .before .walk-rows .ensures .0,
       c .before .before .put-frame .ensures
-          ∙ framed-part (a .edition) (preferred (monitorAt (a .table .now)) (packetsAt (a .recording .now))) (c .before .before .before .before .before .before .before .before .rows-place .result) _ (a .room .now) _ (c .before .before .before .before .before .before .before .before .rows-place .ensures .0)
+          ∙ framed-part (a .edition) (preferred (monitorBy (a .g) (a .table .now)) (packetsAt (a .recording .now))) (c .before .before .before .before .before .before .before .before .rows-place .result) _ (a .room .now) _ (c .before .before .before .before .before .before .before .before .rows-place .ensures .0)
           (c .before .before .before .before .before .before .walk-rows .ensures .0) (c .before .before .before .before .before .before .walk-rows .ensures .1) (omega (arith, few, c .before .before .before .before .before .before .before .before .rows-place .ensures .0)),
     )
 

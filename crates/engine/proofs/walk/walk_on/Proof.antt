@@ -9,8 +9,11 @@ use Rattle.model.specs.Validation.{rowsBy}
 use Rattle.situation.specs.Rows.{heardOf, Cursor}
 use Rattle.situation.proofs.Cursors.{heard-recorded, passed-cursor}
 use Rattle.layers.specs.Advance.{stepAt, leastInto}
+use Rattle.engine.specs.Setting.{monitorBy}
 use Rattle.engine.specs.WalkRows.{rowsAfter}
 use Rattle.engine.proofs.Rows.{row-start}
+use Rattle.engine.proofs.WalkRoom.{rows-put-same}
+use Rattle.engine.proofs.WalkMoves.{rows-plain, has-plain}
 use Rattle.engine.proofs.WalkSteps.{Leading, leading, onward}
 use borrow.Author.Needs.{needs}
 use Rattle.engine.proofs.walk.walk_on.Statement.{statement}
@@ -40,14 +43,14 @@ on : (c : tie.After-heard-at) (k : ℕ)
     → let a = c .before .before .before .before .before .before .args in
     let step = stepAt (a .table .now) (a .offsets .now) (a .g .shape) (heardOf (c .heard-at .result)) in
     k ≡ leastInto step (a .scratch .now) (8 * a .g .row * (a .t + 1)) (a .g .size) (a .at .number)
-    → Leading (a .table .now) (a .recording .now) (a .g .last) (a .t) (a .at .number) k (heardOf (c .heard-at .result)) (step (a .at .number) k)
+    → Leading (monitorBy (a .g) (a .table .now)) (a .recording .now) (a .g .last) (a .t) (a .at .number) k (heardOf (c .heard-at .result)) (step (a .at .number) k)
 on c k e =
     let start = c .before .before .before .before .before .before in
     let a = start .args in
     let set = start .pre .0 .setting in
     leading (a .table .now) (a .offsets .now) (a .recording .now) (a .g) set (a .scratch .now) (start .pre .0 .pruned) (a .t) (a .at .number) (a .at .cursor)
     (heardOf (c .heard-at .result)) k (start .pre .1)
-    (c .heard-at .ensures ∙ heard-recorded (monitorAt (a .table .now)) (a .recording .now) (set .sound .trace) (start .pre .2 .cursor)) e (start .pre .2)
+    (c .heard-at .ensures ∙ heard-recorded (monitorBy (a .g) (a .table .now)) (a .recording .now) (set .sound .trace) (start .pre .2 .cursor)) e (start .pre .2)
 
 least-move-requires : tie.Need-least-move-requires
 least-move-requires c κs = let led = on (c .before .before) _ refl in (led .number, led .arrives)
@@ -66,12 +69,13 @@ put-move-requires c κs =
     let led = on (least .before .before .before) (least .least-move .result .k) (least .least-move .ensures .0) in (
       start .pre .0 .triggers,
       led .few,
-      led .fits,
+      has-plain (a .g .shape .rule) (monitorAt (a .table .now)) (heardOf (least .before .before .before .heard-at .result)) (moveOf (least .least-move .result .k)) (led .fits),
       omega (
         arith,
         start .pre .3,
         ap length (led .split),
-        length-append (rowsBy (monitorAt (a .table .now)) (heardOf (least .before .before .before .heard-at .result)) (a .t + 1) (moveOf (least .least-move .result .k))) (rowsAfter (a .table .now) (a .recording .now) (a .g .last) (a .t + 1) (led .number)),
+        ap length (rows-plain (a .g .shape .rule) (monitorAt (a .table .now)) (heardOf (least .before .before .before .heard-at .result)) (a .t + 1) (moveOf (least .least-move .result .k))),
+        length-append (rowsBy (monitorBy (a .g) (a .table .now)) (heardOf (least .before .before .before .heard-at .result)) (a .t + 1) (moveOf (least .least-move .result .k))) (rowsAfter (monitorBy (a .g) (a .table .now)) (a .recording .now) (a .g .last) (a .t + 1) (led .number)),
       ),
     )
 
@@ -87,8 +91,8 @@ returns c =
     let a = start .args in
     onward (on (least .before .before .before) (least .least-move .result .k) (least .least-move .ensures .0)) (least .least-move .ensures .1)
     (subst (λ (j : ℕ). Cursor (a .recording .now) j (a .t + 1 + 1)) (sym (went .passed .ensures))
-    (passed-cursor (monitorAt (a .table .now)) (a .recording .now) (start .pre .0 .setting .sound .trace) (start .pre .2 .cursor)))
-    (called .put-move .ensures)
+    (passed-cursor (monitorBy (a .g) (a .table .now)) (a .recording .now) (start .pre .0 .setting .sound .trace) (start .pre .2 .cursor)))
+    (rows-put-same (sym (rows-plain (a .g .shape .rule) (monitorAt (a .table .now)) (heardOf (least .before .before .before .heard-at .result)) (a .t + 1) (moveOf (least .least-move .result .k)))) (called .put-move .ensures))
 
 pub walk-on-spec : {M : Type 1} → statement M
 walk-on-spec =

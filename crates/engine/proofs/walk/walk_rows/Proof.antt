@@ -2,9 +2,9 @@
 use Prim.Native.Nat.{ℕ, _-_, _≤_}
 use native.Mathlib.Omega.{arith}
 use mathlib.Core.Path.{_≡_, sym, subst}
-use Rattle.model.specs.Table.{monitorAt}
 use Rattle.model.specs.Recording.{packetsAt}
 use Rattle.model.specs.Validation.{preferred}
+use Rattle.engine.specs.Setting.{monitorBy}
 use Rattle.engine.specs.WalkRows.{Room, Stands}
 use Rattle.engine.proofs.WalkRoom.{rows-put-all}
 use Rattle.engine.proofs.WalkSteps.{Walked, room-left, walked-length, walked-on, stands-first, walked-first, walked-all, rows-fit}
@@ -14,7 +14,7 @@ use Rattle.engine.proofs.walk.walk_rows.Tie as tie
 
 abbrev Inv-loop : tie.InvT-loop
 Inv-loop table offsets recording g scratch room₀ at₀ t₀ room at t =
-    (t ≤ g .last) × Stands table recording (g .last) t (at .number) (at .cursor) × Walked table recording (g .last) t (at .number) (at .rows) room₀ room
+    (t ≤ g .last) × Stands (monitorBy g table) recording (g .last) t (at .number) (at .cursor) × Walked (monitorBy g table) recording (g .last) t (at .number) (at .rows) room₀ room
 
 abbrev μ-loop : tie.MeasureT-loop
 μ-loop table offsets recording g scratch room₀ at₀ t₀ room at t = g .last - t
@@ -25,14 +25,14 @@ loop-holds c =
     let a = start .args in
     let set = start .pre .0 .setting in (
       omega arith,
-      subst (λ (n : ℕ). Stands (a .table .now) (a .recording .now) (a .g .last) 0 n 0) (sym (set .start))
+      subst (λ (n : ℕ). Stands (monitorBy (a .g) (a .table .now)) (a .recording .now) (a .g .last) 0 n 0) (sym (set .start))
           (stands-first (a .table .now) (a .offsets .now) (a .recording .now) (a .g) set (start .pre .1)),
-      subst (λ (n : ℕ). Walked (a .table .now) (a .recording .now) (a .g .last) 0 n 0 (a .room .now) (a .room .now)) (sym (set .start))
+      subst (λ (n : ℕ). Walked (monitorBy (a .g) (a .table .now)) (a .recording .now) (a .g .last) 0 n 0 (a .room .now) (a .room .now)) (sym (set .start))
           (walked-first (a .table .now) (a .offsets .now) (a .recording .now) (a .g) set (a .room .now)),
     )
 
 -- there is room for all rows
-room : (c : tie.Start Inv-loop μ-loop) → let a = c .args in Room (preferred (monitorAt (a .table .now)) (packetsAt (a .recording .now))) 0 (a .room .now)
+room : (c : tie.Start Inv-loop μ-loop) → let a = c .args in Room (preferred (monitorBy (a .g) (a .table .now)) (packetsAt (a .recording .now))) 0 (a .room .now)
 room c =
     let a = c .args in
     omega (arith, c .pre .2, rows-fit (a .table .now) (a .offsets .now) (a .recording .now) (a .g) (c .pre .0 .setting))

@@ -1,6 +1,6 @@
 use Prim.Native.Nat.{_+_, _^_}
 use mathlib.Core.Path.{_∙_}
-use Rattle.model.specs.Size.{cap, size, largestAirtime}
+use Rattle.model.specs.Size.{cap, tableSize, largestAirtime}
 use Rattle.model.specs.Table.{monitorOf}
 use Rattle.guard.proofs.Sizes.{product-least}
 use borrow.Author.Needs.{needs}
@@ -38,7 +38,7 @@ times-requires-4 : tie.Need-times-requires-4
 times-requires-4 c κs = search needs
 
 returns : tie.Need-returns
-unfolding size monitorOf
+unfolding tableSize monitorOf
 returns c = let t = c .before .before .before .before .before .before .before .before .before .args .t in
     let m = monitorOf t in
     product-least (t .states) (2 ^ (t .variables)) (cap m 0 + 1) (cap m 1 + 1) (largestAirtime m + 1) 65537

@@ -1,5 +1,5 @@
-use Rattle.situation.specs.Numbering.{shapeOf}
 use borrow.Author.Needs.{needs}
+use Rattle.situation.specs.Numbering.{shapeOf}
 use Rattle.situation.proofs.numbering.shape_of.Statement.{statement}
 use Rattle.situation.proofs.numbering.shape_of.Tie as tie
 
@@ -9,14 +9,17 @@ masks-of-requires c κs = search needs
 clock-values-requires : tie.Need-clock-values-requires
 clock-values-requires c κs = search needs
 
-cast-t4 : tie.Need-cast-t4
-cast-t4 c = search needs
+cast-t5 : tie.Need-cast-t5
+cast-t5 c = search needs
 
 clock-values-requires-2 : tie.Need-clock-values-requires-2
 clock-values-requires-2 c κs = search needs
 
-cast-t6 : tie.Need-cast-t6
-cast-t6 c = search needs
+cast-t7 : tie.Need-cast-t7
+cast-t7 c = search needs
+
+masks-requires : tie.Need-masks-requires
+masks-requires c κs = search needs
 
 returns : tie.Need-returns
 unfolding shapeOf
@@ -28,7 +31,8 @@ shape-of-spec =
     (tie.spec
     masks-of-requires
     clock-values-requires
-    cast-t4
+    cast-t5
     clock-values-requires-2
-    cast-t6
+    cast-t7
+    masks-requires
     returns)

@@ -10,24 +10,23 @@ use Rattle.situation.specs.declared.Shape.{Shape}
 use Rattle.situation.specs.declared.Next.{Next}
 use Rattle.situation.specs.Numbering.{numberBy}
 use Rattle.model.specs.Situation.{stepBy, moveOf}
-use Rattle.monitor.specs.From.{monitorFrom}
 use Rattle.situation.specs.Steps.{leading, cappedBy, stepped}
-use Rattle.situation.specs.Stepping.{arriveFrom}
+use Rattle.situation.specs.Stepping.{ruledFrom, arriveFrom}
 use Rattle.situation.proofs.step.arrive.Statement.{statement}
 use Rattle.situation.proofs.step.arrive.Tie as tie
 
 module _ (table offsets : List ℕ) (h : Shape) (heard : Option ℕ) (s : Situation) (k : ℕ) (n : Next) where
-  arrived : n ≡ stepped h (monitorFrom table offsets) heard s (moveOf k) → n .leads ≡ true → some (numberBy h (n .to)) ≡ arriveFrom table offsets h heard s k
+  arrived : n ≡ stepped h (ruledFrom h table offsets) heard s (moveOf k) → n .leads ≡ true → some (numberBy h (n .to)) ≡ arriveFrom table offsets h heard s k
   unfolding arriveFrom stepped
-  arrived e l = by (stepBy (monitorFrom table offsets) (cappedBy h) heard s (moveOf k)) e
+  arrived e l = by (stepBy (ruledFrom h table offsets) (cappedBy h) heard s (moveOf k)) e
     where
       by : (o : Option Situation) → n ≡ leading s o → some (numberBy h (n .to)) ≡ Option·map (numberBy h) o
       by none q = cc
       by (some x) q = ap (λ (m : Next). some (numberBy h (m .to))) q
 
-  stayed : n ≡ stepped h (monitorFrom table offsets) heard s (moveOf k) → n .leads ≡ false → none ≡ arriveFrom table offsets h heard s k
+  stayed : n ≡ stepped h (ruledFrom h table offsets) heard s (moveOf k) → n .leads ≡ false → none ≡ arriveFrom table offsets h heard s k
   unfolding arriveFrom stepped
-  stayed e l = by (stepBy (monitorFrom table offsets) (cappedBy h) heard s (moveOf k)) e
+  stayed e l = by (stepBy (ruledFrom h table offsets) (cappedBy h) heard s (moveOf k)) e
     where
       by : (o : Option Situation) → n ≡ leading s o → none ≡ Option·map (numberBy h) o
       by none q = refl

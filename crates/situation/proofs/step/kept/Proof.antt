@@ -1,10 +1,10 @@
 use mathlib.Core.Path.{_≡_, ap, sym, _∙_}
 use Rattle.model.specs.Situation.{keep}
-use Rattle.monitor.specs.From.{monitorFrom}
 use Rattle.situation.specs.declared.Heard.{Heard}
 use Rattle.situation.specs.declared.Heard.the-variants.{Kind}
 use Rattle.situation.specs.Rows.{heardOf}
 use Rattle.situation.specs.Steps.{stepped}
+use Rattle.situation.specs.Stepping.{ruledFrom}
 use Rattle.situation.proofs.Moves.{kept-nothing, kept-row}
 use borrow.Author.Needs.{needs}
 use Rattle.situation.proofs.step.kept.Statement.{statement}
@@ -25,13 +25,13 @@ sent-requires c κs = search needs
 returns : tie.Need-returns
 returns c =
     let a = c .before .before .before .before .before .args in
-    let m = monitorFrom (a .table .now) (a .offsets .now) in
+    let m = ruledFrom (a .h) (a .table .now) (a .offsets .now) in
     c .nowhere .ensures ∙ kept-nothing (a .h) m (a .s) (a .j) ∙ ap (λ (x : Heard). stepped (a .h) m (heardOf x) (a .s) (keep (a .j))) (sym (c .before .enum-told .given .1))
 
 returns-2 : tie.Need-returns-2
 returns-2 c =
     let a = c .before .before .before .before .before .before .args in
-    let m = monitorFrom (a .table .now) (a .offsets .now) in
+    let m = ruledFrom (a .h) (a .table .now) (a .offsets .now) in
     let p = c .before .before .heard .given .0 in
     let e : a .heard ≡ Kind (p .0) = cc in
     c .sent .ensures ∙ kept-row (a .h) m (a .j) (p .0) (a .s) ∙ ap (λ (x : Heard). stepped (a .h) m (heardOf x) (a .s) (keep (a .j))) (sym e)

@@ -1,3 +1,4 @@
+use Prim.Native.Nat.{ℕ}
 use native.Mathlib.Omega.{arith}
 use mathlib.Core.Bool.{true}
 use mathlib.Core.Path.{ap, sym, _∙_}
@@ -6,8 +7,8 @@ use borrow.Author.Needs.{needs}
 use Rattle.model.specs.Monitor.{airtime}
 use Rattle.model.specs.declared.Config.{Config}
 use Rattle.model.specs.declared.Situation.{Situation}
-use Rattle.monitor.specs.From.{monitorFrom}
 use Rattle.situation.specs.Steps.{tickedBy}
+use Rattle.situation.specs.Stepping.{ruledFrom}
 use Rattle.situation.proofs.Moves.{missed-taken, missed-not, missed-row}
 use Rattle.situation.proofs.step.missed.Statement.{statement}
 use Rattle.situation.proofs.step.missed.Tie as tie
@@ -18,7 +19,7 @@ nowhere-requires c κs = search needs
 returns : tie.Need-returns
 returns c =
     let a = c .before .before .before .before .args in
-    λ offsets. c .nowhere .ensures ∙ missed-taken (a .h) (monitorFrom (a .table .now) offsets) (a .kind) (a .s) (λ e. omega (arith, c .before .if1 .taken, e))
+    λ offsets. c .nowhere .ensures ∙ missed-taken (a .h) (ruledFrom (a .h) (a .table .now) offsets) (a .kind) (a .s) (λ e. omega (arith, c .before .if1 .taken, e))
 
 to-unit-requires : tie.Need-to-unit-requires
 to-unit-requires c κs = search needs
@@ -31,7 +32,7 @@ returns-2 c =
     let a = c .before .before .before .before .before .before .args in
     λ offsets.
     c .nowhere2 .ensures
-    ∙ missed-not (a .h) (monitorFrom (a .table .now) offsets) (a .kind) (a .s) (omega (arith, c .before .before .before .if1 .left))
+    ∙ missed-not (a .h) (ruledFrom (a .h) (a .table .now) offsets) (a .kind) (a .s) (omega (arith, c .before .before .before .if1 .left))
     (sym (c .before .before .to-unit .ensures offsets) ∙ not-true _ (c .before .if2 .taken))
 
 airtime-of-requires : tie.Need-airtime-of-requires
@@ -47,11 +48,11 @@ returns-3 : tie.Need-returns-3
 returns-3 c =
     let a = c .before .before .before .before .before .before .before .before .args in
     λ offsets.
-    let m = monitorFrom (a .table .now) offsets in
+    let m = ruledFrom (a .h) (a .table .now) offsets in
     ap (λ (x : Situation). record { leads = true; to = x })
     (c .ticked .ensures
-    ∙ ap (tickedBy (a .h) (c .before .config-of .result)) (c .before .before .airtime-of .ensures offsets)
-    ∙ ap (λ (d : Config). tickedBy (a .h) d (airtime m (a .kind))) (c .before .config-of .ensures))
+    ∙ ap (λ (air : ℕ). tickedBy (a .h) (c .before .config-of .result) air (a .s .window)) (c .before .before .airtime-of .ensures offsets)
+    ∙ ap (λ (d : Config). tickedBy (a .h) d (airtime m (a .kind)) (a .s .window)) (c .before .config-of .ensures))
     ∙ missed-row (a .h) m (a .kind) (a .s) (omega (arith, c .before .before .before .before .before .if1 .left)) (sym (c .before .before .before .before .to-unit .ensures offsets) ∙ not-false _ (c .before .before .before .if2 .left))
 
 pub missed-spec : {M : Type 1} → statement M

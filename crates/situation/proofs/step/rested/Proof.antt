@@ -2,11 +2,11 @@ use mathlib.Core.Bool.{true}
 use mathlib.Core.Path.{_≡_, ap, sym, _∙_}
 use Rattle.model.specs.Situation.{rest}
 use Rattle.model.specs.declared.Situation.{Situation}
-use Rattle.monitor.specs.From.{monitorFrom}
 use Rattle.situation.specs.declared.Heard.{Heard}
 use Rattle.situation.specs.declared.Heard.the-variants.{Kind}
 use Rattle.situation.specs.Rows.{heardOf}
 use Rattle.situation.specs.Steps.{stepped}
+use Rattle.situation.specs.Stepping.{ruledFrom}
 use Rattle.situation.proofs.Moves.{rested-nothing, removed-row}
 use borrow.Author.Needs.{needs}
 use Rattle.situation.proofs.step.rested.Statement.{statement}
@@ -28,7 +28,7 @@ returns : tie.Need-returns
 returns c =
     let a = c .before .before .before .before .args in
     λ offsets.
-    let m = monitorFrom (a .table .now) offsets in
+    let m = ruledFrom (a .h) (a .table .now) offsets in
     ap (λ (x : Situation). record { leads = true; to = x }) (c .still .ensures)
     ∙ rested-nothing (a .h) m (a .s)
     ∙ ap (λ (x : Heard). stepped (a .h) m (heardOf x) (a .s) rest) (sym (c .before .enum-told .given .1))
@@ -39,7 +39,7 @@ returns-2 c =
     let p = c .before .before .heard .given .0 in
     let e : a .heard ≡ Kind (p .0) = cc in
     λ offsets.
-    let m = monitorFrom (a .table .now) offsets in
+    let m = ruledFrom (a .h) (a .table .now) offsets in
     c .missed .ensures offsets
     ∙ removed-row (a .h) m (p .0) (a .s)
     ∙ ap (λ (x : Heard). stepped (a .h) m (heardOf x) (a .s) rest) (sym e)

@@ -17,7 +17,7 @@ ticked-requires c κs = search needs
 returns : tie.Need-returns
 returns c = let a = c .before .before .before .before .args in
     let d = c .before .config-of in
-    c .ticked .ensures ∙ ap (λ (x : Config). tickedBy (a .h) x 0) (d .ensures) ∙ still-ticked (a .h) (a .s) 0 (omega arith)
+    c .ticked .ensures ∙ ap (λ (x : Config). tickedBy (a .h) x 0 (a .s .window)) (d .ensures) ∙ still-ticked (a .h) (a .s) 0 (omega arith)
 
 config-of-requires-2 : tie.Need-config-of-requires-2
 config-of-requires-2 c κs = search needs
@@ -31,7 +31,7 @@ ticked-requires-2 c κs = search needs
 returns-2 : tie.Need-returns-2
 returns-2 c = let a = c .before .before .before .before .before .args in
     let d = c .before .before .config-of2 in
-    c .ticked2 .ensures ∙ ap (λ (x : Config). tickedBy (a .h) x (a .s .air - 1)) (d .ensures) ∙ still-ticked (a .h) (a .s) (a .s .air - 1) refl
+    c .ticked2 .ensures ∙ ap (λ (x : Config). tickedBy (a .h) x (a .s .air - 1) (a .s .window)) (d .ensures) ∙ still-ticked (a .h) (a .s) (a .s .air - 1) refl
 
 pub still-spec : {M : Type 1} → statement M
 still-spec =

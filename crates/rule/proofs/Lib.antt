@@ -1,0 +1,3 @@
+pub mod Laws
+mod Windows
+mod Answers
