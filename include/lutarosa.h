@@ -2,8 +2,9 @@
  *
  * Tables, recordings and witnesses are bytes in the formats of document 01; the times of a witness rise strictly (R-3
  * of document 02). A table has version 1 or 2; in version 2 the record of a kind has a third byte, the device that sends
- * it: 0 if from the unit, 1 to 15 if to it (R-6). Devices change no answer but 14. The times of a recording go to 65535,
- * and a witness has one of two editions (R-5), which the caller names by the function:
+ * it: 0 if from the unit, 1 to 15 if to it (R-6). Devices change no answer but 14 and those of a call under a rule
+ * (R-7). The times of a recording go to 65535, and a witness has one of two editions (R-5), which the caller names by
+ * the function:
  *
  *                            edition 1          edition 2, functions ..._edition2
  *    length, row count       two bytes each     four bytes each
@@ -38,6 +39,11 @@ extern "C" {
  *    17         a state of the table cannot    second: the lowest such state
  *               be reached from state 0
  *    20 to 24   the recording is not sound     second: where; for 23 and 24 the row, from 0
+ *    25         the rule is out of range:      second: 0
+ *               device above 15, window not
+ *               1 to 8, most above window
+ *    26         N times 2 to the power          second: 0
+ *               window - 1 is above 65536
  *    30         scratch too short              second: bytes wanted
  *    31         witness room too short         second: bytes wanted; 0 if the last recorded time is above
  *                                              4096, for which edition 1 is not written however large
@@ -106,6 +112,40 @@ struct lutarosa_answer lutarosa_check(const uint8_t *table, size_t table_length,
 struct lutarosa_answer lutarosa_check_edition2(const uint8_t *table, size_t table_length,
                                                const uint8_t *recording, size_t recording_length,
                                                const uint8_t *witness, size_t witness_length);
+
+/* The same under a measured loss rate (R-7): in any window of so many consecutive kept or added rows at most so many are
+ * added rows from the device; fewer rows than a window are one window. Removed rows are not counted. window is 1 to 8,
+ * most 0 to window, device 0 to 15: 0 is the unit, and in a version 1 table 1 sends all that is to it.
+ *
+ * Judging looks for traces that keep the rule alone, and 1 then says "rejected as unlikely": no trace within this loss
+ * rate explains the recording, while a trace beyond it may. A situation also holds which of the last window - 1 kept or
+ * added rows were such guesses, so N is N times 2 to the power window - 1, in S and in the largest cost; what is always
+ * enough stays. A witness is permitted if its rows keep the rule too, and 43 names the row by which they first do not.
+ * With window 1 and most 1 every answer is that of the call without a rule.
+ */
+struct lutarosa_verdict lutarosa_validate_rule(const uint8_t *table, size_t table_length,
+                                               const uint8_t *recording, size_t recording_length,
+                                               uint32_t budget,
+                                               uint8_t device, uint8_t window, uint8_t most,
+                                               uint8_t *scratch, size_t scratch_length,
+                                               uint8_t *room, size_t room_length);
+
+struct lutarosa_verdict lutarosa_validate_rule_edition2(const uint8_t *table, size_t table_length,
+                                                        const uint8_t *recording, size_t recording_length,
+                                                        uint32_t budget,
+                                                        uint8_t device, uint8_t window, uint8_t most,
+                                                        uint8_t *scratch, size_t scratch_length,
+                                                        uint8_t *room, size_t room_length);
+
+struct lutarosa_answer lutarosa_check_rule(const uint8_t *table, size_t table_length,
+                                           const uint8_t *recording, size_t recording_length,
+                                           const uint8_t *witness, size_t witness_length,
+                                           uint8_t device, uint8_t window, uint8_t most);
+
+struct lutarosa_answer lutarosa_check_rule_edition2(const uint8_t *table, size_t table_length,
+                                                    const uint8_t *recording, size_t recording_length,
+                                                    const uint8_t *witness, size_t witness_length,
+                                                    uint8_t device, uint8_t window, uint8_t most);
 
 /* Each reads bytes and writes what it read into the room. Sound bytes come out the same, in either version of a table
  * and in either edition of a witness, so a room of their length is enough. A recording is read against a table; of a
