@@ -42,7 +42,7 @@ extern "C" {
  *    25         the rule is out of range:      second: 0
  *               device above 15, window not
  *               1 to 8, most above window
- *    26         N times 2 to the power          second: 0
+ *    26         N times 2 to the power         second: 0
  *               window - 1 is above 65536
  *    30         scratch too short              second: bytes wanted
  *    31         witness room too short         second: bytes wanted; 0 if the last recorded time is above
@@ -119,9 +119,9 @@ struct lutarosa_answer lutarosa_check_edition2(const uint8_t *table, size_t tabl
  *
  * Judging looks for traces that keep the rule alone, and 1 then says "rejected as unlikely": no trace within this loss
  * rate explains the recording, while a trace beyond it may. A situation also holds which of the last window - 1 kept or
- * added rows were such guesses, so N is N times 2 to the power window - 1, in S and in the largest cost; what is always
- * enough stays. A witness is permitted if its rows keep the rule too, and 43 names the row by which they first do not.
- * With window 1 and most 1 every answer is that of the call without a rule.
+ * added rows were added ones from the device: N grows to N times 2 to the power window - 1, in S and in the largest cost.
+ * What is always enough stays. A witness is permitted if its rows keep the rule too, and 43 names the row by which they
+ * first do not. With window 1 and most 1 every answer is that of the call without a rule.
  */
 struct lutarosa_verdict lutarosa_validate_rule(const uint8_t *table, size_t table_length,
                                                const uint8_t *recording, size_t recording_length,

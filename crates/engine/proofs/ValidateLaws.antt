@@ -36,6 +36,7 @@ use Rattle.model.specs.Rule.{noRule}
 use Rattle.model.proofs.Basics.{andThen-left, andThen-right, length-tab}
 use Rattle.model.proofs.Tests.{test, le-test, sound-unsound}
 use Rattle.model.proofs.RecordingForm.{packetAt, packets-tab}
+use Rattle.model.proofs.NumberLaws.{ruled-values, ruled-counts}
 use Rattle.model.proofs.Judgement.{sound-judged, sound-judged-under}
 use Rattle.model.proofs.LongRecordings.{unrefused, refuses-late}
 use Rattle.model.proofs.WithoutRule.{as-without}
@@ -217,18 +218,6 @@ validates edition table recording budget scratch room scratchThen roomThen v a =
 
 -- .. and under one
 
-same-values : (v : Verdict) → ruledValues (ruled v) ≡ verdictValues v
-same-values (Accepted cost rows) = refl
-same-values (Rejected cost instant notYet noMore) = refl
-same-values (Exhausted budget instant) = refl
-same-values (Refused why) = refl
-
-same-counts : (v : Verdict) → ruledCounts (ruled v) ≡ verdictCounts v
-same-counts (Accepted cost rows) = refl
-same-counts (Rejected cost instant notYet noMore) = refl
-same-counts (Exhausted budget instant) = refl
-same-counts (Refused why) = refl
-
 pub validates-under : (rule : Rule) (edition : Edition) (table recording : List ℕ) (budget : ℕ) (scratch room scratchThen roomThen : List ℕ) (v : Verdict)
     → Answered (ruledAnswer rule table recording) edition (monitorUnder rule table) recording budget scratch room scratchThen roomThen v
     → (x : RuledVerdict) → x ≡ ruled v → ValidatesUnder rule edition table recording budget scratch room scratchThen roomThen x
@@ -237,11 +226,11 @@ validates-under rule edition table recording budget scratch room scratchThen roo
     let m : Monitor = monitorUnder rule table in
     let answer : Verdict = validationUnder rule edition table recording budget (length scratch) (length room) in
     let same : x ≡ ruled answer = is ∙ ap ruled (a .answered) in
-    let told : ruledValues x ≡ verdictValues answer = ap ruledValues same ∙ same-values answer in
+    let told : ruledValues x ≡ verdictValues answer = ap ruledValues same ∙ ruled-values answer in
     record {
       answered = same;
       numbers = told;
-      counts = ap ruledCounts same ∙ same-counts answer;
+      counts = ap ruledCounts same ∙ ruled-counts answer;
       cleared = a .cleared;
       written = a .written;
       late =

@@ -1,12 +1,15 @@
--- Which answer has the number 0, and which the number 17.
+-- Which answer has the number 0, and which the number 17; the numbers of a verdict under a rule.
 use Prim.Native.Nat.{ℕ, _≤_}
 use native.Mathlib.Omega.{arith}
 use mathlib.Core.Path.{_≡_, refl, ap, _∙_}
-use Rattle.model.specs.Numbers.{Values, values, refusalValues, readingValues, writingValues}
+use Rattle.model.specs.Numbers.{Values, values, refusalValues, readingValues, writingValues, verdictValues, ruledValues, verdictCounts, ruledCounts}
+use Rattle.model.specs.Validation.{ruled}
 use Rattle.model.specs.declared.Reading.{Reading}
 use Rattle.model.specs.declared.Reading.the-variants.{Sound, Unsound}
 use Rattle.model.specs.declared.Writing.{Writing}
 use Rattle.model.specs.declared.Writing.the-variants.{Written, Unwritten}
+use Rattle.model.specs.declared.Verdict.{Verdict}
+use Rattle.model.specs.declared.Verdict.the-variants.{Accepted, Rejected, Exhausted, Refused}
 use Rattle.model.specs.declared.Refusal.{Refusal}
 use Rattle.model.specs.declared.Refusal.the-variants.{TableFrame, TableVersion, TableCount, TableLength, TableField, TableGuard, TableSize, TableState, RecordingFrame, RecordingVersion, RecordingCount, RecordingRange, RecordingOrder, RuleRange, RuleSize, Scratch, WitnessRoom, WriteRoom, WitnessFrame, WitnessVersion, WitnessCount, WitnessRow}
 
@@ -46,3 +49,17 @@ number-written (Unwritten r) n e = absurd (omega (arith, ap (λ (v : Values). v 
 pub number-17 : (x : Reading) (s : ℕ) → readingValues x ≡ values 17 s 0 → x ≡ Unsound (TableState s)
 number-17 Sound s e = absurd (omega (arith, ap (λ (v : Values). v .number) e))
 number-17 (Unsound r) s e = ap Unsound (refusal-number r .1 (ap (λ (v : Values). v .number) e) ∙ ap TableState (ap (λ (v : Values). v .second) e))
+
+-- a verdict under a rule has the numbers and the counts of the verdict
+
+pub ruled-values : (v : Verdict) → ruledValues (ruled v) ≡ verdictValues v
+ruled-values (Accepted cost rows) = refl
+ruled-values (Rejected cost instant notYet noMore) = refl
+ruled-values (Exhausted budget instant) = refl
+ruled-values (Refused r) = refl
+
+pub ruled-counts : (v : Verdict) → ruledCounts (ruled v) ≡ verdictCounts v
+ruled-counts (Accepted cost rows) = refl
+ruled-counts (Rejected cost instant notYet noMore) = refl
+ruled-counts (Exhausted budget instant) = refl
+ruled-counts (Refused r) = refl
