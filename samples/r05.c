@@ -14,20 +14,10 @@
 #include <stdio.h>
 #include <stdlib.h>
 
+#include "files.h"
 #include "lutarosa.h"
 
 static uint8_t table[65537], recording[65537];
-
-static size_t read_file(const char *name, uint8_t *bytes) {
-    FILE *f = fopen(name, "rb");
-    if (f == NULL) {
-        perror(name);
-        exit(1);
-    }
-    size_t length = fread(bytes, 1, 65537, f);
-    fclose(f);
-    return length;
-}
 
 static uint8_t *lent(size_t length) {
     uint8_t *bytes = malloc(length == 0 ? 1 : length);

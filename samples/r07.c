@@ -16,24 +16,13 @@
  */
 #include <inttypes.h>
 #include <stdio.h>
-#include <stdlib.h>
 
+#include "files.h"
 #include "lutarosa.h"
 
 static uint8_t table[65537], recording[65537], scratch[65536], room[23045], first[23045];
 
 static const uint8_t rules[5][3] = {{1, 1, 1}, {1, 2, 1}, {1, 3, 1}, {1, 3, 2}, {1, 1, 0}};
-
-static size_t read_file(const char *name, uint8_t *bytes) {
-    FILE *f = fopen(name, "rb");
-    if (f == NULL) {
-        perror(name);
-        exit(1);
-    }
-    size_t length = fread(bytes, 1, 65537, f);
-    fclose(f);
-    return length;
-}
 
 int main(int count, char **names) {
     if (count != 3) {

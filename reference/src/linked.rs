@@ -112,106 +112,72 @@ pub const VERIFIED: Engine = Engine {
 
 // Each call lends whole slices that do not overlap and outlive it; the library keeps none.
 
-fn validate(
-    edition: Edition,
-    table: &[u8],
-    recording: &[u8],
-    budget: u32,
-    scratch: &mut [u8],
-    room: &mut [u8],
-) -> Verdict {
-    let function = match edition {
-        Edition::One => lutarosa_validate,
-        Edition::Two => lutarosa_validate_edition2,
+macro_rules! validating {
+    ($name:ident($($rule:ident)?), $one:ident, $two:ident) => {
+        fn $name(
+            edition: Edition,
+            $($rule: Rule,)?
+            table: &[u8],
+            recording: &[u8],
+            budget: u32,
+            scratch: &mut [u8],
+            room: &mut [u8],
+        ) -> Verdict {
+            let function = match edition {
+                Edition::One => $one,
+                Edition::Two => $two,
+            };
+            unsafe {
+                function(
+                    table.as_ptr(),
+                    table.len(),
+                    recording.as_ptr(),
+                    recording.len(),
+                    budget,
+                    $($rule.device, $rule.window, $rule.most,)?
+                    scratch.as_mut_ptr(),
+                    scratch.len(),
+                    room.as_mut_ptr(),
+                    room.len(),
+                )
+            }
+        }
     };
-    unsafe {
-        function(
-            table.as_ptr(),
-            table.len(),
-            recording.as_ptr(),
-            recording.len(),
-            budget,
-            scratch.as_mut_ptr(),
-            scratch.len(),
-            room.as_mut_ptr(),
-            room.len(),
-        )
-    }
 }
 
-fn validate_rule(
-    edition: Edition,
-    rule: Rule,
-    table: &[u8],
-    recording: &[u8],
-    budget: u32,
-    scratch: &mut [u8],
-    room: &mut [u8],
-) -> Verdict {
-    let function = match edition {
-        Edition::One => lutarosa_validate_rule,
-        Edition::Two => lutarosa_validate_rule_edition2,
+validating!(validate(), lutarosa_validate, lutarosa_validate_edition2);
+validating!(validate_rule(rule), lutarosa_validate_rule, lutarosa_validate_rule_edition2);
+
+macro_rules! checking {
+    ($name:ident($($rule:ident)?), $one:ident, $two:ident) => {
+        fn $name(
+            edition: Edition,
+            $($rule: Rule,)?
+            table: &[u8],
+            recording: &[u8],
+            witness: &[u8],
+        ) -> Answer {
+            let function = match edition {
+                Edition::One => $one,
+                Edition::Two => $two,
+            };
+            unsafe {
+                function(
+                    table.as_ptr(),
+                    table.len(),
+                    recording.as_ptr(),
+                    recording.len(),
+                    witness.as_ptr(),
+                    witness.len(),
+                    $($rule.device, $rule.window, $rule.most,)?
+                )
+            }
+        }
     };
-    unsafe {
-        function(
-            table.as_ptr(),
-            table.len(),
-            recording.as_ptr(),
-            recording.len(),
-            budget,
-            rule.device,
-            rule.window,
-            rule.most,
-            scratch.as_mut_ptr(),
-            scratch.len(),
-            room.as_mut_ptr(),
-            room.len(),
-        )
-    }
 }
 
-fn check(edition: Edition, table: &[u8], recording: &[u8], witness: &[u8]) -> Answer {
-    let function = match edition {
-        Edition::One => lutarosa_check,
-        Edition::Two => lutarosa_check_edition2,
-    };
-    unsafe {
-        function(
-            table.as_ptr(),
-            table.len(),
-            recording.as_ptr(),
-            recording.len(),
-            witness.as_ptr(),
-            witness.len(),
-        )
-    }
-}
-
-fn check_rule(
-    edition: Edition,
-    rule: Rule,
-    table: &[u8],
-    recording: &[u8],
-    witness: &[u8],
-) -> Answer {
-    let function = match edition {
-        Edition::One => lutarosa_check_rule,
-        Edition::Two => lutarosa_check_rule_edition2,
-    };
-    unsafe {
-        function(
-            table.as_ptr(),
-            table.len(),
-            recording.as_ptr(),
-            recording.len(),
-            witness.as_ptr(),
-            witness.len(),
-            rule.device,
-            rule.window,
-            rule.most,
-        )
-    }
-}
+checking!(check(), lutarosa_check, lutarosa_check_edition2);
+checking!(check_rule(rule), lutarosa_check_rule, lutarosa_check_rule_edition2);
 
 fn rewrite_table(bytes: &[u8], room: &mut [u8]) -> Answer {
     unsafe { lutarosa_rewrite_table(bytes.as_ptr(), bytes.len(), room.as_mut_ptr(), room.len()) }

@@ -5,7 +5,7 @@
 
 mod search;
 
-use lutarosa_reference::answer::{Answer, Refusal, Verdict};
+use lutarosa_reference::answer::{settle, Answer, Refusal, Verdict};
 use lutarosa_reference::call::{Engine, ORDINARY};
 use lutarosa_reference::check::check_witness;
 use lutarosa_reference::edition::Edition;
@@ -67,10 +67,10 @@ macro_rules! other {
         let engine = Engine {
             validate_rule: |edition, rule, table, recording, budget, scratch, room| {
                 let lent = Lent { budget, scratch, room };
-                WAY.validate(edition, rule, table, recording, lent)
+                settle(WAY.validate(edition, rule, table, recording, lent))
             },
             check_rule: |edition, rule, table, recording, witness| {
-                WAY.check(edition, rule, (table, recording), witness)
+                settle(WAY.check(edition, rule, (table, recording), witness))
             },
             ..ORDINARY
         };
@@ -171,10 +171,7 @@ pub const OTHERS: [Other; 37] = [
             out_of_range(rule).or(too_many(rule.window.saturating_add(1), situations))
         },
     }),
-    other!("26 without l", {
-        refuses: |rule, _| out_of_range(rule),
-        larger: |rule| 1 << (rule.window.clamp(1, 8) - 1),
-    }),
+    other!("no 26", { refuses: |rule, _| out_of_range(rule), }),
     other!("26 at 65,536", {
         refuses: |rule, situations| {
             out_of_range(rule).or(too_many(rule.window, situations + 1))
@@ -232,17 +229,6 @@ impl Way {
         table: &[u8],
         heard: &[u8],
         lent: Lent,
-    ) -> Verdict {
-        self.validate_or_refuse(edition, rule, table, heard, lent).unwrap_or_else(Verdict::from)
-    }
-
-    fn validate_or_refuse(
-        &self,
-        edition: Edition,
-        rule: Rule,
-        table: &[u8],
-        heard: &[u8],
-        lent: Lent,
     ) -> Result<Verdict, Refusal> {
         let (table, heard) = self.read(rule, table, heard)?;
         let situations = Space::of(&table).count();
@@ -286,11 +272,7 @@ impl Way {
         }
     }
 
-    fn check(&self, edition: Edition, rule: Rule, files: (&[u8], &[u8]), witness: &[u8]) -> Answer {
-        self.check_or_refuse(edition, rule, files, witness).unwrap_or_else(Answer::from)
-    }
-
-    fn check_or_refuse(
+    fn check(
         &self,
         edition: Edition,
         rule: Rule,
