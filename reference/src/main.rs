@@ -6,13 +6,14 @@ use std::process::ExitCode;
 use std::time::{Duration, Instant};
 
 use lutarosa_reference::call::Engine;
-use lutarosa_reference::{bench, cases, compare, desk, selftest, wide};
+use lutarosa_reference::generate::{encode_recording, encode_table};
+use lutarosa_reference::{bench, cases, compare, desk, selftest, shapes};
 
 const USAGE: &str = "\
 reference desk                             standard input to the desk's lines
 reference selftest [SECONDS] [SEED]        the paper's values and the brute-force search
 reference compare [FOLDER] SECONDS [SEED]  random calls against the verified library
-reference bench [RUNS]                     the time of the wide input
+reference bench [RUNS] [NAME]              the times of all inputs, or of those with NAME in theirs
 reference wide FOLDER                      the wide input as files
 reference cases FOLDER                     the recorded cases: stdin and stdout of the batch program
 ";
@@ -68,16 +69,19 @@ fn run_compare(arguments: &[&str]) -> Result<(), String> {
     Ok(())
 }
 
-/// Seven runs where nothing is said.
+/// Seven runs of every input where nothing is said.
 fn run_bench(arguments: &[&str]) -> Result<(), String> {
     let runs = number(arguments, 0, 7)?.max(1) as usize;
-    let (text, as_expected) = bench::bench(verified().as_ref(), runs);
-    print!("{text}");
-    as_expected.then_some(()).ok_or_else(|| "the input or an answer is not as it should be".into())
+    let wanted = arguments.get(1).copied().unwrap_or_default();
+    bench::bench(verified().as_ref(), runs, wanted, |line| println!("{line}"))
 }
 
 fn write_wide(folder: &Path) -> Result<(), String> {
-    let files = [("wide.table", wide::wide_table()), ("wide.recording", wide::wide_recording())];
+    let wide = shapes::wide();
+    let files = [
+        ("wide.table", encode_table(&wide.table)),
+        ("wide.recording", encode_recording(&wide.recording)),
+    ];
     for (name, bytes) in files {
         std::fs::write(folder.join(name), bytes).map_err(|it| format!("{name}: {it}"))?;
     }

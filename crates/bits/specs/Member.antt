@@ -2,7 +2,7 @@
 use Prim.Native.Nat.{ℕ, _*_, _/_, _%_, _^_, _≤_, _<_}
 use mathlib.Core.Path.{_≡_}
 use mathlib.Core.List.{List}
-use mathlib.Core.Bool.{Bool, true, false}
+use mathlib.Core.Bool.{Bool, true}
 use lib.ListN.{length, getD}
 use lib.Dec.{eqb}
 
@@ -17,12 +17,5 @@ mem s i = bit (getD s (i / 8) 0) (i % 8)
 pub record PutIn (i : ℕ) (before after : List ℕ) : Type 0 where
   pub size : length after ≡ length before
   pub there : i < 8 * length before → mem after i ≡ true
-  pub others : (k : ℕ) → (k ≡ i → ⊥) → mem after k ≡ mem before k
-  pub past : 8 * length before ≤ i → after ≡ before
-
--- .. and after i is taken out
-pub record TakenOut (i : ℕ) (before after : List ℕ) : Type 0 where
-  pub size : length after ≡ length before
-  pub gone : mem after i ≡ false
   pub others : (k : ℕ) → (k ≡ i → ⊥) → mem after k ≡ mem before k
   pub past : 8 * length before ≤ i → after ≡ before

@@ -2,7 +2,7 @@
 ghost use mathlib.Core.Path.{_≡_};
 ghost use Prim.Native.Nat.{_≤_};
 ghost use lib.ListN.{length, replicate};
-ghost use Rattle.bits.specs.Member.{mem, PutIn, TakenOut};
+ghost use Rattle.bits.specs.Member.{mem, PutIn};
 ghost use Rattle.bits.specs.Words.{inWord, WordOf};
 ghost use Rattle.bits.specs.Counting.{tally, Counted};
 ghost use Rattle.bits.specs.LittleEndian.{littleEndian};
@@ -25,16 +25,6 @@ pub fn put(s: &mut [u8], i: usize)
     let at = i / 8;
     if at < s.len() {
         s[at] = s[at] | (1u8 << (i % 8));
-    }
-}
-
-// Takes i out of the set.
-pub fn cut(s: &mut [u8], i: usize)
-    ensures { λ r. ⌜ TakenOut i (now (s .entry)) (now (s .exit)) ⌝ }
-{
-    let at = i / 8;
-    if at < s.len() {
-        s[at] = s[at] & !(1u8 << (i % 8));
     }
 }
 

@@ -1,15 +1,15 @@
 -- The forward pass, from the first row to the verdict.
-use Prim.Native.Nat.{ℕ, zero, suc, _+_, _*_, _<_, _≤_}
+use Prim.Native.Nat.{ℕ, zero, suc, _+_, _-_, _*_, _<_, _≤_}
 use native.Mathlib.Nat.{not-suc-le-zero}
 use native.Mathlib.Numerals.{add-one}
 use native.Mathlib.Omega.{arith}
 use native.Mathlib.Decide.{decLt, ℕ-discrete}
 use mathlib.Core.Path.{_≡_, refl, sym, ap, ap₂, subst, _∙_}
 use mathlib.Core.List.{List}
-use mathlib.Core.Bool.{Bool, true, false}
+use mathlib.Core.Bool.{Bool, true, false, false≢true}
 use mir.Syntax.{w64}
 use mir.Val.{Fits}
-use lib.ListN.{length, getD, set, replicate, length-replicate}
+use lib.ListN.{length, getD, set, replicate, take, drop, length-replicate, length-take}
 use lib.Seq.{getD-set-same, getD-set-other}
 use Rattle.model.specs.Size
 use Rattle.model.specs.Monitor.{Monitor}
@@ -24,12 +24,16 @@ use Rattle.model.proofs.LayerLaws.{total-le}
 use Rattle.model.proofs.Numbering.{first-number-below}
 use Rattle.model.proofs.VerdictLaws.{LeftUpTo, exhausted-at, rejected-at, accepted-at}
 use Rattle.bits.specs.Member.{mem, PutIn}
+use Rattle.bits.proofs.Laws.{mem-past, mem-part}
+use Rattle.words.specs.Words.{Is}
 use Rattle.situation.specs.Rows.{passedBy}
 use Rattle.situation.proofs.Cursors.{first-cursor}
+use Rattle.images.specs.Buffers.{Sized}
 use Rattle.engine.specs.declared.measures.Measures.{Measures}
 use Rattle.engine.specs.Setting.{monitorBy}
-use Rattle.engine.specs.Forwarding.{Filled, Turn, Turned, Emptying, emptiedAt, Forwarding, Through, Ended}
+use Rattle.engine.specs.Forwarding.{Filled, Turn, Turned, Carrying, Emptying, emptiedAt, Forwarding, Through, Ended}
 use Rattle.engine.proofs.Rows.{next-row, product, possible}
+use Rattle.engine.proofs.ForwardRows.{possible-past}
 
 -- a set of none, and a set of one
 
@@ -106,7 +110,6 @@ module _ {table offsets recording entry : List ℕ} {g : Measures} (given : Forw
                     let e : u ≡ 0 = omega arith in
                     let q : 8 * g .row * 0 + z ≡ z = omega arith in
                     rw e (ap (mem scratch) q ∙ first-holds z);
-                rest = λ k l. into .others k (λ e. omega (arith, first-below)) ∙ given .empty k;
                 cursor = first-cursor (monitorBy g table) recording (given .setting .sound .trace);
               };
           left = λ j l. let e : j ≡ 0 = omega arith in rw e (omega (arith, first-count));
@@ -114,6 +117,28 @@ module _ {table offsets recording entry : List ℕ} {g : Measures} (given : Forw
           ahead = sym first-count;
           fits = omega arith;
         }
+
+    -- .. and its row is loaded
+    pub first-fits : g .row ≤ length scratch
+    first-fits = omega (arith, next-row (g .row) (g .last))
+
+    pub loaded : {entered cur acc one two old : List ℕ} → Sized (g .words) acc one two → length entered ≡ g .words → length old ≡ g .words
+        → Is (mem (take (g .row - 0) (drop 0 scratch))) entered cur → Carrying (monitorBy g table) recording (g .words) 0 cur acc one two old false
+    loaded {entered} sized long spare done =
+        record {
+          holds = record { long = done .size ∙ long; all = λ z l. done .all z (omega arith) ∙ on z (decLt z (8 * g .row)) };
+          sized = sized;
+          spare = spare;
+          still = λ e. absurd (false≢true e);
+        }
+      where
+        on : (z : ℕ) → Dec (z < 8 * g .row) → mem (take (g .row - 0) (drop 0 scratch)) z ≡ getD (possible (monitorBy g table) recording 0) z false
+        on z (yes l) =
+            let q : 8 * 0 + z ≡ z = omega arith in
+            mem-part scratch 0 (g .row - 0) z (omega arith) ∙ ap (mem scratch) q ∙ first-holds z
+        on z (no l) =
+            mem-past (take (g .row - 0) (drop 0 scratch)) z (omega (arith, length-take (g .row - 0) (drop 0 scratch)))
+            ∙ sym (possible-past (monitorBy g table) recording 0 z (omega arith))
 
   module _ {start scratch : List ℕ} {budget t i cost work : ℕ} (pass : Passing (monitorBy g table) recording start scratch budget (g .row) (g .last) t i cost work) where
     -- the end is reached

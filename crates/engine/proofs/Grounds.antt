@@ -6,19 +6,19 @@ use mathlib.Core.List.{List, [], _∷_, _++_}
 use mathlib.Core.Option.{Option, some, Option·map, Option·some-injective}
 use lib.ListN.{length, getD, getElem?}
 use Rattle.model.specs.Bytes.{byteAt, tab}
-use Rattle.model.specs.Limits.{sizeLimit}
+use Rattle.model.specs.Limits.{sizeLimit, guardLimit, transitionLimit}
 use Rattle.model.specs.Rule.{masks}
 use Rattle.model.specs.Monitor.{Monitor, Transition, under}
 use Rattle.model.specs.Size.{greatest, largestAirtime, cap, tableSize, size}
 use Rattle.model.specs.Kinds.{versionAt, kindAt}
-use Rattle.model.specs.Table.{SoundTable, monitorAt, monitorOf, tableParts, transitionIn, transitionsAt, kindsAt, kindColumn, deviceColumn}
+use Rattle.model.specs.Table.{SoundTable, monitorAt, monitorOf, tableParts, transitionIn, transitionsAt, transitionAt, guardLengthAt, kindsAt, kindColumn, deviceColumn}
 use Rattle.model.specs.Recording.{packetsAt}
 use Rattle.model.specs.Ruled.{SoundUnder}
 use Rattle.model.specs.Situation.{stepBy, moveOf, number, situationOf, capped, recordedAt, stepNumber, firstBy, firstNumber}
 use Rattle.model.specs.declared.Rule.{Rule}
 use Rattle.model.specs.declared.Situation.{Situation}
-use Rattle.model.proofs.Basics.{getElem-tab, getElem-within, length-tab}
-use Rattle.model.proofs.Places.{getD-column}
+use Rattle.model.proofs.Basics.{getElem-tab, getElem-within, getD-tab, length-tab}
+use Rattle.model.proofs.Places.{getD-column, getD-padded}
 use Rattle.model.proofs.TableForm.{table-facts, table-small, TableFacts}
 use Rattle.model.proofs.RecordingForm.{sound-table}
 use Rattle.model.proofs.RuledForm.{RuleFacts, facts-under, recording-sound, sane-under, sane-recording-under}
@@ -33,12 +33,14 @@ use Rattle.situation.specs.Stepping.{ruledFrom, arriveFrom}
 use Rattle.situation.proofs.Numbered.{same-number, same-situation}
 use Rattle.situation.proofs.Ticks.{same-capped}
 use Rattle.situation.proofs.Shaped.{table-shape}
-use Rattle.layers.specs.Advance.{stepAt}
+use Rattle.layers.specs.Into.{stepAt}
 use Rattle.layers.specs.Pairing.{transitionCount}
 use Rattle.engine.specs.declared.measures.Measures.{Measures}
 use Rattle.engine.specs.Measured.{Measured}
 use Rattle.engine.specs.Setting.{monitorBy, Setting}
 use Rattle.engine.specs.WalkRows.{Triggers}
+use Rattle.engine.specs.Working.{Preparing}
+use Rattle.instants.proofs.TableSources.{sourced-under}
 
 -- the longest airtime of a sound table is 15
 
@@ -66,6 +68,19 @@ module _ (table : List ℕ) (sound : SoundTable table) where
   counted : transitionCount table ≡ length (monitorAt table .transitions)
   unfolding monitorOf tableParts
   counted = omega (arith, facts .counts .transitions, length-tab (transitionIn (tableParts table)) (transitionsAt table))
+
+  states-few : monitorAt table .states ≤ 16
+  unfolding monitorOf tableParts
+  states-few = facts .counts .states
+
+  guards-short : (j : ℕ) → j < transitionCount table → guardLengthAt table (getD (offsetsOf table) j 0) ≤ guardLimit
+  unfolding offsetsOf
+  guards-short j h =
+      let n : length (tab (transitionAt table) (transitionCount table)) ≡ transitionCount table = length-tab (transitionAt table) (transitionCount table) in
+      let at : getD (offsetsOf table) j 0 ≡ transitionAt table j =
+      getD-padded transitionLimit (tab (transitionAt table) (transitionCount table)) j (omega (arith, n)) ∙ getD-tab (transitionAt table) 0 (transitionCount table) j h
+      in
+      subst (λ (x : ℕ). guardLengthAt table x ≤ guardLimit) (sym at) (facts .transition j (omega arith) .few)
 
   pub triggers : Triggers table (offsetsOf table)
   unfolding monitorFrom transitionFrom
@@ -149,4 +164,25 @@ module _ (table recording : List ℕ) (g : Measures) (sound : SoundUnder (g .sha
         counted = counted table whole-table;
         situations = λ n inside. same-situations n (subst (λ (x : ℕ). n < x) whole-size inside);
         stepping = λ t n k inside. same-step (recordedAt (packetsAt recording) t) n k (subst (λ (x : ℕ). n < x) whole-size inside);
+      }
+
+  -- what an instant's sets are worked out with
+  pub preparing : Preparing table (offsetsOf table) g
+  preparing =
+      record {
+        ready =
+            record {
+              sane = sane-under rule table recording sound;
+              sourced = sourced-under rule table recording sound;
+              fits = fits;
+              described = ap₂ under within-is (monitor-from table whole-table);
+              counted = counted table whole-table;
+              whole = whole-size;
+              wide = omega (arith, measured .words);
+              narrow = omega (arith, whole-size, ruled .small);
+              few = omega (arith, fits .states, states-few table whole-table);
+            };
+        clocks = measured .clocks;
+        short = guards-short table whole-table;
+        few = omega (arith, measured .words, whole-size, ruled .small);
       }

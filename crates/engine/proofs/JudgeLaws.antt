@@ -3,6 +3,7 @@ use Prim.Native.Nat.{ℕ, _+_, _*_, _≤_}
 use mathlib.Core.Path.{_≡_, refl, sym, ap, subst, _∙_}
 use mathlib.Core.List.{List}
 use lib.ListN.{length, replicate, length-replicate}
+use Rattle.model.specs.Monitor.{Monitor}
 use Rattle.model.specs.Room.{over}
 use Rattle.model.specs.Recording.{packetsAt}
 use Rattle.model.specs.Witness.{witnessBytes}
@@ -46,6 +47,11 @@ module _ (edition : Edition) (table offsets recording scratch room : List ℕ) (
         answered = ap (Accepted cost) count ∙ sym (through cost same .accepted);
         written = written;
       }
+
+-- the scratch may have been another of that length
+pub concluded-from : (edition : Edition) (m : Monitor) (recording : List ℕ) (budget : ℕ) (before scratch room scratchThen roomThen : List ℕ) (v : Verdict) → length scratch ≡ length before
+    → Concluded edition m recording budget scratch room scratchThen roomThen v → Concluded edition m recording budget before room scratchThen roomThen v
+concluded-from edition m recording budget before scratch room scratchThen roomThen v same c = record { long = c .long ∙ same; answered = c .answered; written = c .written }
 
 module _ (edition : Edition) (table recording scratch room : List ℕ) (g : Measures) (j : Judging edition table recording scratch room g) where
   grounds : (offsets : List ℕ) → offsets ≡ offsetsOf table → Setting table offsets recording g

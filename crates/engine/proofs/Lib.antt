@@ -11,3 +11,4 @@ pub mod EmptiedPairs
 pub mod JudgeLaws
 pub mod ValidateLaws
 pub mod Rows
+pub mod Preparations

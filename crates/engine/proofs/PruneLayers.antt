@@ -6,12 +6,11 @@ use native.Mathlib.Omega.{arith}
 use mathlib.Core.Path.{_≡_, refl, sym, ap, ap₂, subst, _∙_}
 use mathlib.Core.Logic.{inl, inr}
 use mathlib.Core.List.{List}
-use mathlib.Core.Bool.{Bool, true, false, _&&_}
+use mathlib.Core.Bool.{Bool, true, false, _&&_, false≢true}
 use mathlib.Core.Option.{Option}
-use lib.ListN.{getD, getD-replicate, List·getD-eq-default}
+use lib.ListN.{length, getD, getD-replicate, List·getD-eq-default}
 use lib.Dec.{ltb}
 use borrow.Author.Tests.{lt-ltb, le-ltb}
-use Rattle.model.specs.Size
 use Rattle.model.specs.Monitor.{Monitor}
 use Rattle.model.specs.Recording.{countAt, packetsAt}
 use Rattle.model.specs.Layers.{live, firstFrom, alive, into}
@@ -19,14 +18,17 @@ use Rattle.model.specs.Situation.{moveLimit, recordedAt, firstNumber}
 use Rattle.model.proofs.LayerLaws.{length-layer}
 use Rattle.model.proofs.WalkLaws.{firstFrom-same, Pruned, least-alive}
 use Rattle.bits.specs.Member.{mem}
+use Rattle.words.specs.Words.{Is}
+use Rattle.images.specs.Buffers.{Sized}
 use Rattle.situation.specs.Rows.{heardAt, Cursor}
 use Rattle.situation.proofs.Cursors.{heard-recorded}
-use Rattle.layers.specs.Advance.{stepAt, inRow, leastInto}
+use Rattle.layers.specs.Into.{stepAt, inRow, leastInto}
 use Rattle.engine.specs.declared.measures.Measures.{Measures}
 use Rattle.engine.specs.Setting.{monitorBy, Setting, LayersUpTo, RowHolds}
-use Rattle.engine.specs.PruneRows.{cursorBefore, stays, RowCut, PrunedAt, PrunedRow}
+use Rattle.engine.specs.Working.{Working}
+use Rattle.engine.specs.PruneRows.{cursorBefore, stays, RowCut, PrunedAt, PrunedRow, RowWithin, Coming}
 use Rattle.engine.proofs.PruneCursors.{last-cursor, back-cursor}
-use Rattle.engine.proofs.Rows.{row-before, sizeOf, stepOf, possible}
+use Rattle.engine.proofs.Rows.{row-before, sizeOf, stepOf, possible, rowAt, row-mem}
 
 and-true : (a : Bool) → a && true ≡ a
 and-true true = refl
@@ -156,3 +158,34 @@ module _ (table offsets recording : List ℕ) (g : Measures) (set : Setting tabl
   pub cursor-first : Cursor recording (countAt recording) (g .last + 1)
   cursor-first =
       subst (λ (t : ℕ). Cursor recording (countAt recording) (t + 1)) (sym (set .end)) (last-cursor (monitorBy g table) recording (set .sound .trace))
+
+  -- what a turn starts from
+  pub turning : (marks planes scratch next row last sets one two : List ℕ) (j t : ℕ) (steady : Bool) → Working table offsets g marks planes → g .row * (g .last + 1) ≤ length scratch
+      → 0 < t → t ≤ g .last → Cursor recording j (t + 1) → PrunedTo (monitorBy g table) recording scratch (g .row) (g .size) (g .last) t
+      → Coming (monitorBy g table) g t scratch next row last sets one two steady
+      → Setting table offsets recording g × Working table offsets g marks planes × (t - 1 < g .last) × (g .row * (g .last + 1) ≤ length scratch) × Cursor recording j (t - 1 + 1 + 1)
+      × RowWithin scratch (g .row) (g .size) (t - 1) × Coming (monitorBy g table) g (t - 1 + 1) scratch next row last sets one two steady
+  turning marks planes scratch next row last sets one two j t steady given long some l at done come =
+      let same : t ≡ t - 1 + 1 = omega arith in (
+        set,
+        given,
+        omega arith,
+        long,
+        subst (λ (u : ℕ). Cursor recording j (u + 1)) same at,
+        λ z past low. done .below (t - 1) (omega arith) z low ∙ past-size table offsets recording g set (t - 1) z past,
+        subst (λ (u : ℕ). Coming (monitorBy g table) g u scratch next row last sets one two steady) same come,
+      )
+
+  -- the last row is read into words
+  pub coming-first : (scratch old next row last sets one two : List ℕ) → length old ≡ g .words → length row ≡ g .words → length last ≡ g .words → Sized (g .words) sets one two
+      → g .size ≤ 64 * g .words → Is (mem (rowAt scratch (g .row) (g .last))) old next
+      → Coming (monitorBy g table) g (g .last) scratch next row last sets one two false
+  coming-first scratch old next row last sets one two words single before sized wide loaded =
+      record {
+        words = loaded .size ∙ words;
+        holds = λ z l. loaded .all z (omega arith) ∙ row-mem scratch (g .row) (g .last) z (omega (arith, set .wide));
+        single = single;
+        before = before;
+        sized = sized;
+        still = λ e. absurd (false≢true e);
+      }

@@ -27,7 +27,7 @@ use Rattle.situation.specs.Rows.{Cursor}
 use Rattle.situation.specs.Stepping.{arriveFrom, situationBy}
 use Rattle.situation.specs.declared.Shape.{Shape}
 use Rattle.situation.proofs.Cursors.{first-cursor}
-use Rattle.layers.specs.Advance.{stepAt, inRow, leastInto}
+use Rattle.layers.specs.Into.{stepAt, inRow, leastInto}
 use Rattle.engine.specs.declared.measures.Measures.{Measures}
 use Rattle.engine.specs.Setting.{monitorBy, Setting}
 use Rattle.engine.specs.PruneRows.{PrunedRows}

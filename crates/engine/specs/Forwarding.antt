@@ -2,7 +2,7 @@
 use Prim.Native.Nat.{ℕ, _+_, _*_, _<_, _≤_}
 use mathlib.Core.Path.{_≡_}
 use mathlib.Core.List.{List}
-use mathlib.Core.Bool.{false}
+use mathlib.Core.Bool.{Bool, true, false}
 use lib.ListN.{length}
 use Rattle.model.specs.Monitor.{Monitor}
 use Rattle.model.specs.Recording.{packetsAt}
@@ -12,15 +12,17 @@ use Rattle.model.specs.declared.Readiness.the-variants.{NotYet, NoMore}
 use Rattle.model.specs.declared.Verdict.the-variants.{Accepted, Rejected, Exhausted}
 use Rattle.bits.specs.Member.{mem}
 use Rattle.situation.specs.Rows.{Cursor, passedBy}
+use Rattle.images.specs.Buffers.{Sized}
+use Rattle.images.specs.Advanced.{Steady}
 use Rattle.engine.specs.Setting.{monitorBy, Setting, LayersUpTo}
+use Rattle.engine.specs.Working.{Holds}
 use Rattle.engine.specs.declared.measures.Measures.{Measures}
 use Rattle.engine.specs.declared.forward.Outcome.{Outcome}
 use Rattle.engine.specs.declared.forward.Outcome.the-variants.{Passed, Emptied, Spent}
 
--- the rows of the instants 0 to t are filled and nothing is behind them; i rows are recorded before instant t + 1
+-- the rows of the instants 0 to t are filled; i rows are recorded before instant t + 1
 pub record Filled (m : Monitor) (recording scratch : List ℕ) (row t i : ℕ) : Type 0 where
   pub layers : LayersUpTo m recording scratch row t
-  pub rest : (k : ℕ) → 8 * row * (t + 1) ≤ k → mem scratch k ≡ false
   pub cursor : Cursor recording i (t + 1)
 
 -- what one instant starts from
@@ -35,6 +37,13 @@ pub record Turned (m : Monitor) (recording before after : List ℕ) (row t i wor
   pub long : length after ≡ length before
   pub filled : Filled m recording after row (t + 1) (passedBy recording i (t + 1))
   pub counted : work ≡ count (possibleAfter m (packetsAt recording) (t + 1))
+
+-- what goes from instant to instant beside the scratch: n words hold the set of instant t, the others have their lengths, and where the set is known to be steady it is
+pub record Carrying (m : Monitor) (recording : List ℕ) (n t : ℕ) (cur acc one two old : List ℕ) (steady : Bool) : Type 0 where
+  pub holds : Holds n cur (possibleAfter m (packetsAt recording) t)
+  pub sized : Sized n acc one two
+  pub spare : length old ≡ n
+  pub still : steady ≡ true → Steady m n cur
 
 -- what is known where none is left after instant t + 1: the rows of the instants 0 to t are filled, and i rows are recorded before instant t + 1
 pub record Emptying (table offsets recording scratch : List ℕ) (g : Measures) (t i : ℕ) : Type 0 where

@@ -1,6 +1,7 @@
 pub mod Measured
 pub mod Lent
 pub mod Setting
+pub mod Working
 pub mod PruneRows
 pub mod WalkRows
 pub mod Forwarding

@@ -1,5 +1,5 @@
 -- What is measured of a table's parts, a rule and a recording, for any parts, numbers and bytes.
-use Prim.Native.Nat.{ℕ, _+_, _*_, _<_, min}
+use Prim.Native.Nat.{ℕ, _+_, _*_, _/_, _<_, min}
 use mathlib.Core.Path.{_≡_}
 use mathlib.Core.List.{List}
 use Rattle.model.specs.Limits.{sizeLimit}
@@ -11,6 +11,7 @@ use Rattle.model.specs.Rule.{masks}
 use Rattle.model.specs.declared.Rule.{Rule}
 use Rattle.model.specs.declared.TableParts.{TableParts}
 use Rattle.rule.specs.Within.{within}
+use Rattle.planes.specs.Numbering.{Clocks}
 use Rattle.situation.specs.Numbering.{shapeOf, numberBy}
 use Rattle.situation.specs.Steps.{cappedBy}
 use Rattle.engine.specs.declared.measures.Measures.{Measures}
@@ -19,6 +20,8 @@ pub record Measured (parts : TableParts) (rule : Rule) (recording : List ℕ) (g
   pub shape : g .shape ≡ shapeOf parts rule
   pub size : g .size ≡ min (Size.tableSize (monitorOf parts)) (sizeLimit + 1) * masks (within rule)
   pub row : g .row ≡ Size.setBytes (g .size)
+  pub words : g .words ≡ (g .size + 63) / 64
   pub last : g .last ≡ endOf (packetsAt recording)
   pub first : g .first ≡ numberBy (g .shape) (firstBy (cappedBy (g .shape)))
   pub short : g .last < 65536
+  pub clocks : Clocks (g .shape .first) (g .shape .second)

@@ -3,7 +3,7 @@ use Prim.Native.Nat.{ℕ, _+_, _-_, _*_, _<_, _≤_}
 use mathlib.Core.Path.{_≡_}
 use mathlib.Core.Logic.{_⊎_}
 use mathlib.Core.List.{List}
-use mathlib.Core.Bool.{Bool, false, cond, _&&_}
+use mathlib.Core.Bool.{Bool, true, false, cond, _&&_}
 use mathlib.Core.Option.{Option}
 use lib.ListN.{length, getD}
 use lib.Dec.{ltb}
@@ -15,7 +15,11 @@ use Rattle.model.specs.Validation.{possibleAfter}
 use Rattle.model.specs.Layers.{alive}
 use Rattle.bits.specs.Member.{mem}
 use Rattle.situation.specs.Rows.{isAt}
-use Rattle.layers.specs.Advance.{leastInto}
+use Rattle.layers.specs.Into.{leastInto}
+use Rattle.words.specs.Words as Words
+use Rattle.images.specs.Buffers.{Sized}
+use Rattle.images.specs.Advanced.{Settled}
+use Rattle.engine.specs.declared.measures.Measures.{Measures}
 
 -- the cursor before row j - 1 where that is at instant t
 unfoldable pub cursorBefore : List ℕ → (j t : ℕ) → ℕ
@@ -24,11 +28,6 @@ cursorBefore b j t = cond (isAt b (j - 1) t) (j - 1) j
 -- what stays of situation n of one row: it is there, and some move leads from it into another row
 abbrev pub stays : (step : ℕ → ℕ → Option ℕ) → List ℕ → (from to size n : ℕ) → Bool
 stays step scratch from to size n = mem scratch (from + n) && ltb (leastInto step scratch to size n) moveLimit
-
-pub record CutIn (step : ℕ → ℕ → Option ℕ) (from to size n : ℕ) (before after : List ℕ) : Type 0 where
-  pub long : length after ≡ length before
-  pub others : (i : ℕ) → (i ≡ from + n → ⊥) → mem after i ≡ mem before i
-  pub here : mem after (from + n) ≡ stays step before from to size n
 
 -- the first n situations of a row are done
 pub record RowCut (step : ℕ → ℕ → Option ℕ) (from to size n : ℕ) (before after : List ℕ) : Type 0 where
@@ -50,3 +49,16 @@ PrunedRow m recording scratch row size last t = PrunedAt m recording scratch (8 
 
 abbrev pub PrunedRows : Monitor → (recording scratch : List ℕ) → (row size last : ℕ) → Type 0
 PrunedRows m recording scratch row size last = (t : ℕ) → t ≤ last → PrunedRow m recording scratch row size last t
+
+-- the row of instant t, of so many bytes, has nothing from N on
+abbrev pub RowWithin : List ℕ → (row size t : ℕ) → Type 0
+RowWithin scratch row size t = (z : ℕ) → size ≤ z → z < 8 * row → mem scratch (8 * row * t + z) ≡ false
+
+-- what goes from instant to instant beside the scratch: next holds the row of instant t, the others have their lengths, and where the rows are known to be steady they are
+pub record Coming (m : Monitor) (g : Measures) (t : ℕ) (scratch next row last sets one two : List ℕ) (steady : Bool) : Type 0 where
+  pub words : length next ≡ g .words
+  pub holds : (z : ℕ) → z < g .size → Words.mem next z ≡ mem scratch (8 * g .row * t + z)
+  pub single : length row ≡ g .words
+  pub before : length last ≡ g .words
+  pub sized : Sized (g .words) sets one two
+  pub still : steady ≡ true → Settled m (g .words) last next

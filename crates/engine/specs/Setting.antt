@@ -15,7 +15,7 @@ use Rattle.model.specs.Sane.{Sane, SaneRecording}
 use Rattle.bits.specs.Member.{mem}
 use Rattle.monitor.specs.From.{monitorFrom}
 use Rattle.situation.specs.Numbering.{situationBy}
-use Rattle.layers.specs.Advance.{stepAt}
+use Rattle.layers.specs.Into.{stepAt}
 use Rattle.layers.specs.Pairing.{transitionCount}
 use Rattle.engine.specs.declared.measures.Measures.{Measures}
 

@@ -2,15 +2,20 @@
 use crate::measures::Measures;
 use bits::count;
 use bits::put;
+use images::steady::advance_steadily;
 use layers::Span;
-use layers::advance;
 use layers::pairs::count_pairs;
 use situation::rows::heard_at;
 use situation::rows::passed;
+use words::load;
+use words::store;
 ghost use mathlib.Core.Path.{_≡_};
 ghost use lib.ListN.{length};
+ghost use Prim.Native.Nat.{_+_};
+ghost use Rattle.images.specs.Buffers.{Sized};
 ghost use Rattle.engine.specs.Setting.{monitorBy};
-ghost use Rattle.engine.specs.Forwarding.{Turn, Turned, Emptying, emptiedAt, Forwarding, Ended};
+ghost use Rattle.engine.specs.Working.{Working};
+ghost use Rattle.engine.specs.Forwarding.{Turn, Turned, Carrying, Emptying, emptiedAt, Forwarding, Ended};
 
 // How the pass ends: a situation is left after the last instant, none is after some instant, or the budget is passed.
 pub(crate) enum Outcome {
@@ -28,29 +33,57 @@ pub(crate) enum Outcome {
     },
 }
 
-// Fills the row of instant t + 1 from that of t. The result is how many situations it has, the work of instant t + 2.
+// How many situations an instant leaves, the work of the next; and whether an instant at which nothing is recorded is known to leave that set as it is.
+struct Found {
+    work: u64,
+    steady: bool,
+}
+
+// Fills the row of instant t + 1, and counts it. The set of instant t is in cur, and then that of t + 1. steady: that of t is known to be so.
 fn instant<'a>(
     table: &'a [u8],
     offsets: &'a [u16],
     recording: &'a [u8],
     g: Measures,
+    marks: &'a [u64],
+    planes: &'a [u64],
     scratch: &mut [u8],
+    cur: &mut [u64],
+    acc: &mut [u64],
+    one: &mut [u64],
+    two: &mut [u64],
+    old: &mut [u64],
     t: usize,
     i: usize,
-) -> u64
-    requires { ⌜ Turn (now table) (now offsets) (now recording) (now scratch) g t i ⌝ }
-    ensures { λ r. ⌜ Turned (monitorBy g (now (table .entry))) (now (recording .entry)) (now (scratch .entry)) (now (scratch .exit)) (g .row) t i r ⌝ }
+    steady: bool,
+) -> Found
+    requires { ⌜ Turn (now table) (now offsets) (now recording) (now scratch) g t i × Working (now table) (now offsets) g (now marks) (now planes) × Carrying (monitorBy g (now table)) (now recording) (g .words) t (now cur) (now acc) (now one) (now two) (now old) steady ⌝ }
+    ensures { λ r. ⌜ Turned (monitorBy g (now (table .entry))) (now (recording .entry)) (now (scratch .entry)) (now (scratch .exit)) (g .row) t i (r .work) × Carrying (monitorBy g (now (table .entry))) (now (recording .entry)) (g .words) (t + 1) (now (cur .exit)) (now (acc .exit)) (now (one .exit)) (now (two .exit)) (now (old .exit)) (r .steady) ⌝ }
 {
     let h = g.shape;
     let heard = heard_at(recording, i, t as u64 + 1);
-    let next = Span {
-        start: 8 * g.row * (t + 1),
-        size: g.size,
-    };
-    advance(table, offsets, h, heard, scratch, 8 * g.row * t, next);
+    let still = advance_steadily(
+        table,
+        offsets,
+        h,
+        g.size,
+        marks,
+        planes,
+        heard,
+        cur,
+        acc,
+        one,
+        two,
+        old,
+        steady,
+    );
     let from = g.row * (t + 1);
     let to = from + g.row;
-    count(&scratch[from..to])
+    store(cur, &mut scratch[from..to]);
+    Found {
+        work: count(&scratch[from..to]),
+        steady: still,
+    }
 }
 
 // None is left after instant t + 1: what the transitions answered just before its moves, by the row of instant t.
@@ -83,21 +116,32 @@ fn emptied<'a>(
     }
 }
 
-// Fills the rows of a zeroed scratch, instant by instant, to the end or to where none is left or the budget is passed.
+// Fills the rows of a zeroed scratch, instant by instant, to the end or to where none is left or the budget is passed. cur, acc, one, two and old have room for the sets that
+// it works with.
 pub(crate) fn forward<'a>(
     table: &'a [u8],
     offsets: &'a [u16],
     recording: &'a [u8],
     g: Measures,
+    marks: &'a [u64],
+    planes: &'a [u64],
     budget: u64,
     scratch: &mut [u8],
+    cur: &mut [u64],
+    acc: &mut [u64],
+    one: &mut [u64],
+    two: &mut [u64],
+    old: &mut [u64],
 ) -> Outcome
-    requires { ⌜ Forwarding (now table) (now offsets) (now recording) (now scratch) g ⌝ }
+    requires { ⌜ Forwarding (now table) (now offsets) (now recording) (now scratch) g × Working (now table) (now offsets) g (now marks) (now planes) × Sized (g .words) (now acc) (now one) (now two) × (length (now cur) ≡ g .words) × (length (now old) ≡ g .words) ⌝ }
     ensures { λ r. ⌜ (length (now (scratch .exit)) ≡ length (now (scratch .entry))) × Ended (monitorBy g (now (table .entry))) (now (recording .entry)) (now (scratch .exit)) budget (g .row) (g .last) r ⌝ }
 {
     put(scratch, g.first as usize);
+    let row = g.row;
+    load(&scratch[0..row], cur);
     let mut cost: u64 = 0;
     let mut work: u64 = 1;
+    let mut steady = false;
     let mut i = 0;
     let mut t = 0;
     while t < g.last {
@@ -106,7 +150,25 @@ pub(crate) fn forward<'a>(
         if budget < cost {
             return Outcome::Spent { instant: next };
         }
-        work = instant(table, offsets, recording, g, scratch, t, i);
+        let found = instant(
+            table,
+            offsets,
+            recording,
+            g,
+            marks,
+            planes,
+            scratch,
+            cur,
+            acc,
+            one,
+            two,
+            old,
+            t,
+            i,
+            steady,
+        );
+        work = found.work;
+        steady = found.steady;
         if work == 0 {
             return emptied(table, offsets, recording, g, cost, scratch, t, i);
         }

@@ -16,11 +16,12 @@ ghost use Rattle.situation.specs.Numbering.{numberBy};
 ghost use Rattle.situation.specs.Steps.{cappedBy};
 ghost use Rattle.engine.specs.Measured.{Measured};
 
-// How situations are numbered, N, the bytes of a set (S), T, and the number of the first situation.
+// How situations are numbered, N, the bytes of a set (S) and its words, T, and the number of the first situation.
 pub(crate) struct Measures {
     pub shape: Shape,
     pub size: usize,
     pub row: usize,
+    pub words: usize,
     pub last: usize,
     pub first: u64,
 }
@@ -68,6 +69,7 @@ pub(crate) fn measure(parts: TableParts, rule: Rule, recording: &[u8]) -> Measur
         shape,
         size,
         row: (size + 7) / 8,
+        words: (size + 63) / 64,
         last: last_time(recording),
         first: first_number(shape),
     }

@@ -38,7 +38,7 @@ ghost use Rattle.model.specs.Validation.{rowFor, rowsBy, HasRows, possibleAfter
 ghost use Rattle.model.specs.Witness.{added, rowsBytes, witnessBytes};
 ghost use Rattle.witness.specs.Rows.{rowOf};
 ghost use Rattle.situation.specs.Rows.{heardOf};
-ghost use Rattle.layers.specs.Advance.{stepAt, leastInto};
+ghost use Rattle.layers.specs.Into.{stepAt, leastInto};
 ghost use Rattle.engine.specs.Setting.{monitorBy};
 ghost use Rattle.engine.specs.WalkRows.{Triggers, Ground, RowsPut, Room, Stands, rowsAfter, WalkedOn};
 

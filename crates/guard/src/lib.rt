@@ -64,22 +64,26 @@ pub fn larger(a: u8, b: u8) -> u8
 }
 
 // A clock and a bound are there, and the table has the clock.
-fn has_clock(b: &[u8], at: usize, end: usize, clocks: u8) -> bool
-    requires { ⌜ at < end ⌝ }
+pub fn has_clock(b: &[u8], at: usize, end: usize, clocks: u8) -> bool
     ensures { λ r. ⌜ r ≡ (leb (at + 3) end && ltb (byteAt (now (b .entry)) (at + 1)) clocks) ⌝ }
 {
-    if end - at < 3 {
+    if end < 3 {
+        return false;
+    }
+    if end - 3 < at {
         return false;
     }
     byte(b, at + 1) < clocks
 }
 
 // A variable is there, and the table has it.
-fn has_variable(b: &[u8], at: usize, end: usize, variables: u8) -> bool
-    requires { ⌜ at < end ⌝ }
+pub fn has_variable(b: &[u8], at: usize, end: usize, variables: u8) -> bool
     ensures { λ r. ⌜ r ≡ (leb (at + 2) end && ltb (byteAt (now (b .entry)) (at + 1)) variables) ⌝ }
 {
-    if end - at < 2 {
+    if end < 2 {
+        return false;
+    }
+    if end - 2 < at {
         return false;
     }
     byte(b, at + 1) < variables

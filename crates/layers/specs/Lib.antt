@@ -1,3 +1,2 @@
-pub mod Advance
-pub mod Growth
+pub mod Into
 pub mod Pairing

@@ -1,4 +1,4 @@
-// From one set of situations to the next, and the least move into a set. A set is a row of bits in the scratch.
+// The least move from a situation into a set. A set is a row of bits in the scratch.
 pub mod pairs;
 mod row;
 
@@ -13,17 +13,12 @@ use situation::Shape;
 use situation::numbering::situation_of;
 use situation::step::arrive;
 ghost use mathlib.Core.Path.{_≡_};
-ghost use mathlib.Core.Bool.{true};
 ghost use mathlib.Core.List.{List};
-ghost use mathlib.Core.Option.{some};
-ghost use Prim.Native.Nat.{ℕ, _+_, _-_};
-ghost use Rattle.model.specs.Situation.{moveLimit};
+ghost use Prim.Native.Nat.{ℕ, _-_};
 ghost use Rattle.model.specs.Layers.{firstFrom};
-ghost use Rattle.bits.specs.Member.{mem};
 ghost use Rattle.situation.specs.Stepping.{heardOf, arriveFrom};
 ghost use Rattle.situation.specs.declared.Shape.{Shape};
-ghost use Rattle.layers.specs.Advance.{Advanced, leastInto, stepAt};
-ghost use Rattle.layers.specs.Growth.{Enough, Gives, Grown, leadsTo};
+ghost use Rattle.layers.specs.Into.{Enough, leadsTo, leastInto, stepAt};
 
 // A row of bits in the scratch: situation z is bit start + z, for z below size.
 pub struct Span {
@@ -63,117 +58,6 @@ fn worth(table: &[u8], heard: Heard, s: Situation) -> Tries
             kept: count,
             end: FIRST_ADD,
         },
-    }
-}
-
-// Puts what move k gives into the row.
-fn mark<'a>(
-    table: &'a [u8],
-    offsets: &'a [u16],
-    h: Shape,
-    heard: Heard,
-    s: Situation,
-    k: usize,
-    scratch: &mut [u8],
-    to: Span,
-)
-    ensures { λ r. ⌜ Grown (λ z. arriveFrom (now (table .entry)) (now (offsets .entry)) h (heardOf heard) s k ≡ some z) (to .start) (to .size) (now (scratch .entry)) (now (scratch .exit)) ⌝ }
-{
-    match arrive(table, offsets, h, heard, s, k) {
-        Arrival::Nowhere => {}
-        Arrival::At(n) => {
-            let z = n as usize;
-            if z < to.size {
-                row::put(scratch, to.start, z);
-            }
-        }
-    }
-}
-
-// Puts what some moves give into the row.
-fn mark_range<'a>(
-    table: &'a [u8],
-    offsets: &'a [u16],
-    h: Shape,
-    heard: Heard,
-    s: Situation,
-    moves: Range,
-    scratch: &mut [u8],
-    to: Span,
-)
-    ensures { λ r. ⌜ Grown (Gives (arriveFrom (now (table .entry)) (now (offsets .entry)) h (heardOf heard) s) (moves .lo) (moves .hi)) (to .start) (to .size) (now (scratch .entry)) (now (scratch .exit)) ⌝ }
-{
-    let mut k = moves.lo;
-    while k < moves.hi {
-        mark(table, offsets, h, heard, s, k, scratch, to);
-        k += 1;
-    }
-}
-
-// Puts what situation n gives into the row.
-fn spread<'a>(
-    table: &'a [u8],
-    offsets: &'a [u16],
-    h: Shape,
-    heard: Heard,
-    n: usize,
-    scratch: &mut [u8],
-    to: Span,
-)
-    ensures { λ r. ⌜ Grown (Gives (stepAt (now (table .entry)) (now (offsets .entry)) h (heardOf heard) n) 0 moveLimit) (to .start) (to .size) (now (scratch .entry)) (now (scratch .exit)) ⌝ }
-{
-    let s = situation_of(h, n as u64);
-    let tries = worth(table, heard, s);
-    let keeps = Range {
-        lo: 0,
-        hi: tries.kept,
-    };
-    let others = Range {
-        lo: REST,
-        hi: tries.end,
-    };
-    mark_range(table, offsets, h, heard, s, keeps, scratch, to);
-    mark_range(table, offsets, h, heard, s, others, scratch, to);
-}
-
-// Puts what situation n gives into the row, if it is in the row at bit from.
-fn spread_member<'a>(
-    table: &'a [u8],
-    offsets: &'a [u16],
-    h: Shape,
-    heard: Heard,
-    n: usize,
-    scratch: &mut [u8],
-    from: usize,
-    to: Span,
-)
-    ensures { λ r. ⌜ Grown (λ z. (mem (now (scratch .entry)) (from + n) ≡ true) × Gives (stepAt (now (table .entry)) (now (offsets .entry)) h (heardOf heard) n) 0 moveLimit z) (to .start) (to .size) (now (scratch .entry)) (now (scratch .exit)) ⌝ }
-{
-    if row::has(scratch, from, n) {
-        spread(table, offsets, h, heard, n, scratch, to);
-    }
-}
-
-// Puts what the situations of the row at bit from give, by every move and then a tick, into another row; nothing, unless that ends within the scratch
-// and does not meet the row at bit from.
-pub fn advance<'a>(
-    table: &'a [u8],
-    offsets: &'a [u16],
-    h: Shape,
-    heard: Heard,
-    scratch: &mut [u8],
-    from: usize,
-    to: Span,
-)
-    ensures { λ r. ⌜ Advanced (stepAt (now (table .entry)) (now (offsets .entry)) h (heardOf heard)) from (to .start) (to .size) (now (scratch .entry)) (now (scratch .exit)) ⌝ }
-{
-    if !row::is_apart(from, to, scratch.len()) {
-        return;
-    }
-    let mut n = 0;
-    while n < to.size {
-        spread_member(table, offsets, h, heard, n, scratch, from, to);
-        n += 1;
     }
 }
 

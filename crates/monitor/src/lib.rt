@@ -90,7 +90,7 @@ pub fn device_of(table: &[u8], kind: u8) -> u8
 }
 
 // The first n variables after some are set and some are cleared.
-fn variables_after(n: u8, v: u8, set: u8, clear: u8) -> u8
+pub fn variables_after(n: u8, v: u8, set: u8, clear: u8) -> u8
     ensures { λ r. ⌜ r ≡ changed n v set clear ⌝ }
 {
     let all = ((v | clear) ^ clear) | set;

@@ -23,7 +23,7 @@ fn masks_of(variables: u8) -> u8
 }
 
 pub fn shape_of(t: TableParts, rule: Rule) -> Shape
-    ensures { λ r. ⌜ r ≡ shapeOf t rule ⌝ }
+    ensures { λ r. ⌜ (r ≡ shapeOf t rule) × (r .first ≤ 257) × (r .second ≤ 257) ⌝ }
 {
     Shape {
         states: t.states,

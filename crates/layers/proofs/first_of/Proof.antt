@@ -4,7 +4,7 @@ use mathlib.Core.Path.{_≡_, refl, sym, _∙_}
 use borrow.Author.Needs.{needs}
 use Rattle.model.specs.Layers.{firstFrom}
 use Rattle.situation.specs.Stepping.{heardOf, arriveFrom}
-use Rattle.layers.specs.Growth.{leadsTo}
+use Rattle.layers.specs.Into.{leadsTo}
 use Rattle.layers.proofs.Moves.{first-here, first-later, first-end}
 use Rattle.layers.proofs.first_of.Statement.{statement}
 use Rattle.layers.proofs.first_of.Tie as tie

@@ -7,7 +7,7 @@ use Rattle.model.specs.Situation.{firstAdd}
 use Rattle.situation.specs.Stepping.{heardOf, arriveFrom}
 use Rattle.situation.specs.declared.Heard.{Heard}
 use Rattle.situation.proofs.Useless.{no-keep, no-transition, no-addition, no-addition-there, air-taken}
-use Rattle.layers.specs.Growth.{Enough}
+use Rattle.layers.specs.Into.{Enough}
 use Rattle.layers.proofs.worth.Statement.{statement}
 use Rattle.layers.proofs.worth.Tie as tie
 

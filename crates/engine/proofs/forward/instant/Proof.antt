@@ -1,10 +1,19 @@
--- `forward::instant` meets its contract: the products fit, and the rest is one law.
+-- `forward::instant` meets its contract: the set is advanced, stored in the next row, and counted there.
 use native.Mathlib.Omega.{arith}
+use mathlib.Core.Path.{_∙_}
 use borrow.Author.Needs.{needs}
-use Rattle.engine.proofs.ForwardRows.{next-fits, begin-fits, end-fits, turned}
-use Rattle.engine.proofs.Rows.{product}
+use Rattle.engine.proofs.ForwardRows.{within, early, next-fits, begin-fits, end-fits, holds-next, turned}
+use Rattle.engine.proofs.Rows.{row-stored}
 use Rattle.engine.proofs.forward.instant.Statement.{statement}
 use Rattle.engine.proofs.forward.instant.Tie as tie
+
+-- the places before a place
+
+abbrev entry : tie.After-advance-steadily → tie.Start
+entry c = c .before .before .before .before .before .before .before .before .before .before .before .before .before .before .before .before .before .before .before
+
+abbrev advanced : tie.After-struct-known → tie.After-advance-steadily
+advanced c = c .before .before .before .before .before .before .before .before .before .before .before
 
 add-heard-at : tie.Need-add-heard-at
 add-heard-at c = search needs
@@ -12,32 +21,29 @@ add-heard-at c = search needs
 heard-at-requires : tie.Need-heard-at-requires
 heard-at-requires c κs = search needs
 
-mul-advance : tie.Need-mul-advance
-mul-advance c = search needs
-
-add-advance : tie.Need-add-advance
-add-advance c = search needs
-
-mul-advance-2 : tie.Need-mul-advance-2
-mul-advance-2 c = product _ _ (omega arith) (omega arith)
-
-mul-advance-3 : tie.Need-mul-advance-3
-mul-advance-3 c = search needs
-
-mul-advance-4 : tie.Need-mul-advance-4
-mul-advance-4 c = product _ _ (omega arith) (omega arith)
-
-advance-requires : tie.Need-advance-requires
-advance-requires c κs = search needs
+advance-steadily-requires : tie.Need-advance-steadily-requires
+advance-steadily-requires c κs = search needs
 
 add-from : tie.Need-add-from
-add-from c = search needs
+add-from c = omega (arith, early (entry (c .before .before .before .before .before .before .before .before .before .before) .pre .0))
 
 mul-from : tie.Need-mul-from
-mul-from c = begin-fits (c .before .before .before .before .before .before .before .before .before .before .before .before .before .pre)
+mul-from c = begin-fits (entry (advanced c) .pre .0)
 
 add-to : tie.Need-add-to
-add-to c = end-fits (c .before .before .before .before .before .before .before .before .before .before .before .before .before .before .pre)
+add-to c = end-fits (entry (advanced (c .before)) .pre .0)
+
+sub-store : tie.Need-sub-store
+sub-store c = search needs
+
+part-store-start : tie.Need-part-store-start
+part-store-start c = search needs
+
+part-store-end : tie.Need-part-store-end
+part-store-end c = omega (arith, next-fits (entry (advanced (c .before .before)) .pre .0))
+
+store-requires : tie.Need-store-requires
+store-requires c κs = search needs
 
 sub-count : tie.Need-sub-count
 sub-count c = search needs
@@ -47,8 +53,9 @@ part-count-start c = search needs
 
 part-count-end : tie.Need-part-count-end
 part-count-end c =
-    let advanced = c .before .before .before .before .before in
-    omega (arith, next-fits (advanced .before .before .before .before .before .before .before .before .before .before .pre), advanced .advance .ensures .long)
+    let stored = c .before .before .before in
+    let turn = entry (advanced (stored .before .before .before .before)) .pre .0 in
+    omega (arith, next-fits turn, row-stored _ _ _ (next-fits turn) (stored .store .ensures) .long)
 
 count-requires : tie.Need-count-requires
 count-requires c κs = search needs
@@ -56,11 +63,41 @@ count-requires c κs = search needs
 same-length : tie.Need-same-length
 same-length c = search needs
 
+same-length-2 : tie.Need-same-length-2
+same-length-2 c = search needs
+
+same-length-3 : tie.Need-same-length-3
+same-length-3 c = search needs
+
+same-length-4 : tie.Need-same-length-4
+same-length-4 c = search needs
+
+same-length-5 : tie.Need-same-length-5
+same-length-5 c = search needs
+
+same-length-6 : tie.Need-same-length-6
+same-length-6 c = search needs
+
 returns : tie.Need-returns
 returns c =
-    let advanced = c .before .before .before .before .before .before .before in
-    let heard = advanced .before .before .before .before in
-    turned (heard .before .before .before .before .before .before .pre) (heard .heard-at .ensures) (advanced .advance .ensures) (c .count .ensures)
+    let stored = c .before .before .before .before .before in
+    let after = advanced (stored .before .before .before .before) in
+    let given = entry after .pre in
+    let turn = given .0 in
+    let ready = given .1 .ready in
+    let carry = given .2 in
+    let kept = after .advance-steadily .ensures in
+    let (moved, still) = kept .5 _ _ (given .1) (within ready _ _ (carry .holds)) (carry .sized) (carry .spare) (carry .still) in
+    let heard = after .before .before .before .before .before .before .heard-at .ensures in
+    let holds = holds-next turn ready (carry .holds) heard (kept .0) moved in (
+      turned turn ready holds (row-stored _ _ _ (next-fits turn) (stored .store .ensures)) (c .count .ensures),
+      record {
+        holds = holds;
+        sized = record { few = carry .sized .few; four = kept .1 ∙ carry .sized .four; first = kept .2 ∙ carry .sized .first; second = kept .3 ∙ carry .sized .second };
+        spare = kept .4 ∙ carry .spare;
+        still = still;
+      },
+    )
 
 pub instant-spec : {M : Type 1} → statement M
 instant-spec =
@@ -68,18 +105,22 @@ instant-spec =
     (tie.spec
     add-heard-at
     heard-at-requires
-    mul-advance
-    add-advance
-    mul-advance-2
-    mul-advance-3
-    mul-advance-4
-    advance-requires
+    advance-steadily-requires
     add-from
     mul-from
     add-to
+    sub-store
+    part-store-start
+    part-store-end
+    store-requires
     sub-count
     part-count-start
     part-count-end
     count-requires
     same-length
+    same-length-2
+    same-length-3
+    same-length-4
+    same-length-5
+    same-length-6
     returns)

@@ -15,25 +15,25 @@ enum-known-outcome-3 c = search needs
 
 prune-requires : tie.Need-prune-requires
 prune-requires c κs =
-    let known = c .before .before in
-    let e = known .before .before .before .before .before .before .before .pre in
-    (e .setting, through _ _ _ _ _ _ _ _ _ e _ (known .outcome3 .given .1) .layers)
+    let known = c .before .before .before .before .before .before .before .before in
+    let (e, long, given, sized, next, row, last) = known .before .before .before .before .before .before .before .before .before .before .before .before .before .before .before .pre in
+    (e .setting, given, long, through _ _ _ _ _ _ _ _ _ e _ (known .outcome3 .given .1) .layers, sized, next, row, last)
 
 walk-requires : tie.Need-walk-requires
 walk-requires c κs =
-    let pruned = c .before .before .before .before in
-    let known = pruned .before .before .before in
-    let e = known .before .before .before .before .before .before .before .pre in (
+    let pruned = c .before .before .before .before .before .before .before .before .before .before .before .before .before .before .before .before in
+    let known = pruned .before .before .before .before .before .before .before .before .before in
+    let e = known .before .before .before .before .before .before .before .before .before .before .before .before .before .before .before .pre .0 in (
       record { setting = e .setting; triggers = e .triggers; pruned = pruned .prune .ensures .1 },
       through _ _ _ _ _ _ _ _ _ e _ (known .outcome3 .given .1) .left,
       e .roomy,
     )
 
 returns : tie.Need-returns
-returns c = spent _ _ _ _ _ _ _ _ _ (c .before .before .before .before .before .before .before .before .pre) _ (c .before .outcome .given .1)
+returns c = spent _ _ _ _ _ _ _ _ _ (c .before .before .before .before .before .before .before .before .before .before .before .before .before .before .before .before .pre .0) _ (c .before .outcome .given .1)
 
 returns-2 : tie.Need-returns-2
-returns-2 c = emptied _ _ _ _ _ _ _ _ _ (c .before .before .before .before .before .before .before .before .pre) _ _ _ _ (c .before .outcome2 .given .1)
+returns-2 c = emptied _ _ _ _ _ _ _ _ _ (c .before .before .before .before .before .before .before .before .before .before .before .before .before .before .before .before .pre .0) _ _ _ _ (c .before .outcome2 .given .1)
 
 same-length : tie.Need-same-length
 same-length c = search needs
@@ -41,12 +41,30 @@ same-length c = search needs
 same-length-2 : tie.Need-same-length-2
 same-length-2 c = search needs
 
+same-length-3 : tie.Need-same-length-3
+same-length-3 c = search needs
+
+same-length-4 : tie.Need-same-length-4
+same-length-4 c = search needs
+
+same-length-5 : tie.Need-same-length-5
+same-length-5 c = search needs
+
+same-length-6 : tie.Need-same-length-6
+same-length-6 c = search needs
+
+same-length-7 : tie.Need-same-length-7
+same-length-7 c = search needs
+
+same-length-8 : tie.Need-same-length-8
+same-length-8 c = search needs
+
 returns-3 : tie.Need-returns-3
 returns-3 c =
     let walked = c .before .before in
-    let pruned = walked .before .before .before .before .before in
-    let known = pruned .before .before .before in
-    passed _ _ _ _ _ _ _ _ _ (known .before .before .before .before .before .before .before .pre) _ (known .outcome3 .given .1) _ _ _ (pruned .prune .ensures .0) (walked .walk .ensures .0) (walked .walk .ensures .1)
+    let pruned = walked .before .before .before .before .before .before .before .before .before .before .before .before .before .before .before .before .before in
+    let known = pruned .before .before .before .before .before .before .before .before .before in
+    passed _ _ _ _ _ _ _ _ _ (known .before .before .before .before .before .before .before .before .before .before .before .before .before .before .before .pre .0) _ (known .outcome3 .given .1) _ _ _ (pruned .prune .ensures .0) (walked .walk .ensures .0) (walked .walk .ensures .1)
 
 pub conclude-spec : {M : Type 1} → statement M
 conclude-spec =
@@ -61,4 +79,10 @@ conclude-spec =
     returns-2
     same-length
     same-length-2
+    same-length-3
+    same-length-4
+    same-length-5
+    same-length-6
+    same-length-7
+    same-length-8
     returns-3)

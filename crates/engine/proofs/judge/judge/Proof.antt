@@ -1,65 +1,56 @@
--- `judge::judge` meets its contract: from a cleared scratch, and cleared again. Assumes nothing.
+use native.Mathlib.Omega.{arith}
+use Rattle.engine.proofs.Grounds.{preparing}
 use borrow.Author.Needs.{needs}
-use mathlib.Core.Path.{ap, _∙_}
-use lib.ListN.{length, length-replicate}
-use Rattle.engine.proofs.JudgeLaws.{forwarding, ending, settled}
 use Rattle.engine.proofs.judge.judge.Statement.{statement}
 use Rattle.engine.proofs.judge.judge.Tie as tie
+use Rattle.engine.proofs.judge.judge.Reads as reads
+use Rattle.engine.proofs.judge.judge.Lts as lts
+use Rattle.engine.proofs.judge.judge_small.Reads as judge-small-reads
+use Rattle.engine.proofs.judge.judge_wide.Reads as judge-wide-reads
 
-clear-requires : tie.Need-clear-requires
-clear-requires c κs = search needs
+-- src/judge.rt:312:9
+judge-small-requires : tie.Need-judge-small-requires
+judge-small-requires c κs = search needs
 
-offsets-requires : tie.Need-offsets-requires
-offsets-requires c κs = search needs
-
-slice-aggregate-forward : tie.Need-slice-aggregate-forward
-slice-aggregate-forward c = search needs
-
-forward-requires : tie.Need-forward-requires
-forward-requires c κs =
-    let found = c .before .before in
-    let cleared = found .before .before .before in
-    forwarding _ _ _ _ _ _ (cleared .before .before .before .before .before .before .pre) _ _ (found .offsets .ensures) (cleared .clear .ensures)
-
-slice-aggregate-conclude : tie.Need-slice-aggregate-conclude
-slice-aggregate-conclude c = search needs
-
-conclude-requires : tie.Need-conclude-requires
-conclude-requires c κs =
-    let forwarded = c .before .before .before .before .before in
-    let found = forwarded .before .before .before in
-    ending _ _ _ _ _ _ (found .before .before .before .before .before .before .before .before .before .pre) _ _ _ _ (found .offsets .ensures) (forwarded .forward .ensures .1)
-
-clear-requires-2 : tie.Need-clear-requires-2
-clear-requires-2 c κs = search needs
-
+-- src/judge.rt:312:9
 same-length : tie.Need-same-length
 same-length c = search needs
 
+-- src/judge.rt:312:9
 same-length-2 : tie.Need-same-length-2
 same-length-2 c = search needs
 
+-- src/judge.rt:312:9
 returns : tie.Need-returns
-returns c =
-    let concluded = c .before .before .before .before .before .before .before .before in
-    let forwarded = concluded .before .before .before .before .before .before in
-    let cleared = forwarded .before .before .before .before .before .before in
-    settled _ _ _ _ _ _ (cleared .before .before .before .before .before .before .pre) _ _ _ _ _ _
-    (forwarded .forward .ensures .0 ∙ ap length (cleared .clear .ensures) ∙ length-replicate _ 0)
-    (concluded .conclude .ensures)
-    (c .before .before .clear2 .ensures)
+returns c = search needs
+
+-- src/judge.rt:314:5
+judge-wide-requires : tie.Need-judge-wide-requires
+judge-wide-requires c κs =
+    let pre = c .before .before .before .before .before .before .before .before .pre in
+    (pre, preparing _ _ _ (pre .sound) (pre .measured) .few)
+
+-- src/judge.rt:299:1
+same-length-3 : tie.Need-same-length-3
+same-length-3 c = search needs
+
+-- src/judge.rt:299:1
+same-length-4 : tie.Need-same-length-4
+same-length-4 c = search needs
+
+-- src/judge.rt:299:1
+returns-2 : tie.Need-returns-2
+returns-2 c = search needs
 
 pub judge-spec : {M : Type 1} → statement M
 judge-spec =
     tie.close
     (tie.spec
-    clear-requires
-    offsets-requires
-    slice-aggregate-forward
-    forward-requires
-    slice-aggregate-conclude
-    conclude-requires
-    clear-requires-2
+    judge-small-requires
     same-length
     same-length-2
-    returns)
+    returns
+    judge-wide-requires
+    same-length-3
+    same-length-4
+    returns-2)

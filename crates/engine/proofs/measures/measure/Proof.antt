@@ -1,7 +1,11 @@
-use Prim.Native.Nat.{ℕ, _*_, _≤_}
+use Prim.Native.Nat.{ℕ, _*_, _≤_, _<_}
 use native.Mathlib.Nat.{mul-le-mul}
 use native.Mathlib.Omega.{arith}
-use mathlib.Core.Path.{refl, ap₂}
+use mathlib.Core.Path.{_≡_, refl, ap₂}
+use Rattle.model.specs.declared.TableParts.{TableParts}
+use Rattle.model.specs.declared.Rule.{Rule}
+use Rattle.situation.specs.declared.Shape.{Shape}
+use Rattle.situation.specs.Numbering.{shapeOf}
 use borrow.Author.Needs.{needs}
 use Rattle.engine.proofs.measures.measure.Statement.{statement}
 use Rattle.engine.proofs.measures.measure.Tie as tie
@@ -31,18 +35,30 @@ mul-size c = record { fits = omega (arith, product-le c) }
 add-t7 : tie.Need-add-t7
 add-t7 c = omega (arith, product-le c)
 
+add-t10 : tie.Need-add-t10
+add-t10 c = omega (arith, product-le c)
+
 last-time-requires : tie.Need-last-time-requires
 last-time-requires c κs = search needs
 
 first-number-requires : tie.Need-first-number-requires
 first-number-requires c κs = search needs
 
+-- a clock has at least the one value 0
+some-values : (parts : TableParts) (rule : Rule) (h : Shape) → h ≡ shapeOf parts rule → (0 < h .first) × (0 < h .second)
+unfolding shapeOf
+some-values parts rule h e = rw e (omega arith, omega arith)
+
 returns : tie.Need-returns
 returns c =
+    let shape = c .before .before .before .before .shape-of in
+    let some = some-values _ _ _ (shape .ensures .0) in
     record {
-      shape = c .before .before .before .before .shape-of .ensures;
+      clocks = record { some = some .0; most = shape .ensures .1; some₁ = some .1; most₁ = shape .ensures .2 };
+      shape = shape .ensures .0;
       size = ap₂ (λ (a b : ℕ). a * b) (c .before .before .before .table-size .ensures) (c .before .before .masks .ensures .0);
       row = refl;
+      words = refl;
       last = c .before .last-time .ensures .0;
       first = c .first-number .ensures;
       short = c .before .last-time .ensures .1;
@@ -58,6 +74,7 @@ measure-spec =
     cast-size
     mul-size
     add-t7
+    add-t10
     last-time-requires
     first-number-requires
     returns)

@@ -1,11 +1,8 @@
--- `engine::prune::prune_at` meets its contract. Assumes nothing.
-use Prim.Native.Nat.{ℕ, _+_, _*_, _<_}
+-- `engine::prune::prune_at` meets its contract: the row is read into words, cut by an instant backward, and written back. Assumes nothing.
 use native.Mathlib.Omega.{arith}
-use mathlib.Core.Path.{subst}
-use mathlib.Core.Option.{Option}
-use Rattle.layers.specs.Advance.{stepAt}
-use Rattle.engine.specs.PruneRows.{RowCut}
-use Rattle.engine.proofs.Rows.{row-before, row-start}
+use mathlib.Core.Path.{_∙_}
+use Rattle.engine.proofs.Rows.{row-end}
+use Rattle.engine.proofs.PruneLaws.{turned}
 use borrow.Author.Needs.{needs}
 use Rattle.engine.proofs.prune.prune_at.Statement.{statement}
 use Rattle.engine.proofs.prune.prune_at.Tie as tie
@@ -19,43 +16,85 @@ back-requires c κs = search needs
 heard-at-requires : tie.Need-heard-at-requires
 heard-at-requires c κs = search needs
 
-mul-cut-row : tie.Need-mul-cut-row
-mul-cut-row c = search needs
+mul-from : tie.Need-mul-from
+mul-from c =
+    let start = c .before .before .before .before .before .before .before .before .before .before .before .before .before .before .before .before in
+    omega (arith, row-end (start .args .g .row) (start .args .t) (start .args .g .last) (omega (arith, start .pre .2)), start .pre .3, start .good)
 
-add-cut-row : tie.Need-add-cut-row
-add-cut-row c = search needs
+add-to : tie.Need-add-to
+add-to c =
+    let start = c .before .before .before .before .before .before .before .before .before .before .before .before .before .before .before .before .before in
+    omega (arith, row-end (start .args .g .row) (start .args .t) (start .args .g .last) (omega (arith, start .pre .2)), start .pre .3, start .good)
 
-mul-cut-row-2 : tie.Need-mul-cut-row-2
-mul-cut-row-2 c =
-    let start = c .before .before .before .before .before .before .before .before in
-    let below : 8 * start .args .g .row * (start .args .t + 1) < 4294967296 = row-start _ _ (omega arith) (omega arith) in
-    omega arith
+sub-load : tie.Need-sub-load
+sub-load c = search needs
 
-mul-cut-row-3 : tie.Need-mul-cut-row-3
-mul-cut-row-3 c = search needs
+part-load-start : tie.Need-part-load-start
+part-load-start c = search needs
 
-mul-cut-row-4 : tie.Need-mul-cut-row-4
-mul-cut-row-4 c =
-    let start = c .before .before .before .before .before .before .before .before .before .before in
-    let below : 8 * start .args .g .row * start .args .t < 4294967296 = row-start _ _ (omega arith) (omega arith) in
-    omega arith
+part-load-end : tie.Need-part-load-end
+part-load-end c =
+    let start = c .before .before .before .before .before .before .before .before .before .before .before .before .before .before .before .before .before .before in
+    omega (arith, row-end (start .args .g .row) (start .args .t) (start .args .g .last) (omega (arith, start .pre .2)), start .pre .3)
 
-cut-row-requires : tie.Need-cut-row-requires
-cut-row-requires c κs =
-    let start = c .before .before .before .before .before .before .before .before .before .before in
-    (omega (arith, row-before (8 * start .args .g .row) (start .args .t) (start .args .t + 1) (omega arith)), row-start _ _ (omega arith) (omega arith))
+load-requires : tie.Need-load-requires
+load-requires c κs = search needs
+
+retreat-steadily-requires : tie.Need-retreat-steadily-requires
+retreat-steadily-requires c κs = search needs
+
+sub-store : tie.Need-sub-store
+sub-store c = search needs
+
+part-store-start : tie.Need-part-store-start
+part-store-start c = search needs
+
+part-store-end : tie.Need-part-store-end
+part-store-end c =
+    let start = c .before .before .before .before .before .before .before .before .before .before .before .before .before .before .before .before .before .before .before .before .before .before .before .before .before .before .before .before .before .before .before .before .before .before .before .before .before .before .before .before .before in
+    omega (arith, row-end (start .args .g .row) (start .args .t) (start .args .g .last) (omega (arith, start .pre .2)), start .pre .3)
+
+store-requires : tie.Need-store-requires
+store-requires c κs = search needs
+
+copy-requires : tie.Need-copy-requires
+copy-requires c κs = search needs
 
 same-length : tie.Need-same-length
 same-length c = search needs
 
+same-length-2 : tie.Need-same-length-2
+same-length-2 c = search needs
+
+same-length-3 : tie.Need-same-length-3
+same-length-3 c =
+    let retreated = c .before .before .before .before .before .before .before .before .before .before .before .before .before .before .before .before .before .before .before .before in
+    retreated .retreat-steadily .ensures .0 ∙ retreated .before .before .before .before .before .before .before .before .before .load .ensures .size
+
+same-length-4 : tie.Need-same-length-4
+same-length-4 c = search needs
+
+same-length-5 : tie.Need-same-length-5
+same-length-5 c = search needs
+
+same-length-6 : tie.Need-same-length-6
+same-length-6 c = search needs
+
+same-length-7 : tie.Need-same-length-7
+same-length-7 c = search needs
+
 returns : tie.Need-returns
 returns c =
-    let called = c .before .before in
-    let heard = called .before .before .before .before .before in
-    let a = heard .before .before .before .before .before .before .args in (
-      heard .before .back .ensures,
-      subst (λ (o : Option ℕ). RowCut (stepAt (a .table .now) (a .offsets .now) (a .g .shape) o) (8 * a .g .row * a .t) (8 * a .g .row * (a .t + 1)) (a .g .size) (a .g .size) (a .scratch .now) (called .cut-row .last .1 .1 .1 .1 .0)) (heard .heard-at .ensures) (called .cut-row .ensures),
-    )
+    let copied = c .before .before in
+    let stored = copied .before .before .before .before .before in
+    let retreated = stored .before .before .before .before .before .before .before .before .before .before .before .before .before in
+    let loaded = retreated .before .before .before .before .before .before .before .before .before in
+    let heard = loaded .before .before .before .before .before .before .before in
+    let back = heard .before in
+    let start = back .before .before .before .before .before .before .before .before .before .before .before .before .before in
+    let (set, given, more, long, cursor, empty, come) = start .pre in
+    turned _ _ _ _ _ _ _ _ _ _ _ _ _ _ _ _ set given more long cursor empty come _ _ _ _ _ _ _ _ _ _ _
+    (back .back .ensures) (heard .heard-at .ensures) (loaded .load .ensures) (retreated .retreat-steadily .ensures) (stored .store .ensures) (copied .copy .ensures)
 
 pub prune-at-spec : {M : Type 1} → statement M
 prune-at-spec =
@@ -64,11 +103,23 @@ prune-at-spec =
     add-instant
     back-requires
     heard-at-requires
-    mul-cut-row
-    add-cut-row
-    mul-cut-row-2
-    mul-cut-row-3
-    mul-cut-row-4
-    cut-row-requires
+    mul-from
+    add-to
+    sub-load
+    part-load-start
+    part-load-end
+    load-requires
+    retreat-steadily-requires
+    sub-store
+    part-store-start
+    part-store-end
+    store-requires
+    copy-requires
     same-length
+    same-length-2
+    same-length-3
+    same-length-4
+    same-length-5
+    same-length-6
+    same-length-7
     returns)

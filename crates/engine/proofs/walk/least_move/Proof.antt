@@ -2,7 +2,7 @@
 use mathlib.Core.Path.{ap, _∙_}
 use Rattle.situation.specs.Rows.{heardOf}
 use Rattle.situation.specs.Stepping.{arrivalOf}
-use Rattle.layers.specs.Advance.{stepAt, leastInto}
+use Rattle.layers.specs.Into.{stepAt, leastInto}
 use Rattle.engine.proofs.WalkSteps.{step-arrives, not-nowhere}
 use borrow.Author.Needs.{needs}
 use Rattle.engine.proofs.walk.least_move.Statement.{statement}

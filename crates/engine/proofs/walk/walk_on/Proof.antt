@@ -8,7 +8,7 @@ use Rattle.model.specs.Situation.{moveOf}
 use Rattle.model.specs.Validation.{rowsBy}
 use Rattle.situation.specs.Rows.{heardOf, Cursor}
 use Rattle.situation.proofs.Cursors.{heard-recorded, passed-cursor}
-use Rattle.layers.specs.Advance.{stepAt, leastInto}
+use Rattle.layers.specs.Into.{stepAt, leastInto}
 use Rattle.engine.specs.Setting.{monitorBy}
 use Rattle.engine.specs.WalkRows.{rowsAfter}
 use Rattle.engine.proofs.Rows.{row-start}

@@ -1,14 +1,19 @@
 -- `layers::row::has` meets its contract.
-use Prim.Native.Nat.{ℕ, _+_, _*_, _/_, _%_}
+use Prim.Native.Nat.{ℕ, _+_, _-_, _*_, _/_, _%_}
 use native.Mathlib.Omega.{arith}
 use mathlib.Core.Path.{_≡_, sym, ap, _∙_}
 use mathlib.Core.List.{List}
+use lib.ListN.{length, take, drop, length-drop}
+use lib.Seq.{take-all}
 use borrow.Author.Needs.{needs}
 use Rattle.bits.specs.Member.{mem}
 use Rattle.bits.proofs.Laws.{mem-past, mem-drop}
-use Rattle.layers.proofs.Places.{take-rest}
 use Rattle.layers.proofs.row.has.Statement.{statement}
 use Rattle.layers.proofs.row.has.Tie as tie
+
+-- all that is behind a place
+take-rest : (s : List ℕ) (a : ℕ) → take (length s - a) (drop a s) ≡ drop a s
+take-rest s a = take-all (length s - a) (drop a s) (omega (arith, length-drop a s))
 
 add-at : tie.Need-add-at
 add-at c = search needs

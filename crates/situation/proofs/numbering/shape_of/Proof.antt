@@ -1,3 +1,4 @@
+use native.Mathlib.Omega.{arith}
 use borrow.Author.Needs.{needs}
 use Rattle.situation.specs.Numbering.{shapeOf}
 use Rattle.situation.proofs.numbering.shape_of.Statement.{statement}
@@ -23,7 +24,7 @@ masks-requires c κs = search needs
 
 returns : tie.Need-returns
 unfolding shapeOf
-returns c = cc
+returns c = (cc, omega (arith, c .before .before .clock-values .ensures .1), omega (arith, c .before .clock-values2 .ensures .1))
 
 pub shape-of-spec : {M : Type 1} → statement M
 shape-of-spec =

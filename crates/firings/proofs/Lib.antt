@@ -1,0 +1,11 @@
+pub mod Bounds
+pub mod Planes
+pub mod SameLaws
+pub mod FoldLaws
+pub mod PlanLaws
+pub mod FireLaws
+pub mod RestLaws
+pub mod ForwardAgrees
+pub mod BackwardAgrees
+pub mod GuardLaws
+pub mod UsedLaws

@@ -1,0 +1,5 @@
+pub mod Fired
+pub mod Rested
+pub mod Folded
+pub mod Ready
+pub mod Used

@@ -1,0 +1,10 @@
+pub mod LiveLaws
+pub mod RangeLaws
+pub mod MarkLaws
+pub mod Plans
+pub mod SetLaws
+pub mod UnsetLaws
+pub mod Marking
+pub mod Advancing
+pub mod Retreating
+pub mod SteadyLaws

@@ -1,0 +1,69 @@
+use Rattle.words.proofs.Sets.{fill-word}
+use Rattle.words.specs.Words.{Upto}
+use Rattle.shifts.specs.Shifted.{shiftedDown}
+use lib.ListN.{length, length-set}
+use native.Mathlib.Omega.{arith}
+use Prim.Native.Nat.{_-_, _≤_}
+use mathlib.Core.Path.{_≡_, refl, _∙_}
+use borrow.Author.Needs.{needs}
+use Rattle.shifts.proofs.down.shift_slow.Statement.{statement}
+use Rattle.shifts.proofs.down.shift_slow.Tie as tie
+
+abbrev Inv-loop : tie.InvT-loop
+Inv-loop dst₀ src k keep cut v w₀ dst w = (w ≤ length dst₀) × (length dst ≡ length dst₀) × Upto (shiftedDown src k keep cut) w dst
+
+abbrev μ-loop : tie.MeasureT-loop
+μ-loop dst₀ src k keep cut v w₀ dst w = length dst₀ - w
+
+loop-holds : tie.Need-loop-holds Inv-loop μ-loop
+loop-holds c = let pre = c .before .before .before .before .pre in (pre .0, refl, pre .1)
+
+word-shifted-requires : tie.Need-word-shifted-requires Inv-loop μ-loop
+word-shifted-requires c κs = search needs
+
+mul-dst : tie.Need-mul-dst Inv-loop μ-loop
+mul-dst c = search needs
+
+slice-write-dst : tie.Need-slice-write-dst Inv-loop μ-loop
+slice-write-dst c = search needs
+
+add-w : tie.Need-add-w Inv-loop μ-loop
+add-w c = search needs
+
+loop-less : tie.Need-loop-less Inv-loop μ-loop
+loop-less c = search needs
+
+loop-again : tie.Need-loop-again Inv-loop μ-loop
+loop-again c =
+    let at-loop = c .before .before in
+    let start = at-loop .before .before .before .before .before in
+    let a = start .args in
+    let w = at-loop .loop .w in
+    let x = c .word-shifted .result in
+    let dst = at-loop .loop .dst in (
+      omega arith,
+      length-set dst w x ∙ at-loop .loop .inv .1,
+      record { all = fill-word (shiftedDown (a .src .now) (a .k) (a .keep .now) (a .cut .now)) dst w x (omega arith) (c .word-shifted .ensures) (at-loop .loop .inv .2 .all) },
+    )
+
+same-length : tie.Need-same-length Inv-loop μ-loop
+same-length c = search needs
+
+returns : tie.Need-returns Inv-loop μ-loop
+returns c = record { size = c .before .loop .inv .1; all = λ i l. c .before .loop .inv .2 .all i (omega arith) }
+
+pub shift-slow-spec : {M : Type 1} → statement M
+shift-slow-spec =
+    tie.close
+    (tie.spec
+    Inv-loop
+    μ-loop
+    loop-holds
+    word-shifted-requires
+    mul-dst
+    slice-write-dst
+    add-w
+    loop-less
+    loop-again
+    same-length
+    returns)

@@ -1,0 +1,4 @@
+pub mod Moves
+pub mod Repeats
+pub mod Parts
+pub mod Digits

@@ -1,0 +1,5 @@
+pub mod Bit
+pub mod Sets
+pub mod Parts
+pub mod AnyBelow
+pub mod Bytes

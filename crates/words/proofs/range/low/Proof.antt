@@ -1,0 +1,16 @@
+use Rattle.words.proofs.Bit.{bit-low}
+use borrow.Author.Needs.{needs}
+use Rattle.words.proofs.range.low.Statement.{statement}
+use Rattle.words.proofs.range.low.Tie as tie
+
+sub-result : tie.Need-sub-result
+sub-result c = search needs
+
+shr-result : tie.Need-shr-result
+shr-result c = search needs
+
+returns : tie.Need-returns
+returns c = λ j. bit-low (c .args .r) j (c .pre .1)
+
+pub low-spec : {M : Type 1} → statement M
+low-spec = tie.close (tie.spec sub-result shr-result returns)
