@@ -11,7 +11,7 @@ use lutarosa_reference::situation::Space;
 use lutarosa_reference::validate::validate_rule;
 
 /// Name, N and T.
-const SIZES: [(&str, usize, usize); 13] = [
+const SIZES: [(&str, usize, usize); 14] = [
     ("wide", 65_536, 4_096),
     ("one clock of 255", 65_536, 4_096),
     ("clocks 256 x 256", 65_536, 4_096),
@@ -22,6 +22,7 @@ const SIZES: [(&str, usize, usize); 13] = [
     ("few possible", 65_536, 4_096),
     ("short recording", 65_536, 16),
     ("small monitor", 48, 4_096),
+    ("uneven handovers", 48, 4_061),
     ("rule 1 of 3", 65_536, 4_096),
     ("rule 3 of 8", 65_536, 4_096),
     ("many planes", 65_536, 4_096),

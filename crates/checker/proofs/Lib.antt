@@ -1,5 +1,1 @@
-pub mod Left
-pub mod Places
-pub mod Steps
-pub mod Pass
 pub mod Answers

@@ -1,8 +1,9 @@
 -- What the forward pass came to, turned into a verdict; and judging a sound recording from a cleared scratch.
-use Prim.Native.Nat.{ℕ, _+_, _*_, _≤_}
+use Prim.Native.Nat.{ℕ, _+_, _-_, _*_, _≤_}
+use native.Mathlib.Omega.{arith}
 use mathlib.Core.Path.{_≡_, refl, sym, ap, subst, _∙_}
 use mathlib.Core.List.{List}
-use lib.ListN.{length, replicate, length-replicate}
+use lib.ListN.{length, take, drop, replicate, length-take, length-replicate}
 use Rattle.model.specs.Monitor.{Monitor}
 use Rattle.model.specs.Room.{over}
 use Rattle.model.specs.Recording.{packetsAt}
@@ -16,14 +17,15 @@ use Rattle.model.proofs.RuledForm.{recording-sound}
 use Rattle.bits.specs.Member.{mem}
 use Rattle.bits.proofs.Laws.{mem-zeros}
 use Rattle.monitor.specs.From.{offsetsOf}
-use Rattle.engine.specs.declared.measures.Measures.{Measures}
-use Rattle.engine.specs.Setting.{monitorBy, Setting}
-use Rattle.engine.specs.Forwarding.{Forwarding, Through, Ended}
-use Rattle.engine.specs.WalkRows.{Triggers}
+use Rattle.measures.specs.declared.Measures.{Measures}
+use Rattle.measures.specs.Setting.{monitorBy, Setting, Triggers}
+use Rattle.forward.specs.Forwarding.{Forwarding, Through, Ended}
+use Rattle.images.specs.Buffers.{Sized}
+use Rattle.engine.specs.Rooms.{Rooms}
 use Rattle.engine.specs.Judging.{Judging, Ending, Concluded, Settled}
-use Rattle.engine.specs.declared.forward.Outcome.{Outcome}
-use Rattle.engine.specs.declared.forward.Outcome.the-variants.{Passed, Emptied, Spent}
-use Rattle.engine.proofs.Grounds.{setting, triggers}
+use Rattle.forward.specs.declared.Outcome.{Outcome}
+use Rattle.forward.specs.declared.Outcome.the-variants.{Passed, Emptied, Spent}
+use Rattle.measures.proofs.Grounds.{setting, triggers}
 
 module _ (edition : Edition) (table offsets recording scratch room : List ℕ) (g : Measures) (budget : ℕ) (o : Outcome) (e : Ending edition table offsets recording scratch room g budget o) where
   pub spent : (instant : ℕ) → o ≡ Spent instant → Concluded edition (monitorBy g table) recording budget scratch room scratch room (Exhausted budget instant)
@@ -85,3 +87,24 @@ module _ (edition : Edition) (table recording scratch room : List ℕ) (g : Meas
         cleared = zero ∙ ap (λ (n : ℕ). replicate n 0) (c .long ∙ long);
         written = c .written;
       }
+
+-- arrays of zeros for sets of k words have room for sets of n words
+pub rooms : (k n : ℕ) → n ≤ k → k ≤ 1024
+    → Rooms n (replicate (80 * k) 0) (take (4 * n - 0) (drop 0 (replicate (4 * k) 0))) (take (n - 0) (drop 0 (replicate k 0))) (take (n - 0) (drop 0 (replicate k 0)))
+    (take (4 * n - 0) (drop 0 (replicate (4 * k) 0))) (take (n - 0) (drop 0 (replicate k 0))) (take (n - 0) (drop 0 (replicate k 0)))
+rooms k n fits few =
+    let four : length (take (4 * n - 0) (drop 0 (replicate {A = ℕ} (4 * k) 0))) ≡ 4 * n = part (4 * k) (4 * n) (omega arith) in
+    let one : length (take (n - 0) (drop 0 (replicate {A = ℕ} k 0))) ≡ n = part k n fits in
+    let sized : Sized n (take (4 * n - 0) (drop 0 (replicate (4 * k) 0))) (take (n - 0) (drop 0 (replicate k 0))) (take (n - 0) (drop 0 (replicate k 0))) =
+    record { few = omega arith; four = four; first = one; second = one }
+    in
+    record { guards = omega (arith, length-replicate {A = ℕ} (80 * k) 0); marked = sized; sized = sized; current = one; single = one }
+  where
+    part : (k n : ℕ) → n ≤ k → length (take (n - 0) (drop 0 (replicate {A = ℕ} k 0))) ≡ n
+    part k n fits = omega (arith, length-take (n - 0) (drop 0 (replicate {A = ℕ} k 0)), length-replicate {A = ℕ} k 0)
+
+pub small : 16 ≤ 1024
+small = omega arith
+
+pub wide : 1024 ≤ 1024
+wide = omega arith

@@ -1,14 +1,3 @@
-pub mod PruneCursors
-pub mod PruneLaws
-pub mod PruneLayers
-pub mod WalkRoom
-pub mod WalkMoves
-pub mod WalkSteps
-pub mod ForwardPass
-pub mod ForwardRows
-pub mod Grounds
-pub mod EmptiedPairs
 pub mod JudgeLaws
 pub mod ValidateLaws
-pub mod Rows
 pub mod Preparations

@@ -6,9 +6,8 @@ use mathlib.Core.Path.{_≡_, ap, _∙_}
 use mathlib.Core.List.{List}
 use lib.ListN.{length}
 use Rattle.words.specs.Words.{mem}
-use Rattle.monitor.specs.From.{transitionFrom}
+use Rattle.monitor.specs.From.{transitionFrom, transitionCount}
 use Rattle.instants.specs.Grid.{plane, assignments}
-use Rattle.firings.specs.Fired.{transitionCount}
 use Rattle.firings.specs.Ready.{Guarded, Marked, apartBy}
 use Rattle.firings.proofs.GuardLaws.{planned-guards}
 use Rattle.planes.specs.Numbering.{holdsBy}
@@ -16,9 +15,9 @@ use Rattle.planes.specs.Planes.{Planes}
 use Rattle.planes.proofs.Tables.{room-sound}
 use Rattle.images.specs.Living.{numbersOf}
 use Rattle.images.proofs.Plans.{numbers-is, numbers-within}
-use Rattle.engine.specs.declared.measures.Measures.{Measures}
-use Rattle.engine.specs.Setting.{monitorBy}
-use Rattle.engine.specs.Working.{Working, Preparing}
+use Rattle.measures.specs.declared.Measures.{Measures}
+use Rattle.measures.specs.Setting.{monitorBy}
+use Rattle.measures.specs.Working.{Working, Preparing}
 
 module _ {table offsets : List ℕ} {g : Measures} (p : Preparing table offsets g) where
   -- the words of one guard's planes

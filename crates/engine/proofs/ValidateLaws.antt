@@ -42,13 +42,13 @@ use Rattle.model.proofs.LongRecordings.{unrefused, refuses-late}
 use Rattle.model.proofs.WithoutRule.{as-without}
 use Rattle.situation.specs.declared.Shape.{Shape}
 use Rattle.situation.specs.Numbering.{shapeOf}
-use Rattle.engine.specs.declared.measures.Measures.{Measures}
-use Rattle.engine.specs.Measured.{Measured}
-use Rattle.engine.specs.Setting.{monitorBy}
-use Rattle.engine.specs.Lent.{lentAnswer}
+use Rattle.measures.specs.declared.Measures.{Measures}
+use Rattle.measures.specs.Measured.{Measured}
+use Rattle.measures.specs.Setting.{monitorBy}
+use Rattle.lent.specs.Lent.{lentAnswer}
 use Rattle.engine.specs.Validates.{Answered, Validates, ValidatesUnder}
 use Rattle.engine.specs.Judging.{Judging, Settled}
-use Rattle.engine.proofs.Grounds.{whole-size, setting}
+use Rattle.measures.proofs.Grounds.{whole-size, setting}
 
 pub le-by : (a b n : ℕ) → a ≡ b → a ≤ n → b ≤ n
 le-by a b n e h = omega arith
@@ -130,10 +130,6 @@ count-is recording = ap length (packets-tab recording) ∙ length-tab (packetAt 
 pub room-is : (edition : Edition) (recording : List ℕ) (head last n : ℕ) → head ≡ rowsPlace edition → last ≡ endOf (packetsAt recording) → n ≡ countAt recording
     → head + 5 * (last + n) ≡ roomWanted edition (packetsAt recording)
 room-is edition recording head last n p l c = let h = count-is recording in omega arith
-
-pub no-end : (recording : List ℕ) → countAt recording ≡ 0 → 0 ≡ endOf (packetsAt recording)
-unfolding tab endOf
-no-end recording c = sym (ap endOf (packets-tab recording ∙ ap (tab (packetAt recording)) c))
 
 -- what is measured of a sound table, recording and rule
 module _ (rule : Rule) (table recording : List ℕ) (e : SoundUnder rule table recording) (parts : TableParts) (r : parts ≡ tableParts table)

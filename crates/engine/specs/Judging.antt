@@ -12,12 +12,11 @@ use Rattle.model.specs.Witness.{witnessBytes}
 use Rattle.model.specs.Validation.{preferred, verdict, roomBy}
 use Rattle.model.specs.declared.Edition.{Edition}
 use Rattle.model.specs.declared.Verdict.{Verdict}
-use Rattle.engine.specs.Measured.{Measured}
-use Rattle.engine.specs.Setting.{monitorBy, Setting}
-use Rattle.engine.specs.WalkRows.{Triggers}
-use Rattle.engine.specs.Forwarding.{Ended}
-use Rattle.engine.specs.declared.measures.Measures.{Measures}
-use Rattle.engine.specs.declared.forward.Outcome.{Outcome}
+use Rattle.measures.specs.Measured.{Measured}
+use Rattle.measures.specs.Setting.{monitorBy, Setting, Triggers}
+use Rattle.forward.specs.Forwarding.{Ended}
+use Rattle.measures.specs.declared.Measures.{Measures}
+use Rattle.forward.specs.declared.Outcome.{Outcome}
 
 -- a sound table and recording, a rule that 25 and 26 let through, and what is measured of them; the wanted part of the scratch; room enough
 pub record Judging (edition : Edition) (table recording scratch room : List ℕ) (g : Measures) : Type 0 where

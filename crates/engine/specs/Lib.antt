@@ -1,9 +1,3 @@
-pub mod Measured
-pub mod Lent
-pub mod Setting
-pub mod Working
-pub mod PruneRows
-pub mod WalkRows
-pub mod Forwarding
+pub mod Rooms
 pub mod Judging
 pub mod Validates

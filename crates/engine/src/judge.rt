@@ -1,11 +1,11 @@
 // Judging a sound recording: forward through the sets, and where a situation is left, back and along the least moves.
-use crate::forward::Outcome;
-use crate::forward::forward;
-use crate::measures::Measures;
-use crate::prune::prune;
-use crate::walk::walk;
+use backward::prune::prune;
+use backward::walk::walk;
 use bits::clear;
+use forward::Outcome;
+use forward::forward;
 use images::marks::mark_clocks;
+use measures::Measures;
 use model::Edition;
 use model::Verdict;
 use monitor::offsets;
@@ -15,8 +15,9 @@ ghost use mathlib.Core.Path.{_≡_};
 ghost use lib.ListN.{length, replicate};
 ghost use Rattle.monitor.specs.From.{offsetsOf};
 ghost use Rattle.images.specs.Buffers.{Sized, Kept};
-ghost use Rattle.engine.specs.Setting.{monitorBy};
-ghost use Rattle.engine.specs.Working.{Working, Preparing, Rooms};
+ghost use Rattle.measures.specs.Setting.{monitorBy};
+ghost use Rattle.measures.specs.Working.{Working, Preparing};
+ghost use Rattle.engine.specs.Rooms.{Rooms};
 ghost use Rattle.engine.specs.Judging.{Judging, Ending, Concluded, Settled};
 
 // What a forward pass comes to. Where it passed, the rows are pruned and the witness is written.
@@ -33,13 +34,13 @@ fn conclude<'a>(
     room: &mut [u8],
     next: &mut [u64],
     row: &mut [u64],
-    last: &mut [u64],
     sets: &mut [u64],
     one: &mut [u64],
     two: &mut [u64],
+    memo: &mut [u64],
     outcome: Outcome,
 ) -> Verdict
-    requires { ⌜ Ending edition (now table) (now offsets) (now recording) (now scratch) (now room) g budget outcome × (g .row * (g .last + 1) ≤ length (now scratch)) × Working (now table) (now offsets) g (now marks) (now planes) × Sized (g .words) (now sets) (now one) (now two) × (length (now next) ≡ g .words) × (length (now row) ≡ g .words) × (length (now last) ≡ g .words) ⌝ }
+    requires { ⌜ Ending edition (now table) (now offsets) (now recording) (now scratch) (now room) g budget outcome × (g .row * (g .last + 1) ≤ length (now scratch)) × Working (now table) (now offsets) g (now marks) (now planes) × Sized (g .words) (now sets) (now one) (now two) × (length (now next) ≡ g .words) × (length (now row) ≡ g .words) ⌝ }
     ensures { λ r. ⌜ Concluded edition (monitorBy g (now (table .entry))) (now (recording .entry)) budget (now (scratch .entry)) (now (room .entry)) (now (scratch .exit)) (now (room .exit)) r ⌝ }
 {
     match outcome {
@@ -66,10 +67,10 @@ fn conclude<'a>(
                 scratch,
                 next,
                 row,
-                last,
                 sets,
                 one,
                 two,
+                memo,
             );
             let rows = walk(edition, table, offsets, recording, g, scratch, room);
             Verdict::Accepted {
@@ -94,12 +95,12 @@ fn pass<'a>(
     room: &mut [u8],
     cur: &mut [u64],
     row: &mut [u64],
-    last: &mut [u64],
     sets: &mut [u64],
     one: &mut [u64],
     two: &mut [u64],
+    memo: &mut [u64],
 ) -> Verdict
-    requires { ⌜ Judging edition (now table) (now recording) (now scratch) (now room) g × (now offsets ≡ offsetsOf (now table)) × (now scratch ≡ replicate (length (now scratch)) 0) × Working (now table) (now offsets) g (now marks) (now planes) × Sized (g .words) (now sets) (now one) (now two) × (length (now cur) ≡ g .words) × (length (now row) ≡ g .words) × (length (now last) ≡ g .words) ⌝ }
+    requires { ⌜ Judging edition (now table) (now recording) (now scratch) (now room) g × (now offsets ≡ offsetsOf (now table)) × (now scratch ≡ replicate (length (now scratch)) 0) × Working (now table) (now offsets) g (now marks) (now planes) × Sized (g .words) (now sets) (now one) (now two) × (length (now cur) ≡ g .words) × (length (now row) ≡ g .words) ⌝ }
     ensures { λ r. ⌜ Concluded edition (monitorBy g (now (table .entry))) (now (recording .entry)) budget (now (scratch .entry)) (now (room .entry)) (now (scratch .exit)) (now (room .exit)) r ⌝ }
 {
     let outcome = forward(
@@ -115,7 +116,7 @@ fn pass<'a>(
         sets,
         one,
         two,
-        row,
+        memo,
     );
     conclude(
         edition,
@@ -130,10 +131,10 @@ fn pass<'a>(
         room,
         cur,
         row,
-        last,
         sets,
         one,
         two,
+        memo,
         outcome,
     )
 }
@@ -166,7 +167,7 @@ fn prepare<'a>(
     );
 }
 
-// With room for sets of so many words: marks and sets for four, planes for 80, the others for one each.
+// With room for sets of so many words: marks and sets for four, planes for 80, the others for one each; and memo for what is remembered, as much as it has.
 fn judge_in<'a>(
     edition: Edition,
     table: &'a [u8],
@@ -179,12 +180,12 @@ fn judge_in<'a>(
     marks: &mut [u64],
     cur: &mut [u64],
     row: &mut [u64],
-    last: &mut [u64],
     sets: &mut [u64],
     one: &mut [u64],
     two: &mut [u64],
+    memo: &mut [u64],
 ) -> Verdict
-    requires { ⌜ Judging edition (now table) (now recording) (now scratch) (now room) g × Rooms (g .words) (now planes) (now marks) (now cur) (now row) (now last) (now sets) (now one) (now two) ⌝ }
+    requires { ⌜ Judging edition (now table) (now recording) (now scratch) (now room) g × Rooms (g .words) (now planes) (now marks) (now cur) (now row) (now sets) (now one) (now two) ⌝ }
     ensures { λ r. ⌜ Settled edition (monitorBy g (now (table .entry))) (now (recording .entry)) budget (now (scratch .entry)) (now (room .entry)) (now (scratch .exit)) (now (room .exit)) r ⌝ }
 {
     let found = offsets(table);
@@ -203,10 +204,10 @@ fn judge_in<'a>(
         room,
         cur,
         row,
-        last,
         sets,
         one,
         two,
+        memo,
     );
     clear(scratch); // left zero
     verdict
@@ -232,9 +233,9 @@ fn judge_small<'a>(
     let mut sets = [0u64; 64];
     let mut cur = [0u64; 16];
     let mut row = [0u64; 16];
-    let mut last = [0u64; 16];
     let mut one = [0u64; 16];
     let mut two = [0u64; 16];
+    let mut memo = [0u64; 2048];
     judge_in(
         edition,
         table,
@@ -247,14 +248,14 @@ fn judge_small<'a>(
         &mut marks[0..four],
         &mut cur[0..n],
         &mut row[0..n],
-        &mut last[0..n],
         &mut sets[0..four],
         &mut one[0..n],
         &mut two[0..n],
+        &mut memo,
     )
 }
 
-// .. of at most 1,024.
+// .. of at most 1,024. One instant is remembered.
 fn judge_wide<'a>(
     edition: Edition,
     table: &'a [u8],
@@ -274,9 +275,9 @@ fn judge_wide<'a>(
     let mut sets = [0u64; 4096];
     let mut cur = [0u64; 1024];
     let mut row = [0u64; 1024];
-    let mut last = [0u64; 1024];
     let mut one = [0u64; 1024];
     let mut two = [0u64; 1024];
+    let mut memo = [0u64; 3073];
     judge_in(
         edition,
         table,
@@ -289,10 +290,10 @@ fn judge_wide<'a>(
         &mut marks[0..four],
         &mut cur[0..n],
         &mut row[0..n],
-        &mut last[0..n],
         &mut sets[0..four],
         &mut one[0..n],
         &mut two[0..n],
+        &mut memo,
     )
 }
 

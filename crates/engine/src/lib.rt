@@ -1,10 +1,5 @@
 // Validation (document 01): can the unit have kept the protocol? The verdict, its cost, and the preferred witness.
-mod forward;
 mod judge;
-mod lent;
-mod measures;
-mod prune;
-mod walk;
 
 use frame::edition::rows_place;
 use judge::judge;

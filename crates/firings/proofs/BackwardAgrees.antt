@@ -12,8 +12,9 @@ use borrow.Author.Tests.{eqb-false, ltb-true}
 use Rattle.model.specs.Size as Size
 use Rattle.model.specs.Monitor.{Monitor, Transition, toUnit, airtime}
 use Rattle.model.proofs.Basics.{same-test}
+use Rattle.monitor.specs.From.{transitionCount}
 use Rattle.words.specs.Words.{bit, mem, up, below}
-use Rattle.situation.specs.Stepping.{ruledFrom}
+use Rattle.situation.specs.Ruled.{ruledFrom}
 use Rattle.situation.specs.declared.Shape.{Shape}
 use Rattle.instants.specs.Digit.{digit, isHighest, raised, zeroed}
 use Rattle.instants.specs.Grid.{firsts, seconds, plane, free}
@@ -21,7 +22,7 @@ use Rattle.instants.specs.Firing.{fits, guessed, sourceAt, targetAt, holdsAt}
 use Rattle.instants.specs.Backward.{ticked, resetBy, restsBack, sendsBack, backward}
 use Rattle.instants.proofs.TestLaws.{both-are, both, up-some, some-up, below-some, some-below}
 use Rattle.instants.proofs.FiringLaws.{Found, firing-found, found-firing}
-use Rattle.firings.specs.Fired.{firesNow, transitionCount, transitionBy, fired}
+use Rattle.firings.specs.Fired.{firesNow, transitionBy, fired}
 use Rattle.firings.specs.Rested.{restedBack}
 use Rattle.firings.specs.Folded.{setAt, spreadBy}
 use Rattle.firings.specs.Ready.{Ready, Planned, Guarded, Live}

@@ -11,6 +11,9 @@ module _ (plane v : ℕ) (h : plane < 4294967296) (l : v < 256) where
   pub planes-fit : plane * v < 2 ^ 64
   planes-fit = omega (arith, product 4294967296 256 plane v h l)
 
+  pub planes-long : plane * v < 2 ^ 60
+  planes-long = omega (arith, product 4294967296 256 plane v h l)
+
   pub planes-near : (place : ℕ) → place < 2 ^ 59 → place + plane * v < 2 ^ 60
   planes-near place k = omega (arith, product 4294967296 256 plane v h l)
 

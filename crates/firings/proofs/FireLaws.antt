@@ -9,14 +9,15 @@ use lib.ListN.{getElem?}
 use Rattle.model.specs.Rule.{masks, allows}
 use Rattle.model.specs.Monitor.{Monitor, Transition}
 use Rattle.model.proofs.Basics.{same-test}
+use Rattle.monitor.specs.From.{transitionCount}
 use Rattle.words.specs.Words.{bit, mem, up, below, meet, anyBelow}
-use Rattle.situation.specs.Stepping.{heardOf}
+use Rattle.situation.specs.Rows.{heardOf}
 use Rattle.situation.specs.declared.Shape.{Shape}
 use Rattle.instants.specs.Grid.{plane, assignments}
 use Rattle.instants.specs.Firing.{fits, guessed, sourceAt, targetAt, holdsAt, someFiring}
 use Rattle.instants.proofs.TestLaws.{both-are, both, any-some, some-any}
 use Rattle.instants.proofs.FiringLaws.{Found, firing-found, found-firing}
-use Rattle.firings.specs.Fired.{hereBy, thereBy, carried, firedFrom, firesNow, firedBy, transitionCount, transitionBy, firedOne, fired}
+use Rattle.firings.specs.Fired.{hereBy, thereBy, carried, firedFrom, firesNow, firedBy, transitionBy, firedOne, fired}
 use Rattle.firings.specs.Ready.{Ready, Planned, Guarded, Live, apartBy}
 use Rattle.firings.specs.declared.Plan.{Plan}
 use Rattle.firings.proofs.SameLaws.{below-same, up-same}

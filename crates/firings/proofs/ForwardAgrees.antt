@@ -11,8 +11,9 @@ use lib.Dec.{eqb}
 use borrow.Author.Tests.{eqb-true, eq-eqb}
 use Rattle.model.specs.Monitor.{Monitor, Transition}
 use Rattle.model.proofs.Basics.{same-test}
+use Rattle.monitor.specs.From.{transitionCount}
 use Rattle.words.specs.Words.{bit, mem, up, below}
-use Rattle.situation.specs.Stepping.{ruledFrom}
+use Rattle.situation.specs.Ruled.{ruledFrom}
 use Rattle.situation.specs.declared.Shape.{Shape}
 use Rattle.instants.specs.Digit.{raisedSet}
 use Rattle.instants.specs.Grid.{firsts, seconds, plane}
@@ -20,7 +21,7 @@ use Rattle.instants.specs.Firing.{guessed, sourceAt, targetAt, holdsAt}
 use Rattle.instants.specs.Forward.{rests, sends, zeroedSecond, moves, forward}
 use Rattle.instants.proofs.TestLaws.{both-are, both, either-is, up-some, some-up, below-some}
 use Rattle.instants.proofs.FiringLaws.{Found, firing-found, found-firing}
-use Rattle.firings.specs.Fired.{transitionCount, fired}
+use Rattle.firings.specs.Fired.{fired}
 use Rattle.firings.specs.Rested.{rested}
 use Rattle.firings.specs.Folded.{setAt, resetSets}
 use Rattle.firings.specs.Ready.{Ready, Planned, Guarded, Live}

@@ -6,11 +6,12 @@ use mathlib.Core.Path.{_≡_, ap, ap₂, _∙_}
 use mathlib.Core.List.{List, [], _∷_}
 use Rattle.model.specs.Guard.{holds}
 use Rattle.model.specs.Monitor.{Monitor, Transition}
+use Rattle.monitor.specs.From.{transitionCount}
 use Rattle.words.specs.Words.{mem}
 use Rattle.situation.specs.declared.Shape.{Shape}
 use Rattle.instants.specs.Grid.{firsts, seconds, plane, assignments}
 use Rattle.instants.proofs.DigitLaws.{low-mod, low-div}
-use Rattle.firings.specs.Fired.{transitionCount, transitionBy}
+use Rattle.firings.specs.Fired.{transitionBy}
 use Rattle.firings.specs.Ready.{Ready, Guarded, apartBy}
 use Rattle.firings.proofs.PlanLaws.{transition-below, transition-is}
 

@@ -14,13 +14,13 @@ use Rattle.model.specs.Size as Size
 use Rattle.model.specs.Table.{transitionsAt}
 use Rattle.model.proofs.Basics.{getElem-tab, getElem-within}
 use Rattle.model.proofs.RuleLaws.{behind-below}
-use Rattle.monitor.specs.From.{monitorFrom}
-use Rattle.situation.specs.Stepping.{ruledFrom}
+use Rattle.monitor.specs.From.{monitorFrom, transitionCount}
+use Rattle.situation.specs.Ruled.{ruledFrom}
 use Rattle.situation.specs.declared.Shape.{Shape}
 use Rattle.instants.specs.Grid.{firsts, seconds, plane, assignments, planeAt, free}
 use Rattle.instants.specs.Firing.{sourceAt, targetAt}
 use Rattle.instants.proofs.PlaceLaws.{plane-below}
-use Rattle.firings.specs.Fired.{placeBy, hereBy, thereBy, transitionCount, transitionBy}
+use Rattle.firings.specs.Fired.{placeBy, hereBy, thereBy, transitionBy}
 use Rattle.firings.specs.Ready.{Ready, Planned}
 use Rattle.firings.specs.declared.Plan.{Plan}
 

@@ -1,21 +1,24 @@
 -- Sets that grow plane by plane.
-use Prim.Native.Nat.{ℕ, _+_, _*_, _%_}
+use Prim.Native.Nat.{ℕ, zero, suc, _+_, _-_, _*_, _/_, _%_, _^_, _<_}
 use native.Mathlib.Numerals.{add-one}
 use native.Mathlib.Omega.{arith}
-use native.Mathlib.Nat.{mul-add}
-use mathlib.Core.Path.{_≡_, refl, sym, ap, ap₂, subst}
+use native.Mathlib.Nat.{mul-add, mul-zero, mul-suc, pow-suc}
+use mathlib.Core.Path.{_≡_, refl, sym, ap, ap₂, subst, _∙_}
 use mathlib.Core.List.{List}
-use mathlib.Core.Bool.{Bool, true, false, cond, _&&_, and-false}
+use mathlib.Core.Bool.{Bool, true, false, cond, _&&_, _||_, and-false}
+use borrow.Author.Tests.{le-ltb}
 use lib.ListN.{getD}
 use Rattle.model.specs.Rule.{windowBehind, allows}
 use Rattle.model.specs.Monitor.{Monitor, Transition, changed, airtime}
-use Rattle.words.specs.Words.{bit, Joined, anyBelow, up, below, meet}
-use Rattle.words.proofs.Sets.{join-none, join-join, join-same}
+use Rattle.words.specs.Words.{bit, mem, Joined, anyBelow, up, below, meet}
+use Rattle.words.proofs.Sets.{join-none, join-join, join-same, up-more}
 use Rattle.monitor.specs.From.{transitionFrom}
-use Rattle.situation.specs.Stepping.{heardOf, ruledFrom}
+use Rattle.situation.specs.Rows.{heardOf}
+use Rattle.situation.specs.Ruled.{ruledFrom}
 use Rattle.instants.specs.Firing.{fits, guessed}
+use Rattle.firings.proofs.SameLaws.{any-same}
 use Rattle.firings.specs.declared.Plan.{Plan}
-use Rattle.firings.specs.Fired.{placeBy, hereBy, thereBy, carried, firedFrom, firesNow, firedBy, firedOne, fired}
+use Rattle.firings.specs.Fired.{placeBy, hereBy, thereBy, carried, carriedEach, firedFrom, firesNow, firedBy, firedOne, fired}
 
 -- one more of what is joined
 pub any-none : (f : ℕ → ℕ → Bool) (s : List ℕ) → Joined (λ i. anyBelow (λ v. f v i) 0) s s
@@ -59,42 +62,111 @@ place-moved p v state w =
     let above = p .shape .masks * (state + p .shape .states * w) in
     omega (arith, mul-add (p .plane) v above)
 
+-- planes in a row, each from a place on, are one range
+module _ (w d s m : ℕ) (src mask : List ℕ) (i : ℕ) where
+  nothing-up : up d (below 0 (meet src s mask m)) i ≡ false
+  unfolding up below
+  nothing-up = simp (le-ltb (i - d) 0 (omega arith), and-false)
+
+  on : (k j : ℕ) → meet src s mask m (k + j) ≡ meet src (s + k) mask (m + k) j
+  unfolding meet
+  on k j =
+      let p : s + (k + j) ≡ s + k + j = omega arith in
+      let q : m + (k + j) ≡ m + k + j = omega arith in
+      ap₂ (λ (x y : ℕ). mem src x && mem mask y) p q
+
+  range-row : (n : ℕ) → up d (below (w * n) (meet src s mask m)) i
+      ≡ anyBelow (λ v. up (d + w * v) (below w (meet src (s + w * v) mask (m + w * v))) i) n
+  unfolding anyBelow
+  range-row zero = ap (λ (k : ℕ). up d (below k (meet src s mask m)) i) (mul-zero w) ∙ nothing-up
+  range-row (suc n) =
+      ap (λ (k : ℕ). up d (below k (meet src s mask m)) i) (mul-suc w n)
+      ∙ sym (up-more d (w * n) w (meet src s mask m) i)
+      ∙ ap₂ (λ (x y : Bool). x || y) (range-row n) (ap (λ (g : ℕ → Bool). up (d + w * n) (below w g) i) (λ t j. on (w * n) j t))
+
+-- variables that are neither set nor cleared
+pub changed-none : (n v : ℕ) → v < 2 ^ n → changed n v 0 0 ≡ v
+unfolding changed
+changed-none zero v h = omega arith
+changed-none (suc n) v h = omega (arith, changed-none n (v / 2) (omega (arith, pow-suc 2 n)))
+
 -- one transition from one window, plane by plane
-module _ (p : Plan) (m : Monitor) (src planes : List ℕ) (guess : Bool) (t : Transition) (guard w : ℕ) where
+module _ (p : Plan) (src planes : List ℕ) (variables sets clears here there guard : ℕ) where
   abbrev planeBy : ℕ → ℕ → Bool
-  planeBy v = carried p src planes (hereBy p t w v) (thereBy p m guess t w v) (guard + p .plane * v) (p .plane)
+  planeBy v = carried p src planes (here + p .plane * v) (there + p .plane * changed variables v sets clears) (guard + p .plane * v) (p .plane)
 
-  -- from the first n variables
-  abbrev pub firedUpTo : ℕ → ℕ → Bool
-  firedUpTo n i = anyBelow (λ v. planeBy v i) n
+  pub each-none : (s : List ℕ) → Joined (carriedEach p src planes variables sets clears here there guard 0) s s
+  unfolding carriedEach
+  each-none s = any-none planeBy s
 
-  pub from-none : (s : List ℕ) → Joined (firedUpTo 0) s s
-  from-none s = any-none planeBy s
-
-  pub from-more : (v here there : ℕ) (a b c : List ℕ) → here ≡ hereBy p t w v → there ≡ thereBy p m guess t w v → Joined (firedUpTo v) a b
-      → Joined (carried p src planes here there (guard + p .plane * v) (p .plane)) b c → Joined (firedUpTo (v + 1)) a c
-  from-more v here there a b c e f x y =
+  pub each-more : (v after : ℕ) (a b c : List ℕ) → after ≡ changed variables v sets clears
+      → Joined (carriedEach p src planes variables sets clears here there guard v) a b
+      → Joined (carried p src planes (here + p .plane * v) (there + p .plane * after) (guard + p .plane * v) (p .plane)) b c
+      → Joined (carriedEach p src planes variables sets clears here there guard (v + 1)) a c
+  unfolding carriedEach
+  each-more v after a b c e x y =
       any-more planeBy v a b c x
-      (subst (λ (h : ℕ). Joined (carried p src planes h (thereBy p m guess t w v) (guard + p .plane * v) (p .plane)) b c) e
-      (subst (λ (h : ℕ). Joined (carried p src planes here h (guard + p .plane * v) (p .plane)) b c) f y))
+      (subst (λ (k : ℕ). Joined (carried p src planes (here + p .plane * v) (there + p .plane * k) (guard + p .plane * v) (p .plane)) b c) e y)
 
-  pub from-all : (n : ℕ) (a b : List ℕ) → n ≡ p .shape .masks → Joined (firedUpTo n) a b → Joined (firedFrom p m src planes guess t guard w) a b
-  unfolding firedFrom
-  from-all n a b e x = subst (λ (k : ℕ). Joined (firedUpTo k) a b) e x
+  -- in one run
+  row-by : (back : Bool) (n i : ℕ)
+      → cond back (up here (below (p .plane * n) (meet src there planes guard))) (up there (below (p .plane * n) (meet src here planes guard))) i
+      ≡ anyBelow
+      (λ v.
+      cond back
+      (up (here + p .plane * v) (below (p .plane) (meet src (there + p .plane * v) planes (guard + p .plane * v))))
+      (up (there + p .plane * v) (below (p .plane) (meet src (here + p .plane * v) planes (guard + p .plane * v)))) i) n
+  row-by true n i = range-row (p .plane) here there guard src planes i n
+  row-by false n i = range-row (p .plane) there here guard src planes i n
 
-  -- where the planes before and after the firing start, from where those of the first variables do
+  row : (n i : ℕ) → carried p src planes here there guard (p .plane * n) i
+      ≡ anyBelow (λ v. carried p src planes (here + p .plane * v) (there + p .plane * v) (guard + p .plane * v) (p .plane) i) n
+  unfolding carried
+  row n i = row-by (p .back) n i
 
-  pub here-is : (source v here : ℕ) → source ≡ t .source → here ≡ placeBy p 0 source w → here + p .plane * v ≡ hereBy p t w v
+  pub each-row : (n : ℕ) (a b : List ℕ) → ((v : ℕ) → v < n → changed variables v sets clears ≡ v)
+      → Joined (carried p src planes here there guard (p .plane * n)) a b → Joined (carriedEach p src planes variables sets clears here there guard n) a b
+  unfolding carriedEach
+  each-row n a b e =
+      join-same (carried p src planes here there guard (p .plane * n)) (λ i. anyBelow (λ v. planeBy v i) n) a b
+      (λ i l.
+      row n i
+      ∙ any-same _ (λ v. planeBy v i) n
+      (λ v h.
+      ap (λ (k : ℕ). carried p src planes (here + p .plane * v) (there + p .plane * k) (guard + p .plane * v) (p .plane) i) (sym (e v h))))
+
+-- where the planes before and after a firing start, from where those of the first variables do
+module _ (p : Plan) (m : Monitor) (guess : Bool) (t : Transition) (w : ℕ) where
+  here-is : (source v here : ℕ) → source ≡ t .source → here ≡ placeBy p 0 source w → here + p .plane * v ≡ hereBy p t w v
   unfolding hereBy
   here-is source v here e f = omega (arith, place-moved p v (t .source) w, ap (λ (x : ℕ). placeBy p 0 x w) e)
 
-  pub there-is : (shared window v after there : ℕ) → shared ≡ p .gap * (t .resets % 4) + p .free * airtime m (t .trigger)
+  there-is : (shared window v after there : ℕ) → shared ≡ p .gap * (t .resets % 4) + p .free * airtime m (t .trigger)
       → window ≡ windowBehind (m .rule) w guess → after ≡ changed (m .variables) v (t .sets) (t .clears) → there ≡ shared + placeBy p 0 (t .target) window
       → there + p .plane * after ≡ thereBy p m guess t w v
   unfolding thereBy
   there-is shared window v after there e f g h =
       let moved = place-moved p after (t .target) window in
       omega (arith, moved, ap₂ (λ (x y : ℕ). placeBy p x (t .target) y) g f)
+
+  module _ (src planes : List ℕ) (guard source shared window here there variables sets clears : ℕ) (a b : List ℕ)
+      (from : source ≡ t .source) (start : here ≡ placeBy p 0 source w)
+      (share : shared ≡ p .gap * (t .resets % 4) + p .free * airtime m (t .trigger)) (behind : window ≡ windowBehind (m .rule) w guess)
+      (end : there ≡ shared + placeBy p 0 (t .target) window)
+      (many : variables ≡ m .variables) (set : sets ≡ t .sets) (clear : clears ≡ t .clears) where
+    changes : (v : ℕ) → changed variables v sets clears ≡ changed (m .variables) v (t .sets) (t .clears)
+    changes v = cc
+
+    pub each-fired : Joined (carriedEach p src planes variables sets clears here there guard (p .shape .masks)) a b
+        → Joined (firedFrom p m src planes guess t guard w) a b
+    unfolding carriedEach firedFrom
+    each-fired =
+        join-same (carriedEach p src planes variables sets clears here there guard (p .shape .masks)) (firedFrom p m src planes guess t guard w) a b
+        (λ i l.
+        any-same _ _ (p .shape .masks)
+        (λ v h.
+        ap₂ (λ (x y : ℕ). carried p src planes x y (guard + p .plane * v) (p .plane) i) (here-is source v here from start)
+        (there-is shared window v (changed variables v sets clears) there share behind (changes v) end)))
 
 -- one transition, window by window
 module _ (p : Plan) (m : Monitor) (src planes : List ℕ) (guess : Bool) (t : Transition) (guard : ℕ) where

@@ -13,7 +13,7 @@ use lib.ListN.{getD}
 use Rattle.words.specs.Words.{bit, anyBelow}
 use Rattle.words.proofs.Bit.{bit-or, bit-shl, bit-past, bit-zero}
 use Rattle.monitor.specs.From.{transitionFrom}
-use Rattle.situation.specs.Stepping.{heardOf}
+use Rattle.situation.specs.Rows.{heardOf}
 use Rattle.instants.specs.Firing.{fits}
 use Rattle.firings.specs.declared.Plan.{Plan}
 use Rattle.firings.specs.Fired.{firesNow}

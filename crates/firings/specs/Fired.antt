@@ -3,13 +3,12 @@ use Prim.Native.Nat.{ℕ, _+_, _*_, _%_, min}
 use mathlib.Core.List.{List}
 use mathlib.Core.Bool.{Bool, cond, _&&_}
 use lib.ListN.{getD}
-use Rattle.model.specs.Limits.{transitionLimit}
-use Rattle.model.specs.Table.{transitionsAt}
 use Rattle.model.specs.Rule.{windowBehind, allows}
 use Rattle.model.specs.Monitor.{Monitor, Transition, changed, airtime}
 use Rattle.words.specs.Words.{bit, up, below, meet, anyBelow}
 use Rattle.monitor.specs.From.{transitionFrom}
-use Rattle.situation.specs.Stepping.{heardOf, ruledFrom}
+use Rattle.situation.specs.Rows.{heardOf}
+use Rattle.situation.specs.Ruled.{ruledFrom}
 use Rattle.instants.specs.Firing.{fits, guessed}
 use Rattle.firings.specs.declared.Plan.{Plan}
 
@@ -31,6 +30,11 @@ unfoldable pub carried : Plan → (src planes : List ℕ) → (here there guard 
 carried p src planes here there guard length =
     cond (p .back) (up here (below length (meet src there planes guard))) (up there (below length (meet src here planes guard)))
 
+-- the plane of each of the first n variables goes over to that of the variables after
+unfoldable pub carriedEach : Plan → (src planes : List ℕ) → (variables sets clears here there guard n : ℕ) → ℕ → Bool
+carriedEach p src planes variables sets clears here there guard n i =
+    anyBelow (λ v. carried p src planes (here + p .plane * v) (there + p .plane * changed variables v sets clears) (guard + p .plane * v) (p .plane) i) n
+
 -- one transition from one window, over the variables; guard: where its guard's planes start
 unfoldable pub firedFrom : Plan → Monitor → (src planes : List ℕ) → (guess : Bool) → Transition → (guard w : ℕ) → ℕ → Bool
 firedFrom p m src planes guess t guard w i =
@@ -43,10 +47,6 @@ firesNow p t = bit (p .live) (t .source) && fits (heardOf (p .heard)) t
 -- one transition from the first n windows, where the rule allows it
 unfoldable pub firedBy : Plan → Monitor → (src planes : List ℕ) → (guess : Bool) → Transition → (guard n : ℕ) → ℕ → Bool
 firedBy p m src planes guess t guard n i = anyBelow (λ w. allows (m .rule) w guess && firedFrom p m src planes guess t guard w i) n
-
--- the transitions that a table counts, at most as many as a sound one has
-abbrev pub transitionCount : List ℕ → ℕ
-transitionCount table = min (transitionsAt table) transitionLimit
 
 abbrev pub transitionBy : (table offsets : List ℕ) → ℕ → Transition
 transitionBy table offsets j = transitionFrom table (getD offsets j 0)

@@ -9,15 +9,15 @@ use Rattle.model.specs.Size
 use Rattle.model.specs.Rule.{masks}
 use Rattle.model.specs.Monitor.{Monitor, Transition}
 use Rattle.model.specs.Sane.{Sane}
+use Rattle.monitor.specs.From.{transitionCount}
 use Rattle.words.specs.Words.{bit, mem}
 use Rattle.situation.specs.Numbering.{Fits}
-use Rattle.situation.specs.Stepping.{ruledFrom}
+use Rattle.situation.specs.Ruled.{ruledFrom}
 use Rattle.situation.specs.declared.Shape.{Shape}
 use Rattle.instants.specs.Digit.{isLowest, isHighest}
 use Rattle.instants.specs.Grid.{firsts, seconds, plane, assignments, planeAt, free}
 use Rattle.instants.specs.Firing.{holdsAt}
 use Rattle.instants.specs.Sourced.{Sourced}
-use Rattle.firings.specs.Fired.{transitionCount}
 use Rattle.firings.specs.declared.Plan.{Plan}
 
 -- how many bits the planes of one transition's guard take, in whole words

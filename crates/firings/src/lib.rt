@@ -11,16 +11,17 @@ use wire::byte;
 use wire::short;
 use words::or_range;
 ghost use mathlib.Core.Path.{_≡_};
-ghost use mathlib.Core.Bool.{_||_};
+ghost use mathlib.Core.Bool.{true, _||_};
 ghost use mathlib.Core.List.{List};
 ghost use Prim.Native.Nat.{ℕ, _+_, _*_, _%_, _^_, _<_, _≤_};
 ghost use lib.ListN.{length};
-ghost use Rattle.model.specs.Monitor.{airtime};
+ghost use Rattle.model.specs.Monitor.{airtime, changed};
 ghost use Rattle.words.specs.Words.{bit, Joined};
-ghost use Rattle.monitor.specs.From.{transitionFrom};
-ghost use Rattle.situation.specs.Stepping.{heardOf, ruledFrom};
+ghost use Rattle.monitor.specs.From.{transitionFrom, transitionCount};
+ghost use Rattle.situation.specs.Rows.{heardOf};
+ghost use Rattle.situation.specs.Ruled.{ruledFrom};
 ghost use Rattle.instants.specs.Firing as Firing;
-ghost use Rattle.firings.specs.Fired.{placeBy, carried, firedFrom, firedBy, firedOne, fired, transitionCount};
+ghost use Rattle.firings.specs.Fired.{placeBy, carried, carriedEach, firedFrom, firedBy, firedOne, fired};
 ghost use Rattle.firings.specs.Used.{usesIn, usedBy};
 
 // What the firings of one instant share: how situations are numbered; the numbers of a plane, and of the situations whose air is free; what is recorded; the
@@ -83,7 +84,58 @@ fn carry(
     }
 }
 
-// One transition from one window.
+// Says true only where all variables below masks stay as they are.
+fn keeps(masks: u8, variables: u8, sets: u8, clears: u8) -> bool
+    ensures { λ r. ⌜ ((v : ℕ) → r ≡ true → v < masks → changed variables v sets clears ≡ v) ⌝ }
+{
+    if sets != 0 {
+        return false;
+    }
+    if clears != 0 {
+        return false;
+    }
+    if 8 <= variables {
+        return false;
+    }
+    masks as u16 <= 1u16 << variables
+}
+
+// The plane of each variables goes over to that of the variables after.
+fn carry_each(
+    p: Plan,
+    variables: u8,
+    sets: u8,
+    clears: u8,
+    here: usize,
+    to: usize,
+    guard: usize,
+    planes: &[u64],
+    src: &[u64],
+    dst: &mut [u64],
+)
+    requires { ⌜ (here < 2 ^ 58) × (to < 2 ^ 59) × (guard < 2 ^ 58) ⌝ }
+    ensures { λ r. ⌜ Joined (carriedEach p (now (src .entry)) (now (planes .entry)) variables sets clears here to guard (p .shape .masks)) (now (dst .entry)) (now (dst .exit)) ⌝ }
+{
+    let masks = p.shape.masks;
+    let plane = p.plane as usize;
+    let mut v = 0;
+    while v < masks {
+        let changed = variables_after(variables, v, sets, clears);
+        carry(
+            p,
+            here + plane * v as usize,
+            to + plane * changed as usize,
+            guard + plane * v as usize,
+            plane,
+            planes,
+            src,
+            dst,
+        );
+        v += 1;
+    }
+}
+
+// One transition from one window, in one run where the variables stay as they are.
 fn fire_from(
     p: Plan,
     table: &[u8],
@@ -101,28 +153,18 @@ fn fire_from(
 {
     let source = byte(table, at);
     let masks = p.shape.masks;
-    let plane = p.plane as usize;
     let rule = p.shape.rule;
     let window = window_behind(rule, w, guess);
     let here = place(p, 0, source, w);
     let to = there(p, table, at, shared, window);
-    let variables = byte(table, 4);
+    let count = byte(table, 4);
     let sets = byte(table, at + 3);
     let clears = byte(table, at + 4);
-    let mut v = 0;
-    while v < masks {
-        let changed = variables_after(variables, v, sets, clears);
-        carry(
-            p,
-            here + plane * v as usize,
-            to + plane * changed as usize,
-            guard + plane * v as usize,
-            plane,
-            planes,
-            src,
-            dst,
-        );
-        v += 1;
+    if keeps(masks, count, sets, clears) {
+        let run = p.plane as usize * masks as usize;
+        carry(p, here, to, guard, run, planes, src, dst);
+    } else {
+        carry_each(p, count, sets, clears, here, to, guard, planes, src, dst);
     }
 }
 

@@ -16,9 +16,9 @@ use Rattle.model.proofs.Basics.{and-left, and-right}
 use Rattle.model.proofs.Places.{AllBytes}
 use Rattle.model.proofs.ReadinessLaws.{never, answer-is}
 use Rattle.guard.specs.Evaluated.{Evaluated}
-use Rattle.guard.specs.Waits.{waitsOf, others, common, isNone}
-use Rattle.guard.specs.declared.waits.Waits.{Waits}
-use Rattle.guard.proofs.WaitLaws.{waits-not, waits-and, none-waits, some-wait}
+use Rattle.waits.specs.Waits.{waitsOf, others, common, isNone}
+use Rattle.waits.specs.declared.Waits.{Waits}
+use Rattle.waits.proofs.WaitLaws.{waits-not, waits-and, none-waits, some-wait}
 use Rattle.guard.specs.declared.Seen.{Seen}
 use Rattle.guard.specs.declared.Seen.the-variants.{Malformed, UpTo}
 use Rattle.guard.specs.Guards.{seen, clockLeaf, opposite, both}

@@ -1,3 +1,1 @@
-pub mod WaitLaws
 pub mod Guards
-pub mod Sizes

@@ -5,8 +5,8 @@ use mathlib.Core.Bool.{Bool, cond, not, _&&_}
 use lib.Dec.{eqb}
 use Rattle.model.specs.Guard.{atMost, atLeast, GuardRead, malformed, upTo, holds, largest}
 use Rattle.model.specs.Readiness.{waited}
-use Rattle.guard.specs.Waits.{waitsOf, others, common}
-use Rattle.guard.specs.declared.waits.Waits.{Waits}
+use Rattle.waits.specs.Waits.{waitsOf, others, common}
+use Rattle.waits.specs.declared.Waits.{Waits}
 use Rattle.guard.specs.declared.Seen.{Seen}
 use Rattle.guard.specs.declared.Seen.the-variants.{Malformed, UpTo}
 

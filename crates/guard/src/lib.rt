@@ -1,17 +1,15 @@
 // Guards in prefix form. One recursion over a guard's bytes tells where it ends, its value, the waits after which it holds, and the largest bound of a clock in it.
 // It ends since the bytes that remain grow fewer; depth is the limit that the definition sets, which a guard within its length never meets.
-pub mod size;
-pub mod waits;
 
-use crate::waits::Waits;
-use crate::waits::complement;
-use crate::waits::constant;
-use crate::waits::intersection;
-use crate::waits::is_none;
-use crate::waits::least_waits;
-use crate::waits::most_waits;
 use model::GUARD_LIMIT;
 use model::Readiness;
+use waits::Waits;
+use waits::complement;
+use waits::constant;
+use waits::intersection;
+use waits::is_none;
+use waits::least_waits;
+use waits::most_waits;
 use wire::byte;
 use wire::short;
 ghost use mathlib.Core.Path.{_≡_};

@@ -7,13 +7,15 @@ use native.Mathlib.Omega.{arith}
 use lib.Dec.{ltb}
 use lib.ListN.{length}
 use Rattle.model.specs.Monitor.{Monitor}
+use Rattle.monitor.specs.From.{transitionCount}
 use Rattle.words.specs.Words.{bit, mem, Is}
 use Rattle.shifts.specs.Shifted.{shifted}
-use Rattle.situation.specs.Stepping.{heardOf, ruledFrom}
+use Rattle.situation.specs.Rows.{heardOf}
+use Rattle.situation.specs.Ruled.{ruledFrom}
 use Rattle.situation.specs.declared.Shape.{Shape}
 use Rattle.situation.specs.declared.Heard.{Heard}
 use Rattle.instants.specs.Forward.{forward}
-use Rattle.firings.specs.Fired.{transitionCount, fired}
+use Rattle.firings.specs.Fired.{fired}
 use Rattle.firings.specs.Rested.{rested}
 use Rattle.firings.specs.Folded.{resetSets}
 use Rattle.firings.specs.Ready.{Live}

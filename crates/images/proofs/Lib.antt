@@ -7,4 +7,3 @@ pub mod UnsetLaws
 pub mod Marking
 pub mod Advancing
 pub mod Retreating
-pub mod SteadyLaws

@@ -1,25 +1,17 @@
 -- Marks are four sets of n words, one after the other: each as a part of their words. Assumes nothing.
-use mathlib.Core.Path.{_≡_, sym, ap, ap₂, _∙_}
+use mathlib.Core.Path.{_≡_, ap, _∙_}
 use mathlib.Core.List.{List}
-use Prim.Native.Nat.{ℕ, _+_, _-_, _*_, _/_, _%_, _<_}
+use Prim.Native.Nat.{ℕ, _+_, _-_, _*_, _<_}
 use native.Mathlib.Omega.{arith}
-use lib.ListN.{getD, take, drop}
-use lib.Seq.{getD-take, getD-drop}
+use lib.ListN.{take, drop}
 use Rattle.model.specs.Monitor.{Monitor}
-use Rattle.words.specs.Words.{bit, mem}
+use Rattle.words.specs.Words.{mem}
+use Rattle.strides.proofs.Parts.{mem-part}
 use Rattle.instants.specs.Digit.{isLowest, isHighest}
 use Rattle.instants.specs.Grid.{firsts, seconds}
 use Rattle.firings.specs.Ready.{Marked}
 
 -- the set in words a .. a + n
-pub mem-part : (s : List ℕ) (a n i : ℕ) → i < 64 * n → mem (take n (drop a s)) i ≡ mem s (64 * a + i)
-unfolding mem
-mem-part s a n i h =
-    let word : (64 * a + i) / 64 ≡ a + i / 64 = omega arith in
-    let place : (64 * a + i) % 64 ≡ i % 64 = omega arith in
-    ap (λ (b : ℕ). bit b (i % 64)) (getD-take n (drop a s) (i / 64) 0 (omega arith) ∙ getD-drop a s (i / 64) 0)
-    ∙ sym (ap₂ (λ (x y : ℕ). bit (getD s x 0) y) word place)
-
 abbrev pub partOf : List ℕ → (a e : ℕ) → List ℕ
 partOf s a e = take (e - a) (drop a s)
 

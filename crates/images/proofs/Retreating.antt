@@ -10,14 +10,16 @@ use borrow.Author.Tests.{eq-eqb, le-ltb}
 use lib.Dec.{eqb, ltb}
 use lib.ListN.{length}
 use Rattle.model.specs.Monitor.{Monitor}
+use Rattle.monitor.specs.From.{transitionCount}
 use Rattle.words.specs.Words.{bit, mem, below, Is}
 use Rattle.shifts.specs.Shifted.{shiftedDown}
-use Rattle.situation.specs.Stepping.{heardOf, ruledFrom}
+use Rattle.situation.specs.Rows.{heardOf}
+use Rattle.situation.specs.Ruled.{ruledFrom}
 use Rattle.situation.specs.declared.Shape.{Shape}
 use Rattle.situation.specs.declared.Heard.{Heard}
 use Rattle.instants.specs.Backward.{backward}
 use Rattle.instants.proofs.TestLaws.{both, some-any}
-use Rattle.firings.specs.Fired.{transitionCount, fired}
+use Rattle.firings.specs.Fired.{fired}
 use Rattle.firings.specs.Used.{usesIn, usedBy}
 use Rattle.firings.specs.Rested.{restedBack}
 use Rattle.firings.specs.Folded.{setAt, spreadBy}

@@ -3,7 +3,7 @@ use Prim.Native.Nat.{ℕ, _*_, _<_, _≤_}
 use mathlib.Core.Path.{_≡_}
 use mathlib.Core.List.{List}
 use mathlib.Core.Bool.{Bool, false, _&&_}
-use mathlib.Core.Option.{Option, none}
+use mathlib.Core.Option.{Option}
 use lib.ListN.{length}
 use Rattle.model.specs.Monitor.{Monitor}
 use Rattle.words.specs.Words.{mem}
@@ -32,11 +32,3 @@ AdvancedTo m recorded n before after = (i : ℕ) → i < 64 * n → mem after i 
 -- back, of the numbers of a row
 abbrev pub RetreatedTo : Monitor → Option ℕ → (n : ℕ) → (next before after : List ℕ) → Type 0
 RetreatedTo m recorded n next before after = (i : ℕ) → i < 64 * n → mem after i ≡ (mem before i && backward m recorded (mem next) i)
-
--- an instant at which nothing is recorded leaves the set as it is
-abbrev pub Steady : Monitor → (n : ℕ) → List ℕ → Type 0
-Steady m n s = (i : ℕ) → i < 64 * n → forward m none (mem s) i ≡ mem s i
-
--- what is kept of one set, on the way back into another over such an instant, is that other
-abbrev pub Settled : Monitor → (n : ℕ) → (row next : List ℕ) → Type 0
-Settled m n row next = (i : ℕ) → i < 64 * n → mem next i ≡ (mem row i && backward m none (mem next) i)

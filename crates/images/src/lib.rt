@@ -6,4 +6,3 @@ pub mod marks;
 mod plan;
 mod rests;
 mod sets;
-pub mod steady;

@@ -2,15 +2,35 @@
 use Prim.Native.Nat.{ℕ, suc, _+_, _-_, _≤_, _<_}
 use native.Mathlib.Decide.{decLt}
 use native.Mathlib.Omega.{arith}
-use mathlib.Core.Path.{_≡_, sym, ap, subst, _∙_}
+use mathlib.Core.Path.{_≡_, refl, sym, ap, subst, _∙_}
 use mathlib.Core.Logic.{_⊎_, inl, inr}
-use mathlib.Core.Bool.{Bool, true, false, true≢false}
+use mathlib.Core.Bool.{Bool, true, false, cond, true≢false}
 use mathlib.Core.List.{List}
-use mathlib.Core.Option.{Option}
+use mathlib.Core.Option.{Option, none, some, Option·none-ne-some}
 use Rattle.model.specs.Situation.{restMove, moveLimit}
 use Rattle.model.specs.Layers.{into, firstFrom}
 use Rattle.model.proofs.SetLaws.{FirstOf, firstFrom-first, firstFrom-hit, firstFrom-miss}
-use Rattle.layers.specs.Into.{inRow, leadsTo, Enough}
+use Rattle.layers.specs.Into.{inRow, arrivalIn, leadsTo, Enough}
+
+-- a step whose arrival passes a test, and one whose does not
+module _ (test : ℕ → Bool) where
+  pub arrives-in : (o : Option ℕ) (z : ℕ) → some z ≡ arrivalIn test o → (into test o ≡ true) × (o ≡ some z)
+  unfolding arrivalIn
+  arrives-in none z e = absurd (Option·none-ne-some z (sym e))
+  arrives-in (some n) z e = by (test n) refl
+    where
+      by : (b : Bool) → test n ≡ b → (test n ≡ true) × (some n ≡ some z)
+      by true q = (q, sym (e ∙ ap (λ (b : Bool). cond b (some n) none) q))
+      by false q = absurd (Option·none-ne-some z (sym (e ∙ ap (λ (b : Bool). cond b (some n) none) q)))
+
+  pub arrives-out : (o : Option ℕ) → none ≡ arrivalIn test o → into test o ≡ false
+  unfolding arrivalIn
+  arrives-out none e = refl
+  arrives-out (some n) e = by (test n) refl
+    where
+      by : (b : Bool) → test n ≡ b → test n ≡ false
+      by true q = absurd (Option·none-ne-some n (e ∙ ap (λ (b : Bool). cond b (some n) none) q))
+      by false q = q
 
 -- one test decides the first
 module _ (test : ℕ → Bool) where

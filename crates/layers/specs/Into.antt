@@ -2,13 +2,14 @@
 use Prim.Native.Nat.{ℕ, _+_, _<_, _≤_}
 use mathlib.Core.Path.{_≡_}
 use mathlib.Core.List.{List}
-use mathlib.Core.Bool.{Bool, _&&_}
-use mathlib.Core.Option.{Option, none}
+use mathlib.Core.Bool.{Bool, cond, _&&_}
+use mathlib.Core.Option.{Option, none, some}
 use lib.Dec.{ltb}
 use Rattle.model.specs.Situation.{restMove, moveLimit}
 use Rattle.model.specs.Layers.{into, firstFrom}
 use Rattle.bits.specs.Member.{mem}
-use Rattle.situation.specs.Stepping.{situationBy, arriveFrom}
+use Rattle.situation.specs.Numbering.{situationBy}
+use Rattle.steps.specs.Stepping.{arriveFrom}
 use Rattle.situation.specs.declared.Shape.{Shape}
 
 -- the step from number n by move k, where something is recorded or nothing
@@ -26,6 +27,11 @@ leastInto step scratch to size n = firstFrom (λ k. into (inRow scratch to size)
 -- move k leads into a row
 abbrev pub leadsTo : (step : ℕ → Option ℕ) → List ℕ → (to size k : ℕ) → Bool
 leadsTo step scratch to size k = into (inRow scratch to size) (step k)
+
+-- where a step leads, if that passes a test
+unfoldable pub arrivalIn : (ℕ → Bool) → Option ℕ → Option ℕ
+arrivalIn test none = none
+arrivalIn test (some n) = cond (test n) (some n) none
 
 -- no move leads anywhere but those below kept and those from restMove to end
 pub record Enough (step : ℕ → Option ℕ) (kept end : ℕ) : Type 0 where

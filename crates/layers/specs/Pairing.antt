@@ -4,21 +4,16 @@ use mathlib.Core.Path.{_≡_}
 use mathlib.Core.List.{List}
 use mathlib.Core.Bool.{Bool, cond, _&&_}
 use mathlib.Core.Option.{Option}
-use Rattle.model.specs.Limits.{transitionLimit, sizeLimit}
-use Rattle.model.specs.Table.{transitionsAt}
+use Rattle.model.specs.Limits.{sizeLimit}
 use Rattle.model.specs.Pairs.{howMany, pairs, isAnswer, answerIn}
 use Rattle.model.specs.declared.Readiness.{Readiness}
 use Rattle.model.specs.declared.Readiness.the-variants.{NotYet, NoMore}
 use Rattle.model.specs.declared.Situation.{Situation}
 use Rattle.bits.specs.Member.{mem}
 use Rattle.monitor.specs.From.{monitorFrom}
-use Rattle.situation.specs.Stepping.{situationBy}
+use Rattle.situation.specs.Numbering.{situationBy}
 use Rattle.situation.specs.declared.Shape.{Shape}
 use Rattle.layers.specs.declared.pairs.Pairs.{Pairs}
-
--- the transitions that a table counts, at most as many as a sound one has
-abbrev pub transitionCount : List ℕ → ℕ
-transitionCount table = min (transitionsAt table) transitionLimit
 
 -- transition j answers a, in a situation, to what is heard
 abbrev pub answersAs : List ℕ → List ℕ → Option ℕ → Situation → Readiness → ℕ → Bool

@@ -11,19 +11,28 @@ use situation::Arrival;
 use situation::Heard;
 use situation::Shape;
 use situation::numbering::situation_of;
-use situation::step::arrive;
+use steps::arrive;
 ghost use mathlib.Core.Path.{_≡_};
 ghost use mathlib.Core.List.{List};
-ghost use Prim.Native.Nat.{ℕ, _-_};
+ghost use mathlib.Core.Option.{some};
+ghost use Prim.Native.Nat.{ℕ, _-_, _<_};
+ghost use Rattle.model.specs.Situation.{moveLimit};
 ghost use Rattle.model.specs.Layers.{firstFrom};
-ghost use Rattle.situation.specs.Stepping.{heardOf, arriveFrom};
+ghost use Rattle.situation.specs.Rows.{heardOf};
+ghost use Rattle.steps.specs.Stepping.{arrivalOf, arriveFrom};
 ghost use Rattle.situation.specs.declared.Shape.{Shape};
-ghost use Rattle.layers.specs.Into.{Enough, leadsTo, leastInto, stepAt};
+ghost use Rattle.layers.specs.Into.{Enough, arrivalIn, inRow, leadsTo, leastInto, stepAt};
 
 // A row of bits in the scratch: situation z is bit start + z, for z below size.
 pub struct Span {
     pub start: usize,
     pub size: usize,
+}
+
+// A move, and the number that it leads to: 0 where no move was found.
+pub struct Least {
+    pub k: usize,
+    pub to: u64,
 }
 
 // The moves lo .. hi.
@@ -61,7 +70,7 @@ fn worth(table: &[u8], heard: Heard, s: Situation) -> Tries
     }
 }
 
-// Does move k lead into the row?
+// Where move k leads, if that is in the row.
 fn leads<'a>(
     table: &'a [u8],
     offsets: &'a [u16],
@@ -71,12 +80,21 @@ fn leads<'a>(
     k: usize,
     scratch: &'a [u8],
     to: Span,
-) -> bool
-    ensures { λ r. ⌜ r ≡ leadsTo (arriveFrom (now (table .entry)) (now (offsets .entry)) h (heardOf heard) s) (now (scratch .entry)) (to .start) (to .size) k ⌝ }
+) -> Arrival
+    ensures { λ r. ⌜ arrivalOf r ≡ arrivalIn (inRow (now (scratch .entry)) (to .start) (to .size)) (arriveFrom (now (table .entry)) (now (offsets .entry)) h (heardOf heard) s k) ⌝ }
 {
     match arrive(table, offsets, h, heard, s, k) {
-        Arrival::Nowhere => false,
-        Arrival::At(z) => z < to.size as u64 && row::has(scratch, to.start, z as usize),
+        Arrival::Nowhere => Arrival::Nowhere,
+        Arrival::At(z) => {
+            if to.size as u64 <= z {
+                return Arrival::Nowhere;
+            }
+            if row::has(scratch, to.start, z as usize) {
+                Arrival::At(z)
+            } else {
+                Arrival::Nowhere
+            }
+        }
     }
 }
 
@@ -90,17 +108,17 @@ fn first_of<'a>(
     moves: Range,
     scratch: &'a [u8],
     to: Span,
-) -> usize
-    ensures { λ r. ⌜ r ≡ firstFrom (leadsTo (arriveFrom (now (table .entry)) (now (offsets .entry)) h (heardOf heard) s) (now (scratch .entry)) (to .start) (to .size)) (moves .hi - moves .lo) (moves .lo) ⌝ }
+) -> Least
+    ensures { λ r. ⌜ (r .k ≡ firstFrom (leadsTo (arriveFrom (now (table .entry)) (now (offsets .entry)) h (heardOf heard) s) (now (scratch .entry)) (to .start) (to .size)) (moves .hi - moves .lo) (moves .lo)) × (r .k < moves .hi → arriveFrom (now (table .entry)) (now (offsets .entry)) h (heardOf heard) s (r .k) ≡ some (r .to)) ⌝ }
 {
     let mut k = moves.lo;
     while k < moves.hi {
-        if leads(table, offsets, h, heard, s, k, scratch, to) {
-            return k;
+        match leads(table, offsets, h, heard, s, k, scratch, to) {
+            Arrival::At(z) => return Least { k, to: z },
+            Arrival::Nowhere => k += 1,
         }
-        k += 1;
     }
-    k
+    Least { k, to: 0 }
 }
 
 // The least move that leads from situation n into the row; MOVE_LIMIT if none does.
@@ -112,8 +130,8 @@ pub fn least_into<'a>(
     scratch: &'a [u8],
     to: Span,
     n: u64,
-) -> usize
-    ensures { λ r. ⌜ r ≡ leastInto (stepAt (now (table .entry)) (now (offsets .entry)) h (heardOf heard)) (now (scratch .entry)) (to .start) (to .size) n ⌝ }
+) -> Least
+    ensures { λ r. ⌜ (r .k ≡ leastInto (stepAt (now (table .entry)) (now (offsets .entry)) h (heardOf heard)) (now (scratch .entry)) (to .start) (to .size) n) × (r .k < moveLimit → stepAt (now (table .entry)) (now (offsets .entry)) h (heardOf heard) n (r .k) ≡ some (r .to)) ⌝ }
 {
     let s = situation_of(h, n);
     let tries = worth(table, heard, s);
@@ -122,7 +140,7 @@ pub fn least_into<'a>(
         hi: tries.kept,
     };
     let kept = first_of(table, offsets, h, heard, s, keeps, scratch, to);
-    if kept < tries.kept {
+    if kept.k < tries.kept {
         return kept;
     }
     let others = Range {
@@ -130,5 +148,11 @@ pub fn least_into<'a>(
         hi: tries.end,
     };
     let other = first_of(table, offsets, h, heard, s, others, scratch, to);
-    if other < tries.end { other } else { MOVE_LIMIT }
+    if other.k < tries.end {
+        return other;
+    }
+    Least {
+        k: MOVE_LIMIT,
+        to: 0,
+    }
 }

@@ -10,14 +10,14 @@ use monitor::tried;
 use situation::Heard;
 use situation::Shape;
 use situation::numbering::situation_of;
-use situation::step::config_of;
+use steps::config_of;
 ghost use mathlib.Core.Path.{_≡_};
 ghost use mathlib.Core.Option.{some};
 ghost use Prim.Native.Nat.{_<_, min};
 ghost use Rattle.model.specs.Limits.{transitionLimit, sizeLimit};
-ghost use Rattle.monitor.specs.From.{attemptOf};
-ghost use Rattle.situation.specs.Stepping.{heardOf};
-ghost use Rattle.layers.specs.Pairing.{transitionCount, answersAs, answersInRow, OneMore, Tallied, CountedIn};
+ghost use Rattle.monitor.specs.From.{attemptOf, transitionCount};
+ghost use Rattle.situation.specs.Rows.{heardOf};
+ghost use Rattle.layers.specs.Pairing.{answersAs, answersInRow, OneMore, Tallied, CountedIn};
 
 // How many pairs answer not yet (too early), and how many no more (too late).
 pub struct Pairs {

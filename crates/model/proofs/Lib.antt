@@ -42,12 +42,5 @@ pub mod DeviceFree
 pub mod OtherBytes
 pub mod WithoutRule
 pub mod FirstBreak
-pub mod Examples
-pub mod Counterexample
-pub mod Overheard
-pub mod Unreached
-pub mod TwoVersions
-pub mod TwoEditions
-pub mod EarlyLate
 pub mod AnswerLaws
-pub mod Unlikely
+pub mod Edges

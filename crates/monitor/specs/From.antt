@@ -19,6 +19,10 @@ use Rattle.monitor.specs.declared.Fired.{Fired}
 use Rattle.monitor.specs.declared.Attempt.{Attempt}
 use Rattle.monitor.specs.declared.Attempt.the-variants.{Unfit, Answer}
 
+-- the transitions that a table counts, at most as many as a sound one has
+abbrev pub transitionCount : List ℕ → ℕ
+transitionCount table = min (transitionsAt table) transitionLimit
+
 -- what a firing answers, tried from the configuration c; unfired, c stands there
 abbrev pub firing : Config → Option Config → Fired
 firing c none = record { fired = false; to = c }
@@ -64,7 +68,7 @@ monitorFrom b offsets =
 
 -- where the transition records start: as many as the table counts, at most the limit, and zeros behind them
 unfoldable pub offsetsOf : List ℕ → List ℕ
-offsetsOf b = padded transitionLimit (tab (transitionAt b) (min (transitionsAt b) transitionLimit))
+offsetsOf b = padded transitionLimit (tab (transitionAt b) (transitionCount b))
 
 -- what the transition whose record starts at an offset answers to a packet of kind k
 abbrev pub triedFrom : List ℕ → ℕ → ℕ → Config → Option Readiness

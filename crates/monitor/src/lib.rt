@@ -11,16 +11,14 @@ use wire::short;
 ghost use mathlib.Core.Path.{_≡_};
 ghost use mathlib.Core.List.{List};
 ghost use mathlib.Core.Bool.{cond};
-ghost use Prim.Native.Nat.{ℕ, _+_, _%_, _<_, min};
+ghost use Prim.Native.Nat.{ℕ, _+_, _%_, _<_};
 ghost use lib.Dec.{eqb};
-ghost use Rattle.model.specs.Limits.{transitionLimit};
 ghost use Rattle.model.specs.Readiness.{readiness};
 ghost use Rattle.model.specs.Monitor as Monitor;
 ghost use Rattle.model.specs.Monitor.{changed, fires, toUnit, airtime, device};
 ghost use Rattle.model.specs.Pairs.{isAnswer};
 ghost use Rattle.model.specs.declared.Readiness.the-variants.{Yes};
-ghost use Rattle.model.specs.Table.{transitionsAt};
-ghost use Rattle.monitor.specs.From.{firing, attemptOf, guardFrom, triedFrom, monitorFrom, offsetsOf, afterFrom};
+ghost use Rattle.monitor.specs.From.{transitionCount, firing, attemptOf, guardFrom, triedFrom, monitorFrom, offsetsOf, afterFrom};
 
 // Whether a transition fired, and where it led; unfired, the configuration before.
 pub struct Fired {
@@ -36,7 +34,7 @@ pub enum Attempt {
 
 // How many transitions the table counts, at most as many as a sound one has.
 pub fn transitions(table: &[u8]) -> usize
-    ensures { λ r. ⌜ r ≡ min (transitionsAt (now (table .entry))) transitionLimit ⌝ }
+    ensures { λ r. ⌜ r ≡ transitionCount (now (table .entry)) ⌝ }
 {
     let count = byte(table, 7) as usize;
     if count < TRANSITION_LIMIT {

@@ -7,16 +7,15 @@ use monitor::transitions;
 use strides::at_most;
 use wire::byte;
 use wire::short;
+use words::complement;
 ghost use mathlib.Core.Path.{_≡_};
-ghost use mathlib.Core.Bool.{not, _&&_};
-ghost use Prim.Native.Nat.{ℕ, _+_, _*_, _%_, _^_, _<_, _≤_, min};
+ghost use mathlib.Core.Bool.{_&&_};
+ghost use Prim.Native.Nat.{ℕ, _+_, _*_, _%_, _^_, _<_, _≤_};
 ghost use lib.Dec.{leb, ltb};
 ghost use lib.ListN.{length};
 ghost use Rattle.model.specs.Guard.{guardAt, leafAt, variable};
-ghost use Rattle.model.specs.Limits.{transitionLimit};
-ghost use Rattle.model.specs.Table.{transitionsAt};
 ghost use Rattle.guard.specs.Guards.{clockLeaf};
-ghost use Rattle.monitor.specs.From.{guardFrom};
+ghost use Rattle.monitor.specs.From.{guardFrom, transitionCount};
 ghost use Rattle.words.specs.Words.{Is, bit, mem};
 ghost use Rattle.planes.specs.Built.{Built, inHand};
 ghost use Rattle.planes.specs.Planes.{Placed, Planes, setsAt};
@@ -60,16 +59,6 @@ fn fill(set: &mut [u64], x: u64)
     let mut k = 0;
     while k < set.len() {
         set[k] = x;
-        k += 1;
-    }
-}
-
-fn complement(set: &mut [u64])
-    ensures { λ _. ⌜ Is (λ i. not (mem (now (set .entry)) i)) (now (set .entry)) (now (set .exit)) ⌝ }
-{
-    let mut k = 0;
-    while k < set.len() {
-        set[k] = !set[k];
         k += 1;
     }
 }
@@ -275,7 +264,7 @@ fn all_planes(
     spare: &mut [u64],
 )
     requires { ⌜ (n ≤ length (now spare)) × (n ≤ 1024) × Clocks first second ⌝ }
-    ensures { λ _. ⌜ Planes first second n (now (table .entry)) (now (offsets .entry)) (min (transitionsAt (now (table .entry))) transitionLimit) (now (planes .entry)) (now (planes .exit)) ⌝ }
+    ensures { λ _. ⌜ Planes first second n (now (table .entry)) (now (offsets .entry)) (transitionCount (now (table .entry))) (now (planes .entry)) (now (planes .exit)) ⌝ }
 {
     let count = transitions(table);
     let mut j = 0;
@@ -310,7 +299,7 @@ pub fn guards(
     planes: &mut [u64],
     spare: &mut [u64],
 )
-    ensures { λ _. ⌜ (length (now (planes .exit)) ≡ length (now (planes .entry))) × (length (now (spare .exit)) ≡ length (now (spare .entry))) × (Clocks first second → n ≤ 1024 → n ≤ length (now (spare .entry)) → Planes first second n (now (table .entry)) (now (offsets .entry)) (min (transitionsAt (now (table .entry))) transitionLimit) (now (planes .entry)) (now (planes .exit))) ⌝ }
+    ensures { λ _. ⌜ (length (now (planes .exit)) ≡ length (now (planes .entry))) × (length (now (spare .exit)) ≡ length (now (spare .entry))) × (Clocks first second → n ≤ 1024 → n ≤ length (now (spare .entry)) → Planes first second n (now (table .entry)) (now (offsets .entry)) (transitionCount (now (table .entry))) (now (planes .entry)) (now (planes .exit))) ⌝ }
 {
     if 1024 < n {
         return;

@@ -1,8 +1,4 @@
 // Parts written into a room and read back from what was written: the first refusal of either, else the same parts.
-use codec::recording::read_recording;
-use codec::recording::write_recording;
-use codec::table::read_table;
-use codec::table::write_table;
 use model::Edition;
 use model::Reading;
 use model::RecordingParts;
@@ -13,6 +9,10 @@ use model::TableReading;
 use model::WitnessParts;
 use model::WitnessReading;
 use model::Writing;
+use recordings::read_recording;
+use recordings::write_recording;
+use tables::read_table;
+use tables::write_table;
 use witness::read_witness;
 use witness::write_witness;
 ghost use mathlib.Core.Path.{_≡_};

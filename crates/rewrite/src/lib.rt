@@ -1,16 +1,16 @@
 // Bytes read and written again: the first refusal of either, else the bytes of the parts that were read.
 pub mod back;
 
-use codec::recording::read_recording;
-use codec::recording::write_recording;
-use codec::table::read_table;
-use codec::table::write_table;
 use frame::edition::rows_place;
 use frame::put_frame;
 use model::Edition;
 use model::Reading;
 use model::Refusal;
 use model::Writing;
+use recordings::read_recording;
+use recordings::write_recording;
+use tables::read_table;
+use tables::write_table;
 use wire::place;
 use witness::count_at;
 use witness::row_at;

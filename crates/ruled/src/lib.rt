@@ -1,11 +1,11 @@
 // A table, a recording and a rule, read together: the numbers 10 to 26.
-use codec::recording::recording_scan;
-use codec::table::read_table;
 use frame::sound;
-use guard::size::table_size;
 use model::Rule;
 use model::TableReading;
+use recordings::recording_scan;
 use rule::rule_answer;
+use sizes::table_size;
+use tables::read_table;
 ghost use mathlib.Core.Path.{_≡_};
 ghost use Rattle.model.specs.Ruled.{ruledAnswer};
 ghost use Rattle.model.specs.Table.{tableParts};

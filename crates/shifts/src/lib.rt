@@ -5,3 +5,4 @@ mod up;
 
 pub use down::shift_down;
 pub use up::shift_up;
+pub use up::word_before;

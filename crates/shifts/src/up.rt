@@ -8,8 +8,8 @@ ghost use Rattle.words.specs.Words.{mem, up, Bits, Is};
 ghost use Rattle.words.specs.Words.{Upto};
 ghost use Rattle.shifts.specs.Shifted.{shifted};
 
-// Word k less by words, 0 before the start.
-fn word_before(a: &[u64], k: usize, by: usize) -> u64
+// The word that stands by words before word k, 0 before the start.
+pub fn word_before(a: &[u64], k: usize, by: usize) -> u64
     ensures { λ r. ⌜ Bits 64 (λ j. up (64 * by) (mem (now (a .entry))) (64 * k + j)) r ⌝ }
 {
     if by <= k { word(a, k - by) } else { 0 }

@@ -1,18 +1,19 @@
--- By the shape of a monitor, numbers and situations are those of the model, and each gives back the other.
-use Prim.Native.Nat.{ℕ, _+_, _/_, _%_, _^_, _<_}
+-- By the shape of a monitor, clocks, numbers and situations are those of the model, and each number and situation gives back the other.
+use Prim.Native.Nat.{ℕ, _+_, _/_, _%_, _^_, _<_, min}
 use native.Mathlib.Nat.{mod-eq-of-lt, one-le-pow}
 use native.Mathlib.Omega.{arith}
 use mathlib.Core.Path.{_≡_, refl, ap, ap₂, _∙_}
-use mathlib.Core.List.{[], _∷_}
+use mathlib.Core.List.{List, [], _∷_}
+use lib.ListN.{getD}
 use borrow.Author.Tests.{ne-eqb}
 use Rattle.model.specs.Monitor.{Monitor}
 use Rattle.model.specs.Size.{cap, size, largestAirtime}
-use Rattle.model.specs.Situation.{InRange, number, situationOf}
+use Rattle.model.specs.Situation.{InRange, capped, number, situationOf}
 use Rattle.model.specs.Sane.{Sane}
 use Rattle.model.specs.declared.Situation.{Situation}
 use Rattle.model.proofs.Numbering.{pos-masks, number-below, back, forth}
 use Rattle.situation.specs.declared.Shape.{Shape}
-use Rattle.situation.specs.Numbering.{Fits, numberBy, digitBy, restBy, situationBy}
+use Rattle.situation.specs.Numbering.{Fits, cappedBy, numberBy, digitBy, restBy, situationBy}
 
 -- a digit and what stands above it, where the radix and the number are the model's
 
@@ -25,6 +26,11 @@ unfolding restBy
 rest-by x n {r} e h f = (simp (ne-eqb r 0 (λ z. omega arith))) ∙ ap₂ (λ (y p : ℕ). y / p) e f
 
 module _ {h : Shape} {m : Monitor} (fits : Fits h m) where
+  pub same-capped : (c : List ℕ) → cappedBy h c ≡ capped m c
+  unfolding cappedBy capped
+  same-capped c =
+      ap₂ (λ (u v : ℕ). min (getD c 0 0) u ∷ min (getD c 1 0) v ∷ []) (omega (arith, fits .first)) (omega (arith, fits .second))
+
   pub same-number : (s : Situation) → numberBy h s ≡ number m s
   unfolding numberBy number
   same-number s = simp (fits .states, fits .masks, fits .first, fits .second, fits .windows)

@@ -1,4 +1,3 @@
 pub mod Numbering
 pub mod Rows
-pub mod Steps
-pub mod Stepping
+pub mod Ruled

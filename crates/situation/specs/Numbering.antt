@@ -1,7 +1,7 @@
 -- A situation's number by a shape, and back: mixed radix, the first digit the lowest.
-use Prim.Native.Nat.{ℕ, _+_, _*_, _/_, _%_, _^_}
+use Prim.Native.Nat.{ℕ, _+_, _-_, _*_, _/_, _%_, _^_, min}
 use mathlib.Core.Path.{_≡_}
-use mathlib.Core.List.{[], _∷_}
+use mathlib.Core.List.{List, [], _∷_}
 use mathlib.Core.Bool.{cond}
 use lib.ListN.{getD}
 use lib.Dec.{leb, eqb}
@@ -39,6 +39,10 @@ shapeOf t rule =
       windows = Rules.masks (within rule);
       rule = rule;
     }
+
+-- clocks as they are written by a shape
+unfoldable pub cappedBy : Shape → List ℕ → List ℕ
+cappedBy h c = min (getD c 0 0) (h .first - 1) ∷ min (getD c 1 0) (h .second - 1) ∷ []
 
 unfoldable pub numberBy : Shape → Situation → ℕ
 numberBy h s =

@@ -1,10 +1,9 @@
-// Situations: numbered into a set and back, what a recording says of an instant, and one step.
+// Situations: numbered into a set and back, what a recording says of an instant, and what a step answers.
 use model::Rule;
 use model::Situation;
 
 pub mod numbering;
 pub mod rows;
-pub mod step;
 
 // How situations are numbered: the states, 2 to the number of variables, the values of each clock, 1 for a clock that the table does not have, and the windows
 // of the rule under which moves are made.

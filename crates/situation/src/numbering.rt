@@ -1,11 +1,11 @@
 // A situation's number: its parts as digits, the first the lowest.
 use crate::Shape;
-use guard::size::clock_values;
 use model::Rule;
 use model::Situation;
 use model::TableParts;
 use model::VARIABLE_LIMIT;
 use rule::masks;
+use sizes::clock_values;
 use wire::short;
 ghost use mathlib.Core.Path.{_≡_};
 ghost use mathlib.Core.List.{[], _∷_};

@@ -1,26 +1,17 @@
 // A set of numbers repeated at a stride, by doubling: once the places below k are there, moving by k more joins those below 2 k.
+use shifts::word_before;
+use words::copy;
+use words::lesser;
+use words::past;
 use words::word;
 ghost use mathlib.Core.Path.{_≡_};
 ghost use mathlib.Core.Bool.{false};
-ghost use Prim.Native.Nat.{ℕ, _+_, _-_, _*_, _/_, _%_, _^_, _<_, _≤_, min};
+ghost use Prim.Native.Nat.{ℕ, _+_, _-_, _*_, _/_, _%_, _^_, _<_, _≤_};
 ghost use lib.ListN.{length};
 ghost use lib.Dec.{ltb};
 ghost use Rattle.words.specs.Words.{Bits, Is, anyBelow, mem, up};
 ghost use Rattle.words.specs.Words.{Upto};
 ghost use Rattle.strides.specs.Strides.{withDown, withUp};
-
-fn least(a: usize, b: usize) -> usize
-    ensures { λ r. ⌜ r ≡ min a b ⌝ }
-{
-    if a < b { a } else { b }
-}
-
-// The word that stands by words before word w, 0 before the start.
-fn word_before(s: &[u64], w: usize, by: usize) -> u64
-    ensures { λ r. ⌜ Bits 64 (λ j. up (64 * by) (mem (now (s .entry))) (64 * w + j)) r ⌝ }
-{
-    if by <= w { word(s, w - by) } else { 0 }
-}
 
 fn word_up(s: &[u64], w: usize, k: usize) -> u64
     ensures { λ r. ⌜ Bits 64 (λ j. withUp k (mem (now (s .entry))) (64 * w + j)) r ⌝ }
@@ -68,21 +59,9 @@ fn join_up(dst: &mut [u64], src: &[u64], k: usize)
     requires { ⌜ length (now src) ≡ length (now dst) ⌝ }
     ensures { λ _. ⌜ Is (withUp k (mem (now (src .entry)))) (now (dst .entry)) (now (dst .exit)) ⌝ }
 {
-    let v = least(k / 64 + 1, dst.len());
+    let v = lesser(k / 64 + 1, dst.len());
     up_slow(dst, src, k, v);
     up_fast(dst, src, k, v);
-}
-
-fn copy(dst: &mut [u64], src: &[u64])
-    requires { ⌜ length (now src) ≡ length (now dst) ⌝ }
-    ensures { λ _. ⌜ Is (mem (now (src .entry))) (now (dst .entry)) (now (dst .exit)) ⌝ }
-{
-    let e = dst.len();
-    let mut w = 0;
-    while w < e {
-        dst[w] = src[w];
-        w += 1;
-    }
 }
 
 // a with itself, moved up by k.
@@ -133,12 +112,6 @@ fn down_slow(dst: &mut [u64], src: &[u64], k: usize, v: usize)
         dst[w] = word_down(src, w, k);
         w += 1;
     }
-}
-
-fn past(n: usize, k: usize) -> usize
-    ensures { λ r. ⌜ r ≡ n - k ⌝ }
-{
-    if k < n { n - k } else { 0 }
 }
 
 fn join_down(dst: &mut [u64], src: &[u64], k: usize)
@@ -243,7 +216,7 @@ fn grow(a: &mut [u64], spare: &mut [u64], e: usize)
     requires { ⌜ (length (now a) ≤ length (now spare)) × ((i : ℕ) → e ≤ i → mem (now a) i ≡ false) ⌝ }
     ensures { λ _. ⌜ Is (withUp e (mem (now (a .entry)))) (now (a .entry)) (now (a .exit)) ⌝ }
 {
-    let m = least(a.len(), e / 32 + 1);
+    let m = lesser(a.len(), e / 32 + 1);
     let part = &mut a[0..m];
     let room = &mut spare[0..m];
     step_up(part, room, e);
@@ -278,6 +251,6 @@ pub fn at_most(a: &mut [u64], spare: &mut [u64], w: u32, r: u32, n: u32)
     if r == 0 {
         return;
     }
-    below(a, w as usize * least(n as usize, r as usize));
+    below(a, w as usize * lesser(n as usize, r as usize));
     repeat(a, spare, w as usize * r as usize);
 }

@@ -2,4 +2,3 @@ pub mod Bit
 pub mod Sets
 pub mod Parts
 pub mod AnyBelow
-pub mod Bytes

@@ -1,12 +1,9 @@
 // Sets of numbers in lent words: number i is bit i % 64 of word i / 64.
 mod range;
-mod rows;
 mod whole;
 
 pub use range::any_in;
 pub use range::or_range;
-pub use rows::load;
-pub use rows::store;
 pub use whole::any;
 pub use whole::clear;
 pub use whole::complement;

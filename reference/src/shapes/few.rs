@@ -60,3 +60,35 @@ fn handover(start: u16) -> [Heard; 4] {
     let heard = |after: u16, kind: u8| Heard { time: start + after, kind };
     [heard(8, DATA), heard(10, ACK), heard(27, DATA), heard(32, RETRY)]
 }
+
+/// The same monitor, and times drawn anew for each handover: what was worked out for one seldom
+/// serves for the next.
+pub fn uneven_handovers() -> Shape {
+    let table = table::read(&SMALL_MONITOR).expect("sound");
+    let mut draw = Draw(1);
+    let (mut rows, mut time) = (Vec::new(), 0);
+    while time + LONGEST < LAST_TIME {
+        time += 6 + draw.below(24);
+        rows.push(Heard { time, kind: DATA });
+        let (after, kind) = match draw.below(2) {
+            0 => (2, ACK),
+            _ => (5, RETRY),
+        };
+        time += after + draw.below(2);
+        rows.push(Heard { time, kind });
+    }
+    Shape::new("uneven handovers", table, Recording { rows })
+}
+
+/// More than the ticks of one of them.
+const LONGEST: u16 = 36;
+
+/// The same numbers in each run.
+struct Draw(u32);
+
+impl Draw {
+    fn below(&mut self, limit: u16) -> u16 {
+        self.0 = self.0.wrapping_mul(1_103_515_245).wrapping_add(12_345);
+        (self.0 >> 16) as u16 % limit
+    }
+}

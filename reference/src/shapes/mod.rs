@@ -41,6 +41,7 @@ pub fn shapes() -> Vec<Shape> {
         few::few_possible(),
         transitions::short_recording(),
         few::small_monitor(),
+        few::uneven_handovers(),
         rules::one_of_three(),
         rules::three_of_eight(),
         rules::many_planes(),

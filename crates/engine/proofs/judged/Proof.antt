@@ -10,7 +10,7 @@ use Rattle.model.specs.Ruled.{monitorUnder, ruledAnswer, SoundUnder}
 use Rattle.model.specs.Table.{tableParts}
 use Rattle.model.specs.Validation.{scratchWanted, roomWanted, refusalOf}
 use Rattle.model.specs.declared.Reading.{Reading}
-use Rattle.engine.proofs.Rows.{product}
+use Rattle.measures.proofs.Rows.{product}
 use Rattle.engine.proofs.ValidateLaws.{unread, scratch-is, room-is, refused, by-lent, lent-enough, row-few, judging, judged-part}
 use Rattle.engine.proofs.judged.Statement.{statement}
 use Rattle.engine.proofs.judged.Tie as tie

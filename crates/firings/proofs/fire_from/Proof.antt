@@ -1,168 +1,129 @@
-use Prim.Native.Nat.{ℕ, _+_, _-_, _*_, _≤_}
+use Prim.Native.Nat.{ℕ}
 use native.Mathlib.Omega.{arith}
-use mathlib.Core.Path.{_≡_, _∙_}
-use mathlib.Core.List.{List, []}
+use mathlib.Core.List.{List}
 use borrow.Author.Needs.{needs}
-use Rattle.model.specs.Monitor.{changed}
 use Rattle.words.specs.Words.{Joined}
 use Rattle.monitor.specs.From.{transitionFrom, monitorFrom}
-use Rattle.situation.specs.Stepping.{ruledFrom}
-use Rattle.firings.proofs.Bounds.{planes-fit, planes-near, planes-end}
-use Rattle.firings.proofs.Planes.{firedUpTo, from-none, from-more, from-all, here-is, there-is}
+use Rattle.situation.specs.Ruled.{ruledFrom}
+use Rattle.firings.specs.Fired.{carriedEach, firedFrom}
+use Rattle.firings.proofs.Bounds.{planes-fit, planes-long}
+use Rattle.firings.proofs.Planes.{each-row, each-fired}
 use Rattle.firings.proofs.fire_from.Statement.{statement}
 use Rattle.firings.proofs.fire_from.Tie as tie
 
-abbrev Inv-loop : tie.InvT-loop
-Inv-loop p table at guess shared guard w planes src dst₀ source masks plane window here to variables sets clears v₀ dst v =
-    (v ≤ masks)
-    × ((offsets : List ℕ) → Joined (firedUpTo p (ruledFrom (p .shape) table offsets) src planes guess (transitionFrom table at) guard w v) dst₀ dst)
+abbrev entry : tie.After-byte4 → tie.Start
+entry c = c .before .before .before .before .before .before .before .before .before .before .before .before
 
-abbrev μ-loop : tie.MeasureT-loop
-μ-loop p table at guess shared guard w planes src dst₀ source masks plane window here to variables sets clears v₀ dst v = masks - v
-
-changed-by : {n m s t c d : ℕ} (v : ℕ) → n ≡ m → s ≡ t → c ≡ d → changed n v s c ≡ changed m v t d
-changed-by v e f g = cc
-
-abbrev entry : tie.After-byte4 Inv-loop μ-loop → tie.Start Inv-loop μ-loop
-entry c = c .before .before .before .before .before .before .before .before .before .before .before .before .before
-
-byte-requires : tie.Need-byte-requires Inv-loop μ-loop
+byte-requires : tie.Need-byte-requires
 byte-requires c κs = search needs
 
-cast-plane : tie.Need-cast-plane Inv-loop μ-loop
-cast-plane c = search needs
-
-window-behind-requires : tie.Need-window-behind-requires Inv-loop μ-loop
+window-behind-requires : tie.Need-window-behind-requires
 window-behind-requires c κs = search needs
 
-place-requires : tie.Need-place-requires Inv-loop μ-loop
+place-requires : tie.Need-place-requires
 place-requires c κs = search needs
 
-there-requires : tie.Need-there-requires Inv-loop μ-loop
+there-requires : tie.Need-there-requires
 there-requires c κs = search needs
 
-byte-requires-2 : tie.Need-byte-requires-2 Inv-loop μ-loop
+byte-requires-2 : tie.Need-byte-requires-2
 byte-requires-2 c κs = search needs
 
-add-byte : tie.Need-add-byte Inv-loop μ-loop
+add-byte : tie.Need-add-byte
 add-byte c = search needs
 
-byte-requires-3 : tie.Need-byte-requires-3 Inv-loop μ-loop
+byte-requires-3 : tie.Need-byte-requires-3
 byte-requires-3 c κs = search needs
 
-add-byte-2 : tie.Need-add-byte-2 Inv-loop μ-loop
+add-byte-2 : tie.Need-add-byte-2
 add-byte-2 c = search needs
 
-byte-requires-4 : tie.Need-byte-requires-4 Inv-loop μ-loop
+byte-requires-4 : tie.Need-byte-requires-4
 byte-requires-4 c κs = search needs
 
-loop-holds : tie.Need-loop-holds Inv-loop μ-loop
-loop-holds c =
-    let a = entry c .args in
-    (omega arith, λ offsets. from-none (a .p) (ruledFrom (a .p .shape) (a .table .now) offsets) (a .src .now) (a .planes .now) (a .guess) (transitionFrom (a .table .now) (a .at)) (a .guard) (a .w) (a .dst .now))
+keeps-requires : tie.Need-keeps-requires
+keeps-requires c κs = search needs
 
-variables-after-requires : tie.Need-variables-after-requires Inv-loop μ-loop
-variables-after-requires c κs = search needs
+cast-run : tie.Need-cast-run
+cast-run c = search needs
 
-cast-carry : tie.Need-cast-carry Inv-loop μ-loop
-cast-carry c = search needs
+cast-run-2 : tie.Need-cast-run-2
+cast-run-2 c = search needs
 
-mul-carry : tie.Need-mul-carry Inv-loop μ-loop
-mul-carry c = let s = entry (c .before .before .before) in record { fits = planes-fit _ _ (omega (arith, s .good)) (omega (arith, s .good)) }
+mul-run : tie.Need-mul-run
+mul-run c = let s = entry (c .before .before .before) in record { fits = planes-fit _ _ (omega (arith, s .good)) (omega (arith, s .good)) }
 
-add-carry : tie.Need-add-carry Inv-loop μ-loop
-add-carry c =
-    let first = c .before .before .before in
-    let s = entry first in
-    record { fits = planes-end _ _ (omega (arith, s .good)) (omega (arith, s .good)) _ (omega (arith, first .before .before .before .before .place .ensures .1)) }
-
-cast-carry-2 : tie.Need-cast-carry-2 Inv-loop μ-loop
-cast-carry-2 c = search needs
-
-mul-carry-2 : tie.Need-mul-carry-2 Inv-loop μ-loop
-mul-carry-2 c = let s = entry (c .before .before .before) in record { fits = planes-fit _ _ (omega (arith, s .good)) (omega arith) }
-
-add-carry-2 : tie.Need-add-carry-2 Inv-loop μ-loop
-add-carry-2 c =
-    let first = c .before .before .before in
-    record { fits = planes-end _ _ (omega (arith, entry first .good)) (omega arith) _ (first .before .before .before .there .ensures .1) }
-
-cast-carry-3 : tie.Need-cast-carry-3 Inv-loop μ-loop
-cast-carry-3 c = search needs
-
-mul-carry-3 : tie.Need-mul-carry-3 Inv-loop μ-loop
-mul-carry-3 c = let s = entry (c .before .before .before) in record { fits = planes-fit _ _ (omega (arith, s .good)) (omega (arith, s .good)) }
-
-add-carry-3 : tie.Need-add-carry-3 Inv-loop μ-loop
-add-carry-3 c =
-    let s = entry (c .before .before .before) in
-    record { fits = planes-end _ _ (omega (arith, s .good)) (omega (arith, s .good)) _ (omega (arith, s .pre .1)) }
-
-carry-requires : tie.Need-carry-requires Inv-loop μ-loop
+carry-requires : tie.Need-carry-requires
 carry-requires c κs =
-    let first = c .before .before .before .before in
-    let s = entry first in (
-      planes-near _ _ (omega (arith, s .good)) (omega (arith, s .good)) _ (omega (arith, first .before .before .before .before .place .ensures .1)),
-      planes-near _ _ (omega (arith, s .good)) (omega arith) _ (first .before .before .before .there .ensures .1),
-      planes-near _ _ (omega (arith, s .good)) (omega (arith, s .good)) _ (omega (arith, s .pre .1)),
-      omega (arith, s .good),
+    let read = c .before .before .before .before in
+    let s = entry read in
+    let to = read .before .before .before in (
+      omega (arith, to .before .place .ensures .1),
+      omega (arith, to .there .ensures .1),
+      omega (arith, s .pre .1),
+      planes-long _ _ (omega (arith, s .good)) (omega (arith, s .good)),
     )
 
-add-v : tie.Need-add-v Inv-loop μ-loop
-add-v c = search needs
+carry-each-requires : tie.Need-carry-each-requires
+carry-each-requires c κs =
+    let read = c .before .before .before in
+    let to = read .before .before .before in
+    (to .before .place .ensures .1, to .there .ensures .1, entry read .pre .1)
 
-loop-less : tie.Need-loop-less Inv-loop μ-loop
-loop-less c = search needs
-
-loop-again : tie.Need-loop-again Inv-loop μ-loop
+-- the planes that went over are those that the transition fires
+fires : (c : tie.After-byte4) (offsets dst : List ℕ)
+    → let s = entry c in
+    let a = s .args in
+    let to = c .before .before .before in
+    Joined (carriedEach (a .p) (a .src .now) (a .planes .now) (c .before .before .byte2 .result) (c .before .byte3 .result) (c .byte4 .result) (to .before .place .result) (to .there .result) (a .guard) (a .p .shape .masks)) (a .dst .now) dst
+    → Joined (firedFrom (a .p) (ruledFrom (a .p .shape) (a .table .now) offsets) (a .src .now) (a .planes .now) (a .guess) (transitionFrom (a .table .now) (a .at)) (a .guard) (a .w)) (a .dst .now) dst
 unfolding transitionFrom monitorFrom
-loop-again c =
-    let after = c .before .before in
-    let change = after .before .before in
-    let at-loop = change .before .before in
-    let first = at-loop .before in
-    let to = first .before .before .before in
+fires c offsets dst =
+    let s = entry c in
+    let a = s .args in
+    let sets = c .before in
+    let many = sets .before in
+    let to = many .before in
     let here = to .before in
     let behind = here .before in
-    let source = behind .before .before .before in
-    let s = entry first in
-    let a = s .args in
-    let v = at-loop .loop .v in
-    let t = transitionFrom (a .table .now) (a .at) in
-    let sets = first .before in
-    let changes = change .variables-after .ensures ∙ changed-by v (sets .before .byte2 .ensures .0) (sets .byte3 .ensures .0) (first .byte4 .ensures .0) in (
-      omega arith,
-      λ offsets.
-          let m = ruledFrom (a .p .shape) (a .table .now) offsets in
-          from-more (a .p) m (a .src .now) (a .planes .now) (a .guess) t (a .guard) (a .w) v
-          (here .place .result + a .p .plane * v) (to .there .result + a .p .plane * change .variables-after .result)
-          (a .dst .now) (at-loop .loop .dst) (after .carry .last .1 .1 .1 .1 .1 .1 .1 .0)
-          (here-is (a .p) m (a .src .now) (a .planes .now) (a .guess) t (a .guard) (a .w) (source .byte .result) v (here .place .result) (source .byte .ensures .0) (here .place .ensures .0))
-          (there-is (a .p) m (a .src .now) (a .planes .now) (a .guess) t (a .guard) (a .w) (a .shared) (behind .window-behind .result) v
-          (change .variables-after .result) (to .there .result) (s .pre .3 offsets) (behind .window-behind .ensures) changes (to .there .ensures .0))
-          (at-loop .loop .inv .1 offsets)
-          (after .carry .ensures),
-    )
+    let source = behind .before .before in
+    each-fired (a .p) (ruledFrom (a .p .shape) (a .table .now) offsets) (a .guess) (transitionFrom (a .table .now) (a .at)) (a .w) (a .src .now) (a .planes .now) (a .guard)
+    (source .byte .result) (a .shared) (behind .window-behind .result) (here .place .result) (to .there .result) (many .byte2 .result) (sets .byte3 .result) (c .byte4 .result)
+    (a .dst .now) dst (source .byte .ensures .0) (here .place .ensures .0) (s .pre .3 offsets) (behind .window-behind .ensures) (to .there .ensures .0)
+    (many .byte2 .ensures .0) (sets .byte3 .ensures .0) (c .byte4 .ensures .0)
 
-same-length : tie.Need-same-length Inv-loop μ-loop
-same-length c = search (needs, c .before .loop .inv .1 [] .size)
+same-length : tie.Need-same-length
+same-length c = search needs
 
-returns : tie.Need-returns Inv-loop μ-loop
+returns : tie.Need-returns
 returns c =
-    let at-loop = c .before in
-    let a = entry (at-loop .before) .args in
+    let after = c .before .before in
+    let chosen = after .before .before .before in
+    let kept = chosen .before in
+    let read = kept .before in
+    let to = read .before .before .before in
+    let a = entry read .args in
     λ offsets.
-    from-all (a .p) (ruledFrom (a .p .shape) (a .table .now) offsets) (a .src .now) (a .planes .now) (a .guess) (transitionFrom (a .table .now) (a .at)) (a .guard) (a .w)
-    (at-loop .loop .v) (a .dst .now) (at-loop .loop .dst) (omega arith) (at-loop .loop .inv .1 offsets)
+    fires read offsets (after .carry .last .1 .1 .1 .1 .1 .1 .1 .0)
+    (each-row (a .p) (a .src .now) (a .planes .now) (read .before .before .byte2 .result) (read .before .byte3 .result) (read .byte4 .result)
+    (to .before .place .result) (to .there .result) (a .guard) (a .p .shape .masks) (a .dst .now) (after .carry .last .1 .1 .1 .1 .1 .1 .1 .0)
+    (λ v h. kept .keeps .ensures v (chosen .if1 .taken) h)
+    (after .carry .ensures))
+
+same-length-2 : tie.Need-same-length-2
+same-length-2 c = search needs
+
+returns-2 : tie.Need-returns-2
+returns-2 c =
+    let after = c .before .before in
+    let read = after .before .before .before .before in
+    λ offsets. fires read offsets (after .carry-each .last .1 .1 .1 .1 .1 .1 .1 .1 .1 .0) (after .carry-each .ensures)
 
 pub fire-from-spec : {M : Type 1} → statement M
 fire-from-spec =
     tie.close
     (tie.spec
-    Inv-loop
-    μ-loop
     byte-requires
-    cast-plane
     window-behind-requires
     place-requires
     there-requires
@@ -171,20 +132,13 @@ fire-from-spec =
     byte-requires-3
     add-byte-2
     byte-requires-4
-    loop-holds
-    variables-after-requires
-    cast-carry
-    mul-carry
-    add-carry
-    cast-carry-2
-    mul-carry-2
-    add-carry-2
-    cast-carry-3
-    mul-carry-3
-    add-carry-3
+    keeps-requires
+    cast-run
+    cast-run-2
+    mul-run
     carry-requires
-    add-v
-    loop-less
-    loop-again
+    carry-each-requires
     same-length
-    returns)
+    returns
+    same-length-2
+    returns-2)

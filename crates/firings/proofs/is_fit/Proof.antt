@@ -3,7 +3,7 @@ use mathlib.Core.Path.{_≡_, ap, sym, _∙_}
 use borrow.Author.Needs.{needs}
 use lib.Dec.{eqb}
 use Rattle.monitor.specs.From.{transitionFrom}
-use Rattle.situation.specs.Stepping.{heardOf}
+use Rattle.situation.specs.Rows.{heardOf}
 use Rattle.situation.specs.declared.Heard.{Heard}
 use Rattle.situation.specs.declared.Heard.the-variants.{Kind}
 use Rattle.instants.specs.Firing.{fits}

@@ -5,7 +5,7 @@ use mathlib.Core.List.{List}
 use lib.ListN.{take, drop}
 use borrow.Author.Needs.{needs}
 use Rattle.model.specs.Validation.{scratchLeft, roomLeft}
-use Rattle.model.proofs.Examples.{runOf}
+use Rattle.examples.proofs.Examples.{runOf}
 use Rattle.fixed_witness.proofs.main.Statement.{statement}
 use Rattle.fixed_witness.proofs.main.Tie as tie
 

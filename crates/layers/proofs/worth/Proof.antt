@@ -4,9 +4,10 @@ use native.Mathlib.Omega.{arith}
 use mathlib.Core.Path.{sym, subst}
 use borrow.Author.Needs.{needs}
 use Rattle.model.specs.Situation.{firstAdd}
-use Rattle.situation.specs.Stepping.{heardOf, arriveFrom}
+use Rattle.situation.specs.Rows.{heardOf}
+use Rattle.steps.specs.Stepping.{arriveFrom}
 use Rattle.situation.specs.declared.Heard.{Heard}
-use Rattle.situation.proofs.Useless.{no-keep, no-transition, no-addition, no-addition-there, air-taken}
+use Rattle.steps.proofs.Useless.{no-keep, no-transition, no-addition, no-addition-there, air-taken}
 use Rattle.layers.specs.Into.{Enough}
 use Rattle.layers.proofs.worth.Statement.{statement}
 use Rattle.layers.proofs.worth.Tie as tie

@@ -14,7 +14,7 @@ use borrow.Fn.PlainCycle.{Measures, is, falls, and}
 use Rattle.planes.proofs.guard_set.Reads as guard-set
 use Rattle.planes.proofs.guard_set.Kinds as guard-set-kinds
 use Rattle.planes.proofs.+guard_set.Lts-guard_set as guard-set-lts
-use Rattle.planes.proofs.complement.Reads as complement-reads
+use Rattle.words.proofs.complement.Reads as complement-reads
 use Rattle.planes.proofs.keep_common.Reads as keep-common-reads
 use Rattle.planes.proofs.leaf_set.Reads as leaf-set-reads
 use Rattle.wire.proofs.byte.Reads as byte-reads

@@ -22,13 +22,13 @@ returns-3 c = (refl, refl, λ h l m n. absurd (omega arith))
 returns-4 : tie.Need-returns-4
 returns-4 c = (refl, refl, λ h l m n. absurd (omega arith))
 
-least-requires : tie.Need-least-requires
-least-requires c κs = search needs
+lesser-requires : tie.Need-lesser-requires
+lesser-requires c κs = search needs
 
 mul-below : tie.Need-mul-below
 mul-below c =
     let start = c .before .before .before .before .before .before .before .before in
-    record { fits = short-product (start .args .w) (c .least .result) (start .fits .w .fits) (omega (arith, c .least .ensures, start .fits .r .fits)) }
+    record { fits = short-product (start .args .w) (c .lesser .result) (start .fits .w .fits) (omega (arith, c .lesser .ensures, start .fits .r .fits)) }
 
 below-requires : tie.Need-below-requires
 below-requires c κs = search needs
@@ -47,7 +47,7 @@ repeat-requires c κs =
     let a = start .args in
     let hw : 0 < a .w = omega (arith, tested .before .if3 .left) in
     let hr : 0 < a .r = omega (arith, tested .if4 .left) in
-    let low = subst (λ (m : ℕ). Is (λ i. ltb i (a .w * m)) (a .a .now) (cleared .below .last .0)) (limit .least .ensures) (cleared .below .ensures) in (
+    let low = subst (λ (m : ℕ). Is (λ i. ltb i (a .w * m)) (a .a .now) (cleared .below .last .0)) (limit .lesser .ensures) (cleared .below .ensures) in (
       omega (arith, cleared .below .kept .0),
       omega (arith, cleared .below .kept .0),
       mul-pos hw hr,
@@ -66,7 +66,7 @@ returns-5 c =
     let cleared = repeated .before .before .before .before .before in
     let limit = cleared .before in
     let a = limit .before .before .before .before .before .before .before .before .args in
-    let low = subst (λ (m : ℕ). Is (λ i. ltb i (a .w * m)) (a .a .now) (cleared .below .last .0)) (limit .least .ensures) (cleared .below .ensures) in (
+    let low = subst (λ (m : ℕ). Is (λ i. ltb i (a .w * m)) (a .a .now) (cleared .below .last .0)) (limit .lesser .ensures) (cleared .below .ensures) in (
       repeated .repeat .ensures .size ∙ cleared .below .ensures .size,
       repeated .repeat .kept .1 .0,
       λ h l hw hr. digits (a .a .now) (cleared .below .last .0) (repeated .repeat .last .0) (a .w) (a .r) (a .n) hw hr low (repeated .repeat .ensures),
@@ -80,7 +80,7 @@ at-most-spec =
     returns-2
     returns-3
     returns-4
-    least-requires
+    lesser-requires
     mul-below
     below-requires
     mul-repeat

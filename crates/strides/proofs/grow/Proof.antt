@@ -7,11 +7,11 @@ use borrow.Author.Needs.{needs}
 use Rattle.strides.proofs.grow.Statement.{statement}
 use Rattle.strides.proofs.grow.Tie as tie
 
-add-least : tie.Need-add-least
-add-least c = search needs
+add-lesser : tie.Need-add-lesser
+add-lesser c = search needs
 
-least-requires : tie.Need-least-requires
-least-requires c κs = search needs
+lesser-requires : tie.Need-lesser-requires
+lesser-requires c κs = search needs
 
 sub-part : tie.Need-sub-part
 sub-part c = search needs
@@ -45,15 +45,15 @@ returns c =
     let stepped = c .before .before .before .before in
     let limit = stepped .before .before .before in
     let start = limit .before .before .before in
-    let m = limit .least .result - 0 in
+    let m = limit .lesser .result - 0 in
     grown (start .args .a .now) (stepped .step-up .last .0) (start .args .e) m (omega arith) (λ l. omega arith) (start .pre .1) (stepped .step-up .ensures) (stepped .step-up .kept .0 ∙ length-take-le m (start .args .a .now) (omega arith))
 
 pub grow-spec : {M : Type 1} → statement M
 grow-spec =
     tie.close
     (tie.spec
-    add-least
-    least-requires
+    add-lesser
+    lesser-requires
     sub-part
     part-part-start
     part-part-end

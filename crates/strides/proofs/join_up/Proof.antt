@@ -5,11 +5,11 @@ use borrow.Author.Needs.{needs}
 use Rattle.strides.proofs.join_up.Statement.{statement}
 use Rattle.strides.proofs.join_up.Tie as tie
 
-add-least : tie.Need-add-least
-add-least c = search needs
+add-lesser : tie.Need-add-lesser
+add-lesser c = search needs
 
-least-requires : tie.Need-least-requires
-least-requires c κs = search needs
+lesser-requires : tie.Need-lesser-requires
+lesser-requires c κs = search needs
 
 up-slow-requires : tie.Need-up-slow-requires
 up-slow-requires c κs = search needs
@@ -30,4 +30,4 @@ returns c =
 pub join-up-spec : {M : Type 1} → statement M
 join-up-spec =
     tie.close
-    (tie.spec add-least least-requires up-slow-requires up-fast-requires same-length returns)
+    (tie.spec add-lesser lesser-requires up-slow-requires up-fast-requires same-length returns)

@@ -14,20 +14,10 @@ enum-known-outcome-3 : tie.Need-enum-known-outcome-3
 enum-known-outcome-3 c = search needs
 
 prune-requires : tie.Need-prune-requires
-prune-requires c κs =
-    let known = c .before .before .before .before .before .before .before .before in
-    let (e, long, given, sized, next, row, last) = known .before .before .before .before .before .before .before .before .before .before .before .before .before .before .before .pre in
-    (e .setting, given, long, through _ _ _ _ _ _ _ _ _ e _ (known .outcome3 .given .1) .layers, sized, next, row, last)
+prune-requires c κs = search needs
 
 walk-requires : tie.Need-walk-requires
-walk-requires c κs =
-    let pruned = c .before .before .before .before .before .before .before .before .before .before .before .before .before .before .before .before in
-    let known = pruned .before .before .before .before .before .before .before .before .before in
-    let e = known .before .before .before .before .before .before .before .before .before .before .before .before .before .before .before .pre .0 in (
-      record { setting = e .setting; triggers = e .triggers; pruned = pruned .prune .ensures .1 },
-      through _ _ _ _ _ _ _ _ _ e _ (known .outcome3 .given .1) .left,
-      e .roomy,
-    )
+walk-requires c κs = search needs
 
 returns : tie.Need-returns
 returns c = spent _ _ _ _ _ _ _ _ _ (c .before .before .before .before .before .before .before .before .before .before .before .before .before .before .before .before .pre .0) _ (c .before .outcome .given .1)
@@ -64,7 +54,12 @@ returns-3 c =
     let walked = c .before .before in
     let pruned = walked .before .before .before .before .before .before .before .before .before .before .before .before .before .before .before .before .before in
     let known = pruned .before .before .before .before .before .before .before .before .before in
-    passed _ _ _ _ _ _ _ _ _ (known .before .before .before .before .before .before .before .before .before .before .before .before .before .before .before .pre .0) _ (known .outcome3 .given .1) _ _ _ (pruned .prune .ensures .0) (walked .walk .ensures .0) (walked .walk .ensures .1)
+    let (e, long, given, sized, next, row) = known .before .before .before .before .before .before .before .before .before .before .before .before .before .before .before .pre in
+    let came = through _ _ _ _ _ _ _ _ _ e _ (known .outcome3 .given .1) in
+    let done = pruned .prune .ensures in
+    let rows = done .7 (e .setting) given long (came .layers) sized next row in
+    let (count, written) = walked .walk .ensures .1 (record { setting = e .setting; triggers = e .triggers; pruned = rows }) (came .left) (e .roomy) in
+    passed _ _ _ _ _ _ _ _ _ e _ (known .outcome3 .given .1) _ _ _ (done .0) count written
 
 pub conclude-spec : {M : Type 1} → statement M
 conclude-spec =

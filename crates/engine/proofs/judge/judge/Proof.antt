@@ -1,5 +1,5 @@
 use native.Mathlib.Omega.{arith}
-use Rattle.engine.proofs.Grounds.{preparing}
+use Rattle.measures.proofs.Grounds.{preparing}
 use borrow.Author.Needs.{needs}
 use Rattle.engine.proofs.judge.judge.Statement.{statement}
 use Rattle.engine.proofs.judge.judge.Tie as tie

@@ -3,8 +3,8 @@ use native.Mathlib.Omega.{arith}
 use mathlib.Core.Path.{_≡_, sym, ap, subst, _∙_}
 use mathlib.Core.List.{List}
 use lib.ListN.{length, replicate, length-replicate}
-use Rattle.engine.specs.Working.{Preparing}
-use Rattle.engine.proofs.Grounds.{preparing}
+use Rattle.measures.specs.Working.{Preparing}
+use Rattle.measures.proofs.Grounds.{preparing}
 use Rattle.engine.proofs.JudgeLaws.{settled}
 use borrow.Author.Needs.{needs}
 use Rattle.engine.proofs.judge.judge_in.Statement.{statement}
@@ -65,9 +65,8 @@ pass-requires c κs =
         first = prepared .prepare .ensures .1 ∙ rooms .sized .first;
         second = prepared .prepare .ensures .2 ∙ rooms .sized .second;
       },
-      rooms .now,
-      rooms .before,
-      rooms .then,
+      rooms .current,
+      rooms .single,
     )
 
 -- src/judge.rt:211:5
@@ -104,11 +103,11 @@ same-length-7 c = search needs
 
 -- src/judge.rt:170:1
 same-length-8 : tie.Need-same-length-8
-same-length-8 c = search needs
+same-length-8 c = c .before .before .before .before .before .before .before .before .before .one2 .given ∙ c .before .before .before .before .before .before .before .before .before .before .before .before .before .before .before .before .before .before .before .before .before .before .before .before .before .before .before .before .before .before .before .before .before .before .before .before .before .before .before .one .given
 
 -- src/judge.rt:170:1
 same-length-9 : tie.Need-same-length-9
-same-length-9 c = c .before .before .before .before .before .before .before .one2 .given ∙ c .before .before .before .before .before .before .before .before .before .before .before .before .before .before .before .before .before .before .before .before .before .before .before .before .before .before .before .before .before .before .before .before .before .before .before .before .before .before .before .one .given
+same-length-9 c = search needs
 
 -- src/judge.rt:170:1
 same-length-10 : tie.Need-same-length-10

@@ -2,128 +2,87 @@ use native.Mathlib.Omega.{arith}
 use lib.ListN.{length-replicate}
 use lib.Seq.{length-take-le}
 use borrow.Author.Needs.{needs}
+use Rattle.engine.proofs.JudgeLaws.{rooms, wide}
 use Rattle.engine.proofs.judge.judge_wide.Statement.{statement}
 use Rattle.engine.proofs.judge.judge_wide.Tie as tie
 use Rattle.engine.proofs.judge.judge_wide.Reads as reads
 use Rattle.engine.proofs.judge.judge_wide.Lts as lts
 use Rattle.engine.proofs.judge.judge_in.Reads as judge-in-reads
 
--- src/judge.rt:271:16
 mul-four : tie.Need-mul-four
 mul-four c = search needs
 
--- src/judge.rt:288:9
 slice-aggregate-judge-in : tie.Need-slice-aggregate-judge-in
 slice-aggregate-judge-in c = search needs
 
--- src/judge.rt:289:9
+slice-aggregate-judge-in-2 : tie.Need-slice-aggregate-judge-in-2
+slice-aggregate-judge-in-2 c = search needs
+
 sub-judge-in : tie.Need-sub-judge-in
 sub-judge-in c = search needs
 
--- src/judge.rt:289:9
 part-marks-start : tie.Need-part-marks-start
 part-marks-start c = search needs
 
--- src/judge.rt:289:9
 part-marks-end : tie.Need-part-marks-end
 part-marks-end c = search needs
 
--- src/judge.rt:290:9
 sub-judge-in-2 : tie.Need-sub-judge-in-2
 sub-judge-in-2 c = search needs
 
--- src/judge.rt:290:9
 part-cur-start : tie.Need-part-cur-start
 part-cur-start c = search needs
 
--- src/judge.rt:290:9
 part-cur-end : tie.Need-part-cur-end
 part-cur-end c = search needs
 
--- src/judge.rt:291:9
 sub-judge-in-3 : tie.Need-sub-judge-in-3
 sub-judge-in-3 c = search needs
 
--- src/judge.rt:291:9
 part-row-start : tie.Need-part-row-start
 part-row-start c = search needs
 
--- src/judge.rt:291:9
 part-row-end : tie.Need-part-row-end
 part-row-end c = search needs
 
--- src/judge.rt:292:9
 sub-judge-in-4 : tie.Need-sub-judge-in-4
 sub-judge-in-4 c = search needs
 
--- src/judge.rt:292:9
-part-last-start : tie.Need-part-last-start
-part-last-start c = search needs
-
--- src/judge.rt:292:9
-part-last-end : tie.Need-part-last-end
-part-last-end c = search needs
-
--- src/judge.rt:293:9
 sub-judge-in-5 : tie.Need-sub-judge-in-5
 sub-judge-in-5 c = search needs
 
--- src/judge.rt:293:9
 part-sets-start : tie.Need-part-sets-start
 part-sets-start c = search needs
 
--- src/judge.rt:293:9
 part-sets-end : tie.Need-part-sets-end
 part-sets-end c = search needs
 
--- src/judge.rt:294:9
 sub-judge-in-6 : tie.Need-sub-judge-in-6
 sub-judge-in-6 c = search needs
 
--- src/judge.rt:294:9
 part-one-start : tie.Need-part-one-start
 part-one-start c = search needs
 
--- src/judge.rt:294:9
 part-one-end : tie.Need-part-one-end
 part-one-end c = search needs
 
--- src/judge.rt:295:9
-sub-judge-in-7 : tie.Need-sub-judge-in-7
-sub-judge-in-7 c = search needs
-
--- src/judge.rt:295:9
 part-two-start : tie.Need-part-two-start
 part-two-start c = search needs
 
--- src/judge.rt:295:9
 part-two-end : tie.Need-part-two-end
 part-two-end c = search needs
 
--- src/judge.rt:280:5
 judge-in-requires : tie.Need-judge-in-requires
 judge-in-requires c κs =
-    let start = c .before .before .before .before .before .before .before .before .before .before .before .before .before .before in (
-      start .pre .0,
-      record {
-        guards = omega arith;
-        marked = record { few = omega arith; four = omega arith; first = omega arith; second = omega arith };
-        sized = record { few = omega arith; four = omega arith; first = omega arith; second = omega arith };
-        now = omega arith;
-        before = omega arith;
-        then = omega arith;
-      },
-    )
+    let start = c .before .before .before .before .before .before .before .before .before .before .before .before .before .before in
+    (start .pre .0, rooms 1024 _ (start .pre .1) wide)
 
--- src/judge.rt:258:1
 same-length : tie.Need-same-length
 same-length c = search needs
 
--- src/judge.rt:258:1
 same-length-2 : tie.Need-same-length-2
 same-length-2 c = search needs
 
--- src/judge.rt:258:1
 returns : tie.Need-returns
 returns c = search needs
 
@@ -143,17 +102,15 @@ judge-wide-spec =
     part-row-start
     part-row-end
     sub-judge-in-4
-    part-last-start
-    part-last-end
-    sub-judge-in-5
     part-sets-start
     part-sets-end
-    sub-judge-in-6
+    sub-judge-in-5
     part-one-start
     part-one-end
-    sub-judge-in-7
+    sub-judge-in-6
     part-two-start
     part-two-end
+    slice-aggregate-judge-in-2
     judge-in-requires
     same-length
     same-length-2

@@ -8,27 +8,26 @@ use Rattle.engine.proofs.judge.pass.Tie as tie
 
 forward-requires : tie.Need-forward-requires
 forward-requires c κs =
-    let (judging, found, zero, given, sized, cur, row, last) = c .before .before .before .before .before .before .before .before .before .before .before .before .before .before .before .before .before .before .before .pre in
-    (forwarding _ _ _ _ _ _ judging _ _ found zero, given, sized, cur, row)
+    search needs
 
 conclude-requires : tie.Need-conclude-requires
 conclude-requires c κs =
     let lent = c .before .before .before .before .before .before .before .before in
     let forwarded = lent .before .before .before .before .before .before .before .before .before .before .before .before in
     let start = forwarded .before .before .before .before .before .before .before .before .before .before .before .before .before .before .before .before .before .before .before .before in
-    let (judging, found, zero, given, sized, cur, row, last) = start .pre in (
-      ending _ _ _ _ _ _ judging _ _ _ _ found (forwarded .forward .ensures .1),
-      subst (λ (n : ℕ). start .args .g .row * (start .args .g .last + 1) ≤ n) (sym (forwarded .forward .ensures .0)) (judging .long),
+    let (judging, found, zero, given, sized, cur, row) = start .pre in
+    let kept = forwarded .forward .ensures in (
+      ending _ _ _ _ _ _ judging _ _ _ _ found (kept .6 (forwarding _ _ _ _ _ _ judging _ _ found zero) given sized cur),
+      subst (λ (n : ℕ). start .args .g .row * (start .args .g .last + 1) ≤ n) (sym (kept .0)) (judging .long),
       given,
       record {
         few = sized .few;
-        four = lent .before .before .before .before .before .before .before .sets .given ∙ sized .four;
-        first = lent .before .before .before .before .before .one .given ∙ sized .first;
-        second = lent .before .before .before .two .given ∙ sized .second;
+        four = kept .2 ∙ sized .four;
+        first = kept .3 ∙ sized .first;
+        second = kept .4 ∙ sized .second;
       },
-      lent .before .before .before .before .before .before .before .before .before .cur .given ∙ cur,
-      lent .before .row .given ∙ row,
-      last,
+      kept .1 ∙ cur,
+      row,
     )
 
 same-length : tie.Need-same-length

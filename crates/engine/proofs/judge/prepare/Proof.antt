@@ -1,7 +1,7 @@
 use Prim.Native.Nat.{ℕ, _+_, _*_, _≤_}
 use native.Mathlib.Omega.{arith}
 use mathlib.Core.Path.{_≡_, sym, subst, _∙_}
-use Rattle.engine.proofs.Rows.{product}
+use Rattle.measures.proofs.Rows.{product}
 use Rattle.engine.proofs.Preparations.{numbers-few, words-few, working}
 use borrow.Author.Needs.{needs}
 use Rattle.engine.proofs.judge.prepare.Statement.{statement}

@@ -1,5 +1,7 @@
-use Rattle.situation.specs.Stepping.{heardOf, ruledFrom}
-use Rattle.firings.specs.Fired.{fired, transitionCount}
+use Rattle.monitor.specs.From.{transitionCount}
+use Rattle.situation.specs.Rows.{heardOf}
+use Rattle.situation.specs.Ruled.{ruledFrom}
+use Rattle.firings.specs.Fired.{fired}
 use Rattle.firings.specs.Rested.{restedBack}
 use Rattle.images.proofs.SetLaws.{filled-two}
 use borrow.Author.Needs.{needs}

@@ -2,8 +2,9 @@
 use Prim.Native.Nat.{_-_, _≤_, min}
 use native.Mathlib.Omega.{arith}
 use Rattle.model.specs.Limits.{sizeLimit}
-use Rattle.situation.specs.Stepping.{heardOf}
-use Rattle.layers.specs.Pairing.{transitionCount, answersInRow}
+use Rattle.monitor.specs.From.{transitionCount}
+use Rattle.situation.specs.Rows.{heardOf}
+use Rattle.layers.specs.Pairing.{answersInRow}
 use Rattle.layers.proofs.PairCounts.{Counting, none-counted, counting-more, counting-few, all-counted, tallied-few}
 use borrow.Author.Needs.{needs}
 use Rattle.layers.proofs.pairs.count_pairs.Statement.{statement}

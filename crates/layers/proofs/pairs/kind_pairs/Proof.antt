@@ -7,8 +7,8 @@ use Rattle.model.specs.Monitor.{tried}
 use Rattle.model.specs.Pairs.{isAnswer}
 use Rattle.model.specs.declared.Config.{Config}
 use Rattle.model.specs.declared.Readiness.{Readiness}
-use Rattle.monitor.specs.From.{attemptOf, monitorFrom}
-use Rattle.layers.specs.Pairing.{transitionCount, answersAs, Tallied}
+use Rattle.monitor.specs.From.{attemptOf, monitorFrom, transitionCount}
+use Rattle.layers.specs.Pairing.{answersAs, Tallied}
 use Rattle.layers.proofs.PairCounts.{none-yet, one-more, tallied-few, says-free}
 use borrow.Author.Needs.{needs}
 use Rattle.layers.proofs.pairs.kind_pairs.Statement.{statement}

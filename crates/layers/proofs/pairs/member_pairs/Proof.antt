@@ -1,8 +1,10 @@
 use mathlib.Core.Path.{sym, ap, _∙_}
 use mathlib.Core.Bool.{Bool, _&&_}
 use Rattle.model.specs.declared.Situation.{Situation}
-use Rattle.situation.specs.Stepping.{heardOf, situationBy}
-use Rattle.layers.specs.Pairing.{transitionCount, answersAs, answersInRow}
+use Rattle.monitor.specs.From.{transitionCount}
+use Rattle.situation.specs.Rows.{heardOf}
+use Rattle.situation.specs.Numbering.{situationBy}
+use Rattle.layers.specs.Pairing.{answersAs, answersInRow}
 use Rattle.layers.proofs.PairCounts.{no-answers, tallied-as}
 use borrow.Author.Needs.{needs}
 use Rattle.layers.proofs.pairs.member_pairs.Statement.{statement}

@@ -1,8 +1,9 @@
 use mathlib.Core.Path.{_≡_}
 use mathlib.Core.Option.{none}
+use Rattle.monitor.specs.From.{transitionCount}
 use Rattle.situation.specs.declared.Heard.the-variants.{Nothing, Kind}
-use Rattle.situation.specs.Stepping.{heardOf}
-use Rattle.layers.specs.Pairing.{transitionCount, answersAs}
+use Rattle.situation.specs.Rows.{heardOf}
+use Rattle.layers.specs.Pairing.{answersAs}
 use Rattle.layers.proofs.PairCounts.{no-answers, says-nothing, says-taken}
 use borrow.Author.Needs.{needs}
 use Rattle.layers.proofs.pairs.situation_pairs.Statement.{statement}

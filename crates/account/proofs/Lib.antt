@@ -1,0 +1,4 @@
+pub mod Left
+pub mod Places
+pub mod Steps
+pub mod Pass

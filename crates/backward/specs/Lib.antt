@@ -1,0 +1,2 @@
+pub mod PruneRows
+pub mod WalkRows

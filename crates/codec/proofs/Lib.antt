@@ -1,4 +1,0 @@
-pub mod Steps
-pub mod Tables
-pub mod Recordings
-pub mod Encoded

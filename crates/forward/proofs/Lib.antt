@@ -1,0 +1,3 @@
+pub mod ForwardRows
+pub mod ForwardPass
+pub mod EmptiedPairs

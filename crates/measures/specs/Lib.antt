@@ -1,0 +1,4 @@
+pub mod Measured
+pub mod Setting
+pub mod Working
+pub mod Roomy
