@@ -12,7 +12,6 @@ use checker::check_witness;
 use engine::validate;
 use engine::validate_under;
 use model::Edition;
-use model::Rule;
 use numbers::Answer;
 use numbers::VerdictAnswer;
 use numbers::checking_numbers;
@@ -22,6 +21,7 @@ use numbers::writing_numbers;
 use rewrite::rewrite_recording;
 use rewrite::rewrite_table;
 use rewrite::rewrite_witness;
+use rule::rule_of;
 
 #[no_mangle]
 pub extern "C" fn lutarosa_validate<'a>(
@@ -98,16 +98,6 @@ pub extern "C" fn lutarosa_rewrite_witness_edition2(bytes: &[u8], room: &mut [u8
 }
 
 // The same under a measured loss rate (R-7), in either edition.
-
-fn rule_of(device: u8, window: u8, most: u8) -> Rule
-    ensures { λ r. ⌜ r ≡ ruleOf device window most ⌝ }
-{
-    Rule {
-        device,
-        window,
-        most,
-    }
-}
 
 #[no_mangle]
 pub extern "C" fn lutarosa_validate_rule<'a>(

@@ -16,6 +16,16 @@ ghost use Rattle.model.specs.Ruled.{ruleAnswer};
 ghost use Rattle.model.specs.Size.{tableSize};
 ghost use Rattle.rule.specs.Within.{within, inRange};
 
+pub fn rule_of(device: u8, window: u8, most: u8) -> Rule
+    ensures { λ r. ⌜ r ≡ Rules.ruleOf device window most ⌝ }
+{
+    Rule {
+        device,
+        window,
+        most,
+    }
+}
+
 // The rule that forbids nothing.
 pub fn no_rule() -> Rule
     ensures { λ r. ⌜ r ≡ Rules.noRule ⌝ }
