@@ -8,9 +8,9 @@ use crate::sets::reset_all;
 use crate::sets::second_clock;
 use firings::Plan;
 use firings::fire;
-use shifts::shift_up;
 use situation::Heard;
 use situation::Shape;
+use ticks::tick;
 use words::clear;
 ghost use mathlib.Core.Path.{_≡_};
 ghost use mathlib.Core.List.{List};
@@ -20,7 +20,6 @@ ghost use lib.ListN.{length};
 ghost use Rattle.model.specs.Monitor.{Monitor};
 ghost use Rattle.monitor.specs.From.{transitionCount};
 ghost use Rattle.words.specs.Words.{Is};
-ghost use Rattle.shifts.specs.Shifted.{shifted};
 ghost use Rattle.situation.specs.Rows.{heardOf};
 ghost use Rattle.situation.specs.Ruled.{ruledFrom};
 ghost use Rattle.firings.specs.Fired.{fired};
@@ -44,23 +43,6 @@ fn gather(
     clear(acc);
     rest_forward(p, table, size, cur, acc);
     fire(p, table, offsets, planes, cur, acc);
-}
-
-// Both clocks tick: from set 0 of acc to one, and from that to cur.
-fn tick(
-    cur: &mut [u64],
-    acc: &[u64],
-    one: &mut [u64],
-    first: usize,
-    low_first: &[u64],
-    high_first: &[u64],
-    low_second: &[u64],
-    high_second: &[u64],
-)
-    ensures { λ _. ⌜ Is (shifted (now (acc .entry)) 1 (now («high_first» .entry)) (now («low_first» .entry))) (now (one .entry)) (now (one .exit)) × Is (shifted (now (one .exit)) first (now («high_second» .entry)) (now («low_second» .entry))) (now (cur .entry)) (now (cur .exit)) ⌝ }
-{
-    shift_up(one, acc, 1, high_first, low_first);
-    shift_up(cur, one, first, high_second, low_second);
 }
 
 // What the moves of an instant and a tick make of the set cur, with the kind that is recorded there. acc has room for four sets, one and two for one each; what
