@@ -1,6 +1,6 @@
 // The states that have a situation in a set: from others nothing need be fired.
+use ranges::any_in;
 use situation::Shape;
-use words::any_in;
 ghost use mathlib.Core.Path.{_≡_};
 ghost use mathlib.Core.Bool.{_&&_};
 ghost use Prim.Native.Nat.{ℕ, _<_};

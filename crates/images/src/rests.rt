@@ -2,8 +2,8 @@
 use firings::Plan;
 use monitor::airtime_of;
 use monitor::to_unit;
+use ranges::or_range;
 use situation::Heard;
-use words::or_range;
 use words::past;
 ghost use mathlib.Core.List.{List};
 ghost use Prim.Native.Nat.{ℕ, _^_, _<_};

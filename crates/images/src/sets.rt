@@ -1,12 +1,12 @@
 // Four sets of n words in one buffer, one for each choice of clocks that are reset (1 the first, 2 the second, 3 both), and the resets on them.
+use ranges::any_in;
+use ranges::or_range;
 use situation::Shape;
 use strides::spread_down;
 use strides::spread_up;
 use words::any;
-use words::any_in;
 use words::clear;
 use words::keep_common;
-use words::or_range;
 ghost use mathlib.Core.Path.{_≡_};
 ghost use mathlib.Core.Bool.{true};
 ghost use Prim.Native.Nat.{ℕ, _*_, _<_, _≤_};

@@ -1,10 +1,8 @@
 // Sets of numbers in lent words: number i is bit i % 64 of word i / 64.
-mod range;
 mod whole;
 
-pub use range::any_in;
-pub use range::or_range;
 pub use whole::any;
+pub use whole::any_words;
 pub use whole::clear;
 pub use whole::complement;
 pub use whole::copy;

@@ -1,5 +1,6 @@
 // Whole sets. Words that one of two sets lacks count as 0: what both have is one loop with no test of a bound.
 use crate::lesser;
+use crate::past;
 ghost use mathlib.Core.Path.{_≡_};
 ghost use mathlib.Core.Bool.{not, true, false, _&&_, _||_};
 ghost use Prim.Native.Nat.{_+_, _-_, _*_, _%_, _^_, _<_, _≤_};
@@ -90,11 +91,10 @@ fn empty_to(a: &[u64], k: usize, e: usize) -> usize
 }
 
 // Is any number in n words from word k on?
-pub(crate) fn any_words(a: &[u64], k: usize, n: usize) -> bool
-    requires { ⌜ k + n < 2 ^ 64 ⌝ }
+pub fn any_words(a: &[u64], k: usize, n: usize) -> bool
     ensures { λ r. ⌜ r ≡ anyBelow (λ i. mem (now (a .entry)) (64 * k + i)) (64 * n) ⌝ }
 {
-    let e = lesser(k + n, a.len());
+    let e = k + lesser(n, past(a.len(), k));
     if e <= k {
         return false;
     }

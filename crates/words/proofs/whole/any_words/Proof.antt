@@ -14,20 +14,23 @@ Inv-loop a k n e j₀ j = (k ≤ j) × (j ≤ e) × (anyBelow (λ i. mem a (64 *
 abbrev μ-loop : tie.MeasureT-loop
 μ-loop a k n e j₀ j = e - j
 
-add-lesser : tie.Need-add-lesser Inv-loop μ-loop
-add-lesser c = search needs
+past-requires : tie.Need-past-requires Inv-loop μ-loop
+past-requires c κs = search needs
 
 lesser-requires : tie.Need-lesser-requires Inv-loop μ-loop
 lesser-requires c κs = search needs
 
+add-e : tie.Need-add-e Inv-loop μ-loop
+add-e c = search needs
+
 returns : tie.Need-returns Inv-loop μ-loop
 returns c =
-    let a = c .before .before .before .args in
+    let a = c .before .before .before .before .args in
     let s = a .a .now in
-    sym (any-end s (a .k) (a .n) (a .k) (omega arith) (omega arith) (omega (arith, c .before .lesser .ensures, c .if1 .taken)) (any-none (λ i. mem s (64 * a .k + i)) (64 * (a .k - a .k)) (λ i l. absurd (omega arith))))
+    sym (any-end s (a .k) (a .n) (a .k) (omega arith) (omega arith) (omega (arith, c .before .before .past .ensures, c .before .lesser .ensures, c .if1 .taken)) (any-none (λ i. mem s (64 * a .k + i)) (64 * (a .k - a .k)) (λ i l. absurd (omega arith))))
 
 empty-to-requires : tie.Need-empty-to-requires Inv-loop μ-loop
-empty-to-requires c κs = (omega (arith, c .if1 .left), omega (arith, c .before .lesser .ensures))
+empty-to-requires c κs = (omega (arith, c .if1 .left), omega (arith, c .before .before .past .ensures, c .before .lesser .ensures))
 
 loop-holds : tie.Need-loop-holds Inv-loop μ-loop
 loop-holds c = c .empty-to .ensures
@@ -42,9 +45,9 @@ returns-2 : tie.Need-returns-2 Inv-loop μ-loop
 returns-2 c =
     let known = c .before in
     let at-loop = known .before .before in
-    let a = at-loop .before .before .before .before .before .args in
+    let a = at-loop .before .before .before .before .before .before .args in
     let j = at-loop .loop .j in
-    sym (any-hit (a .a .now) (a .k) (a .n) j (at-loop .loop .inv .0) (known .shared-slice-known2 .given j .fits) (c .if2 .taken) (omega (arith, at-loop .before .before .before .lesser .ensures)))
+    sym (any-hit (a .a .now) (a .k) (a .n) j (at-loop .loop .inv .0) (known .shared-slice-known2 .given j .fits) (c .if2 .taken) (omega (arith, at-loop .before .before .before .before .past .ensures, at-loop .before .before .before .lesser .ensures)))
 
 add-j : tie.Need-add-j Inv-loop μ-loop
 add-j c = search needs
@@ -56,16 +59,16 @@ loop-again : tie.Need-loop-again Inv-loop μ-loop
 loop-again c =
     let known = c .before in
     let at-loop = known .before .before in
-    let a = at-loop .before .before .before .before .before .args in
+    let a = at-loop .before .before .before .before .before .before .args in
     let j = at-loop .loop .j in
     (omega arith, omega arith, any-next (a .a .now) (a .k) (a .n) j (at-loop .loop .inv .0) (known .shared-slice-known2 .given j .fits) (c .if2 .left) (at-loop .loop .inv .2))
 
 returns-3 : tie.Need-returns-3 Inv-loop μ-loop
 returns-3 c =
     let at-loop = c .before in
-    let a = at-loop .before .before .before .before .before .args in
+    let a = at-loop .before .before .before .before .before .before .args in
     let j = at-loop .loop .j in
-    sym (any-end (a .a .now) (a .k) (a .n) j (at-loop .loop .inv .0) (omega (arith, at-loop .before .before .before .lesser .ensures)) (omega (arith, at-loop .before .before .before .lesser .ensures)) (at-loop .loop .inv .2))
+    sym (any-end (a .a .now) (a .k) (a .n) j (at-loop .loop .inv .0) (omega (arith, at-loop .before .before .before .before .past .ensures, at-loop .before .before .before .lesser .ensures)) (omega (arith, at-loop .before .before .before .before .past .ensures, at-loop .before .before .before .lesser .ensures)) (at-loop .loop .inv .2))
 
 pub any-words-spec : {M : Type 1} → statement M
 any-words-spec =
@@ -73,8 +76,9 @@ any-words-spec =
     (tie.spec
     Inv-loop
     μ-loop
-    add-lesser
+    past-requires
     lesser-requires
+    add-e
     returns
     empty-to-requires
     loop-holds

@@ -1,9 +1,9 @@
 use Rattle.words.proofs.Sets.{range-more}
 use native.Mathlib.Omega.{arith}
 use Prim.Native.Nat.{_-_, _%_}
 use borrow.Author.Needs.{needs}
-use Rattle.words.proofs.range.or_long.Statement.{statement}
-use Rattle.words.proofs.range.or_long.Tie as tie
+use Rattle.ranges.proofs.or_long.Statement.{statement}
+use Rattle.ranges.proofs.or_long.Tie as tie
 
 sub-h : tie.Need-sub-h
 sub-h c = search needs

@@ -1,14 +1,14 @@
 use Rattle.words.proofs.AnyBelow.{any-none, any-word}
 use Rattle.words.proofs.Sets.{low-bits}
 use Rattle.words.specs.Words.{mem}
 use lib.Bits.{and-lt}
 use native.Mathlib.Omega.{arith}
 use Prim.Native.Nat.{ℕ, _+_}
 use mathlib.Core.Bool.{Bool}
 use mathlib.Core.Path.{sym}
 use borrow.Author.Needs.{needs}
-use Rattle.words.proofs.range.any_rest.Statement.{statement}
-use Rattle.words.proofs.range.any_rest.Tie as tie
+use Rattle.ranges.proofs.any_rest.Statement.{statement}
+use Rattle.ranges.proofs.any_rest.Tie as tie
 
 word-at-requires : tie.Need-word-at-requires
 word-at-requires c κs = search needs

@@ -1,10 +1,10 @@
 use Rattle.words.proofs.Sets.{joined-bits, and-bits}
 use Rattle.words.specs.Words.{mem, meet}
 use Prim.Native.Nat.{_+_}
 use mathlib.Core.Bool.{_&&_}
 use borrow.Author.Needs.{needs}
-use Rattle.words.proofs.range.or_piece.Statement.{statement}
-use Rattle.words.proofs.range.or_piece.Tie as tie
+use Rattle.ranges.proofs.or_piece.Statement.{statement}
+use Rattle.ranges.proofs.or_piece.Tie as tie
 
 word-at-requires : tie.Need-word-at-requires
 word-at-requires c κs = search needs

@@ -1,7 +1,7 @@
 use Rattle.words.proofs.Bit.{bit-low}
 use borrow.Author.Needs.{needs}
-use Rattle.words.proofs.range.low.Statement.{statement}
-use Rattle.words.proofs.range.low.Tie as tie
+use Rattle.ranges.proofs.low.Statement.{statement}
+use Rattle.ranges.proofs.low.Tie as tie
 
 sub-result : tie.Need-sub-result
 sub-result c = search needs

@@ -1,11 +1,11 @@
 use Rattle.words.proofs.Sets.{range-none, range-more, or-aligned, meet-bits}
 use Rattle.words.specs.Words.{Joined, up, below, meet}
 use native.Mathlib.Omega.{arith}
 use Prim.Native.Nat.{ℕ, _+_, _-_, _*_, _≤_}
 use mathlib.Core.Path.{_≡_, subst}
 use borrow.Author.Needs.{needs}
-use Rattle.words.proofs.range.or_words.Statement.{statement}
-use Rattle.words.proofs.range.or_words.Tie as tie
+use Rattle.ranges.proofs.or_words.Statement.{statement}
+use Rattle.ranges.proofs.or_words.Tie as tie
 
 abbrev Inv-loop : tie.InvT-loop
 Inv-loop dst₀ k src p r mask q t n j₀ dst j = (j ≤ n) × Joined (up (64 * k) (below (64 * j) (meet src (64 * p + r) mask (64 * q + t)))) dst₀ dst

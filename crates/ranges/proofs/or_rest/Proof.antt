@@ -1,13 +1,13 @@
 use Rattle.words.proofs.Sets.{joined-bits, and-bits, low-bits, range-none}
 use Rattle.words.specs.Words.{mem, Joined, up, below, meet}
 use lib.Bits.{bitAnd}
 use native.Mathlib.Omega.{arith}
 use Prim.Native.Nat.{ℕ, _+_}
 use mathlib.Core.Bool.{_&&_}
 use mathlib.Core.Path.{_≡_, subst}
 use borrow.Author.Needs.{needs}
-use Rattle.words.proofs.range.or_rest.Statement.{statement}
-use Rattle.words.proofs.range.or_rest.Tie as tie
+use Rattle.ranges.proofs.or_rest.Statement.{statement}
+use Rattle.ranges.proofs.or_rest.Tie as tie
 
 word-at-requires : tie.Need-word-at-requires
 word-at-requires c κs = search needs

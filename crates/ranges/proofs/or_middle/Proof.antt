@@ -1,10 +1,10 @@
 use Rattle.words.proofs.Sets.{range-more, moved}
 use native.Mathlib.Omega.{arith}
 use Prim.Native.Nat.{ℕ, _+_, _-_, _*_, _/_, _%_, _^_, _≤_, _<_, min}
 use mathlib.Core.Path.{_≡_}
 use borrow.Author.Needs.{needs}
-use Rattle.words.proofs.range.or_middle.Statement.{statement}
-use Rattle.words.proofs.range.or_middle.Tie as tie
+use Rattle.ranges.proofs.or_middle.Statement.{statement}
+use Rattle.ranges.proofs.or_middle.Tie as tie
 
 few : (n b x y len : ℕ) → b ≡ min y (len / 64) → n ≡ min x b → 64 * n ≤ len
 few n b x y len e f = omega arith

@@ -1,8 +1,8 @@
 use Rattle.words.proofs.Sets.{pair-bits}
 use mathlib.Core.Path.{refl}
 use borrow.Author.Needs.{needs}
-use Rattle.words.proofs.range.pair.Statement.{statement}
-use Rattle.words.proofs.range.pair.Tie as tie
+use Rattle.ranges.proofs.pair.Statement.{statement}
+use Rattle.ranges.proofs.pair.Tie as tie
 
 mul-result : tie.Need-mul-result
 mul-result c = search needs

@@ -1,11 +1,11 @@
 use Rattle.words.proofs.Sets.{range-none, range-more}
 use Rattle.words.specs.Words.{Joined, up, below, meet}
 use native.Mathlib.Omega.{arith}
 use Prim.Native.Nat.{_+_, _-_, _≤_}
 use mathlib.Core.Path.{refl}
 use borrow.Author.Needs.{needs}
-use Rattle.words.proofs.range.or_slow.Statement.{statement}
-use Rattle.words.proofs.range.or_slow.Tie as tie
+use Rattle.ranges.proofs.or_slow.Statement.{statement}
+use Rattle.ranges.proofs.or_slow.Tie as tie
 
 abbrev Inv-loop : tie.InvT-loop
 Inv-loop dst₀ d src s mask m len i₀ dst i = (i ≤ len) × Joined (up d (below i (meet src s mask m))) dst₀ dst

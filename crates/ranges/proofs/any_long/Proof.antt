@@ -1,10 +1,10 @@
 use Rattle.words.proofs.AnyBelow.{any-three, first, later}
 use native.Mathlib.Omega.{arith}
 use Prim.Native.Nat.{_+_, _-_, _*_, _/_, _%_}
 use mathlib.Core.Path.{refl, _∙_}
 use borrow.Author.Needs.{needs}
-use Rattle.words.proofs.range.any_long.Statement.{statement}
-use Rattle.words.proofs.range.any_long.Tie as tie
+use Rattle.ranges.proofs.any_long.Statement.{statement}
+use Rattle.ranges.proofs.any_long.Tie as tie
 
 sub-h : tie.Need-sub-h
 sub-h c = search needs

@@ -1,14 +1,14 @@
-// Ranges of a set.
-use crate::lesser;
-use crate::or_at;
-use crate::past;
-use crate::whole::any_words;
-use crate::word_at;
+// Ranges of a set in words: carried over under a mask, and tested for emptiness.
+use words::any_words;
+use words::lesser;
+use words::or_at;
+use words::past;
+use words::word_at;
 ghost use mathlib.Core.Path.{_≡_};
 ghost use Prim.Native.Nat.{ℕ, _+_, _-_, _*_, _%_, _^_, _<_, _≤_};
 ghost use lib.ListN.{length};
 ghost use lib.Dec.{ltb};
 ghost use Rattle.words.specs.Words.{bit, mem, Bits, Joined, up, below, meet, anyBelow};
 
 // The r low bits.
 fn low(r: usize) -> u64
