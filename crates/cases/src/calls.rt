@@ -22,7 +22,7 @@ use rewrite::back::recording_back;
 use rewrite::back::table_back;
 use rewrite::back::witness_back;
 use tables::write_table;
-use witness::write_witness;
+use witnesses::write_witness;
 ghost use mathlib.Core.Path.{_≡_};
 ghost use Prim.Native.Nat.{_<_};
 ghost use Rattle.model.specs.Numbers.{readingValues};

@@ -1,11 +1,7 @@
--- Rows of a witness as the code has them: by value, in bytes and in columns.
-use Prim.Native.Nat.{ℕ, _+_, _*_}
-use mathlib.Core.List.{List}
+-- Rows of a witness as the code has them, by value.
 use mathlib.Core.Bool.{cond}
 use mathlib.Core.Option.{Option, none, some}
-use lib.ListN.{getD}
 use lib.Dec.{eqb}
-use Rattle.model.specs.Bytes.{byteAt, wordAt}
 use Rattle.model.specs.Witness.{Row}
 use Rattle.witness.specs.declared.Entry.{Entry}
 
@@ -15,16 +11,3 @@ rowOf e = record { mark = e .mark; time = e .time; kind = e .kind; transition = 
 -- the row before, where there is one: times are from 1 up
 abbrev pub beforeOf : Entry → Option Row
 beforeOf e = cond (eqb (e .time) 0) none (some (rowOf e))
-
--- the byte that stands in row i where start is in row 0
-abbrev pub columnAt : List ℕ → ℕ → ℕ → ℕ
-columnAt b start i = byteAt b (start + 5 * i)
-
--- .. and the two-byte number
-abbrev pub timeAt : List ℕ → ℕ → ℕ → ℕ
-timeAt b start i = wordAt b (start + 5 * i)
-
--- row i by its columns
-abbrev pub rowAmong : (marks times kinds transitions : List ℕ) → ℕ → Row
-rowAmong marks times kinds transitions i =
-    record { mark = getD marks i 0; time = getD times i 0; kind = getD kinds i 0; transition = getD transitions i 0 }

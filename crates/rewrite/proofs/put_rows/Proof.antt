@@ -7,7 +7,7 @@ use Rattle.model.specs.Edition.{rowsPlace}
 use Rattle.model.specs.Room.{over}
 use Rattle.model.specs.Witness.{rowPlace, rowAt, rowBytes}
 use Rattle.wire.specs.Placed.{placed}
-use Rattle.witness.proofs.Encoded.{bytesTo, bytes-all, encode-none, encode-more}
+use Rattle.witnesses.proofs.Encoded.{bytesTo, bytes-all, encode-none, encode-more}
 use borrow.Author.Needs.{needs}
 use Rattle.rewrite.proofs.put_rows.Statement.{statement}
 use Rattle.rewrite.proofs.put_rows.Tie as tie

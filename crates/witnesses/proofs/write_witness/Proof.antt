@@ -3,10 +3,10 @@ use mathlib.Core.Path.{_∙_}
 use Rattle.model.specs.Witness.{writeWitness}
 use Rattle.frame.proofs.Written.{write-refused}
 use Rattle.frame.proofs.Columns.{all-below}
-use Rattle.witness.proofs.Encoded.{too-many, writable, write-short, write-fits}
+use Rattle.witnesses.proofs.Encoded.{too-many, writable, write-short, write-fits}
 use borrow.Author.Needs.{needs}
-use Rattle.witness.proofs.write_witness.Statement.{statement}
-use Rattle.witness.proofs.write_witness.Tie as tie
+use Rattle.witnesses.proofs.write_witness.Statement.{statement}
+use Rattle.witnesses.proofs.write_witness.Tie as tie
 
 most-rows-requires : tie.Need-most-rows-requires
 most-rows-requires c κs = search needs

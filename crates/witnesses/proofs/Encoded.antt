@@ -26,7 +26,7 @@ use Rattle.model.proofs.Tests.{then-sound}
 use Rattle.model.proofs.WitnessForm.{rowsBytes-snoc, rowsBytes-length, witness-length, written-answer}
 use Rattle.wire.specs.Placed.{placed}
 use Rattle.wire.proofs.Room.{placed-behind}
-use Rattle.witness.specs.Rows.{rowAmong}
+use Rattle.witnesses.specs.Columns.{rowAmong}
 
 -- the bytes that encoding has made when it has come to row i
 

@@ -5,11 +5,11 @@ use mathlib.Core.Path.{_≡_, refl, ap, _∙_}
 use lib.ListN.{length}
 use Rattle.model.specs.Room.{over}
 use Rattle.model.specs.Witness.{rowPlace}
-use Rattle.witness.specs.Rows.{rowAmong}
-use Rattle.witness.proofs.Encoded.{bytesTo, bytes-all, encode-none, encode-more}
+use Rattle.witnesses.specs.Columns.{rowAmong}
+use Rattle.witnesses.proofs.Encoded.{bytesTo, bytes-all, encode-none, encode-more}
 use borrow.Author.Needs.{needs}
-use Rattle.witness.proofs.encode.Statement.{statement}
-use Rattle.witness.proofs.encode.Tie as tie
+use Rattle.witnesses.proofs.encode.Statement.{statement}
+use Rattle.witnesses.proofs.encode.Tie as tie
 
 abbrev Inv-loop : tie.InvT-loop
 Inv-loop edition marks times kinds transitions count out₀ i₀ out i =

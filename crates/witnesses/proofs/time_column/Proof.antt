@@ -2,10 +2,10 @@ use native.Mathlib.Omega.{arith}
 use mathlib.Core.Path.{refl, _∙_}
 use Rattle.model.specs.Limits.{witnessPlaces}
 use Rattle.frame.proofs.Columns.{filled-zeros}
-use Rattle.witness.specs.Rows.{timeAt}
+use Rattle.witnesses.specs.Columns.{timeAt}
 use borrow.Author.Needs.{needs}
-use Rattle.witness.proofs.time_column.Statement.{statement}
-use Rattle.witness.proofs.time_column.Tie as tie
+use Rattle.witnesses.proofs.time_column.Statement.{statement}
+use Rattle.witnesses.proofs.time_column.Tie as tie
 
 slice-aggregate-words-column : tie.Need-slice-aggregate-words-column
 slice-aggregate-words-column c = search needs

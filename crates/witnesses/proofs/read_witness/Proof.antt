@@ -1,9 +1,9 @@
 use mathlib.Core.Path.{sym, _∙_}
 use Rattle.model.proofs.AnswerLaws.{witness-reads}
-use Rattle.witness.proofs.Laws.{sound-count, read-sound, read-refused}
+use Rattle.witnesses.proofs.Parts.{sound-count, read-sound, read-refused}
 use borrow.Author.Needs.{needs}
-use Rattle.witness.proofs.read_witness.Statement.{statement}
-use Rattle.witness.proofs.read_witness.Tie as tie
+use Rattle.witnesses.proofs.read_witness.Statement.{statement}
+use Rattle.witnesses.proofs.read_witness.Tie as tie
 
 witness-answer-requires : tie.Need-witness-answer-requires
 witness-answer-requires c κs = search needs

@@ -5,11 +5,11 @@ use mathlib.Core.Path.{_≡_, sym, ap, _∙_}
 use borrow.Author.Tests.{not-true, not-false}
 use Rattle.model.specs.Bytes.{tab}
 use Rattle.model.specs.Witness.{misformed, badRow}
-use Rattle.witness.specs.Rows.{rowAmong}
+use Rattle.witnesses.specs.Columns.{rowAmong}
 use Rattle.witness.proofs.Laws.{scanAt, scan-all, scan-next, scan-stops, scan-ends}
 use borrow.Author.Needs.{needs}
-use Rattle.witness.proofs.columns_answer.Statement.{statement}
-use Rattle.witness.proofs.columns_answer.Tie as tie
+use Rattle.witnesses.proofs.columns_answer.Statement.{statement}
+use Rattle.witnesses.proofs.columns_answer.Tie as tie
 
 abbrev Inv-loop : tie.InvT-loop
 Inv-loop edition marks times kinds transitions count before₀ i₀ before i =

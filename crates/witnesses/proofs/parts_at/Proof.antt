@@ -1,7 +1,7 @@
-use Rattle.witness.proofs.Laws.{parts-are}
+use Rattle.witnesses.proofs.Parts.{parts-are}
 use borrow.Author.Needs.{needs}
-use Rattle.witness.proofs.parts_at.Statement.{statement}
-use Rattle.witness.proofs.parts_at.Tie as tie
+use Rattle.witnesses.proofs.parts_at.Statement.{statement}
+use Rattle.witnesses.proofs.parts_at.Tie as tie
 
 count-at-requires : tie.Need-count-at-requires
 count-at-requires c κs = search needs

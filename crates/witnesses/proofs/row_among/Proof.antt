@@ -1,6 +1,6 @@
 use borrow.Author.Needs.{needs}
-use Rattle.witness.proofs.row_among.Statement.{statement}
-use Rattle.witness.proofs.row_among.Tie as tie
+use Rattle.witnesses.proofs.row_among.Statement.{statement}
+use Rattle.witnesses.proofs.row_among.Tie as tie
 
 byte-requires : tie.Need-byte-requires
 byte-requires c κs = search needs

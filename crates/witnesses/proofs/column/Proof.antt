@@ -2,10 +2,10 @@ use native.Mathlib.Omega.{arith}
 use mathlib.Core.Path.{refl, _∙_}
 use Rattle.model.specs.Limits.{witnessPlaces}
 use Rattle.frame.proofs.Columns.{filled-zeros}
-use Rattle.witness.specs.Rows.{columnAt}
+use Rattle.witnesses.specs.Columns.{columnAt}
 use borrow.Author.Needs.{needs}
-use Rattle.witness.proofs.column.Statement.{statement}
-use Rattle.witness.proofs.column.Tie as tie
+use Rattle.witnesses.proofs.column.Statement.{statement}
+use Rattle.witnesses.proofs.column.Tie as tie
 
 slice-aggregate-bytes-column : tie.Need-slice-aggregate-bytes-column
 slice-aggregate-bytes-column c = search needs

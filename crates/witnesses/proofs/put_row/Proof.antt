@@ -4,8 +4,8 @@ use mathlib.Core.Path.{ap, _∙_}
 use Rattle.model.specs.Witness.{rowBytes}
 use Rattle.wire.specs.Placed.{placed}
 use borrow.Author.Needs.{needs}
-use Rattle.witness.proofs.put_row.Statement.{statement}
-use Rattle.witness.proofs.put_row.Tie as tie
+use Rattle.witnesses.proofs.put_row.Statement.{statement}
+use Rattle.witnesses.proofs.put_row.Tie as tie
 
 row-among-requires : tie.Need-row-among-requires
 row-among-requires c κs = search needs
