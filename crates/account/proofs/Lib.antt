@@ -1,4 +1,3 @@
-pub mod Left
 pub mod Places
 pub mod Steps
 pub mod Pass

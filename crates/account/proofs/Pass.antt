@@ -22,7 +22,7 @@ use Rattle.account.specs.declared.Standing.{Standing}
 use Rattle.account.specs.declared.Step.{Step}
 use Rattle.witness.specs.Rows.{rowOf}
 use Rattle.account.specs.Standing.{progressOf, Stepped, checkedRows}
-use Rattle.account.proofs.Left.{tab-cons, tab-past, left-cons, left-past}
+use Rattle.row_tests.proofs.Left.{tab-cons, tab-past, left-cons, left-past}
 
 -- what a row adds to the answer
 

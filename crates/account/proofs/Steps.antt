@@ -1,5 +1,5 @@
 -- What a row comes to, by the tests that the code has made.
-use Prim.Native.Nat.{ℕ, _+_, _-_, _≤_}
+use Prim.Native.Nat.{ℕ, zero, suc, _+_, _-_, _≤_}
 use native.Mathlib.Numerals.{add-one}
 use native.Mathlib.Omega.{arith}
 use mathlib.Core.Path.{_≡_, refl, sym, ap, _∙_}
@@ -16,14 +16,13 @@ use Rattle.model.specs.declared.Edition.{Edition}
 use Rattle.model.specs.declared.Config.{Config}
 use Rattle.model.specs.declared.Rule.{Rule}
 use Rattle.model.specs.Witness.{inPlace}
-use Rattle.model.specs.Rules.{Progress, noneBefore, isNext, noneAt, guessed, sends, removes, keeps, adds, account}
+use Rattle.model.specs.Rules.{Progress, others, noneBefore, isNext, noneAt, guessed, sends, removes, keeps, adds, account}
 use Rattle.monitor.specs.From.{firing}
 use Rattle.monitor.specs.declared.Fired.{Fired}
 use Rattle.monitor.proofs.Records.{fired-to, fired-not, fired-length, fired-below}
 use Rattle.witness.specs.declared.Entry.{Entry}
 use Rattle.account.specs.declared.Standing.{Standing}
 use Rattle.account.specs.declared.Step.{Step}
-use Rattle.account.proofs.Left.{others-drop}
 use Rattle.account.proofs.Places.{place-times}
 use Rattle.witness.specs.Rows.{rowOf, beforeOf}
 use Rattle.account.specs.Standing.{progressOf, Bounded, Ready, Stepped}
@@ -35,6 +34,12 @@ read-two : (l : List ℕ) (ticks : ℕ) → length l ≡ 2 → (getD (map (λ x.
 read-two [] ticks h = absurd (omega arith)
 read-two (x ∷ []) ticks h = absurd (omega arith)
 read-two (x ∷ y ∷ l) ticks h = (refl, refl)
+
+others-drop : (i : ℕ) (l : List Packet) → others (drop i l) ≡ drop (suc i) l
+others-drop zero [] = refl
+others-drop zero (p ∷ l) = refl
+others-drop (suc i) [] = refl
+others-drop (suc i) (p ∷ l) = others-drop i l
 
 -- a kept or added row, which is a guess or not, of a table's monitor under a rule
 module _ (rule : Rule) (b : Monitor) (ps : List Packet) (s : Standing) (e : Entry) (next : ℕ) (guess : Bool) (asked : guess ≡ guessed (under rule b) (rowOf e)) where

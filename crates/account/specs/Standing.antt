@@ -1,5 +1,5 @@
 -- What the code's small state stands for among the model's rows and progress.
-use Prim.Native.Nat.{ℕ, _<_, _≤_}
+use Prim.Native.Nat.{_<_, _≤_}
 use mathlib.Core.Path.{_≡_}
 use mathlib.Core.List.{List}
 use mathlib.Core.Bool.{true, cond}
@@ -7,22 +7,15 @@ use mathlib.Core.Option.{Option, none, some}
 use lib.ListN.{length, getD, drop}
 use Rattle.model.specs.Limits.{timeLimit}
 use Rattle.model.specs.Trace.{Packet}
-use Rattle.model.specs.Monitor.{Monitor, under}
+use Rattle.model.specs.Monitor.{Monitor}
 use Rattle.model.specs.Witness.{Row, badRow}
 use Rattle.model.specs.Rules.{Progress, begin, broken, checked}
 use Rattle.model.specs.declared.Edition.{Edition}
 use Rattle.model.specs.declared.Checking.{Checking}
-use Rattle.model.specs.declared.Rule.{Rule}
-use Rattle.monitor.specs.From.{monitorFrom}
-use Rattle.rule.specs.Within.{within}
 use Rattle.witness.specs.declared.Entry.{Entry}
 use Rattle.witness.specs.Rows.{beforeOf}
 use Rattle.account.specs.declared.Standing.{Standing}
 use Rattle.account.specs.declared.Step.{Step}
-
--- the monitor of a table's bytes, under a rule
-abbrev pub ruledFrom : Rule → List ℕ → List ℕ → Monitor
-ruledFrom rule table offsets = under (within rule) (monitorFrom table offsets)
 
 -- the recorded packets from the next one on are not accounted for
 abbrev pub progressOf : List Packet → Standing → Progress

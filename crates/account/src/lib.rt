@@ -1,5 +1,4 @@
 // One pass over a witness's rows against a table and a recording, by their bytes, under a rule (R-7).
-use model::ADDED;
 use model::Checking;
 use model::Config;
 use model::Edition;
@@ -7,14 +6,15 @@ use model::KEPT;
 use model::REMOVED;
 use model::Refusal;
 use model::Rule;
-use monitor::airtime_of;
-use monitor::device_of;
 use monitor::fire;
-use monitor::offsets;
 use monitor::to_unit;
+use row_tests::free_after;
+use row_tests::is_guess;
+use row_tests::is_next;
+use row_tests::none_at;
+use row_tests::none_before;
 use rule::allows;
 use rule::window_behind;
-use wire::byte;
 use wire::word;
 use witness::Entry;
 use witness::count_at;
@@ -23,19 +23,19 @@ use witness::no_row;
 use witness::row_at;
 ghost use mathlib.Core.Path.{_≡_};
 ghost use mathlib.Core.List.{List};
-ghost use mathlib.Core.Bool.{true, cond};
+ghost use mathlib.Core.Bool.{cond};
 ghost use mathlib.Core.Option.{none};
-ghost use Prim.Native.Nat.{ℕ, _+_, _<_, _≤_};
+ghost use Prim.Native.Nat.{_+_, _<_, _≤_};
 ghost use lib.Dec.{eqb};
 ghost use lib.ListN.{length, getD, drop};
-ghost use Rattle.model.specs.Monitor.{wait, airtime};
+ghost use Rattle.model.specs.Monitor.{wait};
 ghost use Rattle.model.specs.Trace.{Packet};
 ghost use Rattle.model.specs.Recording.{packetsAt};
 ghost use Rattle.model.specs.Witness.{kept, rowsAt};
-ghost use Rattle.model.specs.Rules.{begin, noneBefore, isNext, noneAt, guessed, sends, removes, keeps, adds, account};
-ghost use Rattle.monitor.specs.From.{monitorFrom};
+ghost use Rattle.model.specs.Rules.{begin, sends, removes, keeps, adds, account};
 ghost use Rattle.witness.specs.Rows.{rowOf};
-ghost use Rattle.account.specs.Standing.{ruledFrom, progressOf, Bounded, Ready, Stepped, checkedRows};
+ghost use Rattle.row_tests.specs.Under.{ruledFrom};
+ghost use Rattle.account.specs.Standing.{progressOf, Bounded, Ready, Stepped, checkedRows};
 
 // What the rows so far have come to. While there is no row before, its time is 0. The window says which of the last rows are guesses, as a mask.
 struct Standing {
@@ -51,38 +51,6 @@ struct Standing {
 struct Step {
     sound: bool,
     to: Standing,
-}
-
-// No recorded row of an earlier time is unaccounted for.
-fn none_before(recording: &[u8], next: u16, time: u16) -> bool
-    ensures { λ r. ⌜ r ≡ noneBefore (drop next (packetsAt (now (recording .entry)))) time ⌝ }
-{
-    if word(recording, 3) <= next {
-        return true;
-    }
-    time <= word(recording, 5 + 3 * (next as usize))
-}
-
-fn is_next(recording: &[u8], next: u16, e: Entry) -> bool
-    ensures { λ r. ⌜ (r ≡ isNext (drop next (packetsAt (now (recording .entry)))) (rowOf e)) × (r ≡ true → next < 65535) ⌝ }
-{
-    if word(recording, 3) <= next {
-        return false;
-    }
-    if word(recording, 5 + 3 * (next as usize)) != e.time {
-        return false;
-    }
-    byte(recording, 7 + 3 * (next as usize)) == e.kind
-}
-
-// No recorded row of this time is unaccounted for.
-fn none_at(recording: &[u8], next: u16, time: u16) -> bool
-    ensures { λ r. ⌜ r ≡ noneAt (drop next (packetsAt (now (recording .entry)))) time ⌝ }
-{
-    if word(recording, 3) <= next {
-        return true;
-    }
-    word(recording, 5 + 3 * (next as usize)) != time
 }
 
 fn waited(c: Config, ticks: u16) -> Config
@@ -104,23 +72,6 @@ fn refused(s: Standing) -> Step
         sound: false,
         to: s,
     }
-}
-
-// The first time at which the air is free behind a row, which takes it for its airtime.
-fn free_after(table: &[u8], e: Entry) -> u32
-    ensures { λ r. ⌜ ((offsets : List ℕ) → r ≡ e .time + airtime (monitorFrom (now (table .entry)) offsets) (e .kind) + 1) ⌝ }
-{
-    e.time as u32 + airtime_of(table, e.kind) as u32 + 1
-}
-
-// A guess is an added row from the rule's device.
-fn is_guess(rule: Rule, table: &[u8], e: Entry) -> bool
-    ensures { λ r. ⌜ ((offsets : List ℕ) → r ≡ guessed (ruledFrom rule (now (table .entry)) offsets) (rowOf e)) ⌝ }
-{
-    if e.mark != ADDED {
-        return false;
-    }
-    device_of(table, e.kind) == rule.device
 }
 
 // A kept or added row: the rule is kept, and its transition has its kind and fires.

@@ -31,7 +31,8 @@ use Rattle.model.proofs.WithoutRule.{as-without}
 use Rattle.monitor.specs.From.{offsetsOf}
 use Rattle.monitor.proofs.Described.{monitor-from}
 use Rattle.rule.proofs.Laws.{within-sound}
-use Rattle.account.specs.Standing.{ruledFrom, checkedRows}
+use Rattle.row_tests.specs.Under.{ruledFrom}
+use Rattle.account.specs.Standing.{checkedRows}
 use Rattle.checker.specs.Claim.{IsPermitted, Faithful, Checks, FaithfulUnder, NamesFirst, ChecksUnder}
 
 permitted-none : (o : Option ℕ) (rows : List Row) → IsPermitted (checked (andThen (badRow o) Sound) rows) ↔ (o ≡ none)

@@ -3,7 +3,7 @@ use Rattle.model.specs.Rules.{noneBefore}
 use lib.Dec.{leb}
 use lib.ListN.{drop}
 use Rattle.model.specs.Recording.{packetsAt}
-use Rattle.account.specs.Standing.{ruledFrom}
+use Rattle.row_tests.specs.Under.{ruledFrom}
 use borrow.Author.Tests.{not-true, not-false, lt-leb}
 use mathlib.Core.Bool.{true, false}
 use mathlib.Core.Path.{refl, sym, _∙_}

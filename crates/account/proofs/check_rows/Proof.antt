@@ -4,7 +4,8 @@ use mathlib.Core.Path.{_≡_}
 use borrow.Author.Tests.{not-true, not-false}
 use Rattle.model.specs.Recording.{packetsAt}
 use Rattle.model.specs.Witness.{witnessCountAt}
-use Rattle.account.specs.Standing.{ruledFrom, Bounded}
+use Rattle.row_tests.specs.Under.{ruledFrom}
+use Rattle.account.specs.Standing.{Bounded}
 use Rattle.account.proofs.Pass.{Ahead, ahead-first, ahead-more, ahead-broken, ahead-left, ahead-done}
 use borrow.Author.Needs.{needs}
 use Rattle.account.proofs.check_rows.Statement.{statement}

@@ -1,6 +1,6 @@
 use Rattle.account.proofs.Steps.{stepped-as, not-next-kept, kept-sent}
 use Rattle.model.specs.Recording.{packetsAt}
-use Rattle.account.specs.Standing.{ruledFrom}
+use Rattle.row_tests.specs.Under.{ruledFrom}
 use borrow.Author.Tests.{not-true, not-false}
 use mathlib.Core.Path.{sym, _∙_}
 use native.Mathlib.Omega.{arith}

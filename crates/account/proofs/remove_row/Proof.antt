@@ -1,7 +1,7 @@
 use Rattle.account.proofs.Steps.{stepped-as, not-removed, removed-step}
 use Rattle.model.specs.Monitor.{toUnit}
 use Rattle.model.specs.Recording.{packetsAt}
-use Rattle.account.specs.Standing.{ruledFrom}
+use Rattle.row_tests.specs.Under.{ruledFrom}
 use borrow.Author.Tests.{not-true, not-false}
 use mathlib.Core.Bool.{true, false}
 use mathlib.Core.Path.{refl, sym, _∙_}

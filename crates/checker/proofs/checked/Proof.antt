@@ -5,7 +5,8 @@ use borrow.Author.Needs.{needs}
 use Rattle.model.specs.Recording.{packetsAt}
 use Rattle.model.specs.Witness.{rowsAt}
 use Rattle.model.specs.declared.Reading.the-variants.{Unsound}
-use Rattle.account.specs.Standing.{ruledFrom, checkedRows}
+use Rattle.row_tests.specs.Under.{ruledFrom}
+use Rattle.account.specs.Standing.{checkedRows}
 use Rattle.checker.proofs.Answers.{answer-read, answer-framed, answer-checked}
 use Rattle.checker.proofs.checked.Statement.{statement}
 use Rattle.checker.proofs.checked.Tie as tie

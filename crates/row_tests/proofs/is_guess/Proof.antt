@@ -6,9 +6,9 @@ use borrow.Author.Needs.{needs}
 use borrow.Author.Tests.{eq-eqb, ne-eqb}
 use Rattle.model.specs.Monitor.{isGuess}
 use Rattle.model.specs.Witness.{added}
-use Rattle.account.specs.Standing.{ruledFrom}
-use Rattle.account.proofs.is_guess.Statement.{statement}
-use Rattle.account.proofs.is_guess.Tie as tie
+use Rattle.row_tests.specs.Under.{ruledFrom}
+use Rattle.row_tests.proofs.is_guess.Statement.{statement}
+use Rattle.row_tests.proofs.is_guess.Tie as tie
 
 returns : tie.Need-returns
 returns c =

@@ -1,8 +1,8 @@
 use Prim.Native.Nat.{ℕ, _+_}
 use mathlib.Core.Path.{ap}
 use borrow.Author.Needs.{needs}
-use Rattle.account.proofs.free_after.Statement.{statement}
-use Rattle.account.proofs.free_after.Tie as tie
+use Rattle.row_tests.proofs.free_after.Statement.{statement}
+use Rattle.row_tests.proofs.free_after.Tie as tie
 
 cast-result : tie.Need-cast-result
 cast-result c = search needs

@@ -1,14 +1,13 @@
 -- The recorded packets that are not accounted for, and the rows ahead: each a list from an index on.
-use Prim.Native.Nat.{ℕ, zero, suc, _<_, _≤_}
+use Prim.Native.Nat.{ℕ, suc, _<_, _≤_}
 use native.Mathlib.Omega.{arith}
-use mathlib.Core.Path.{_≡_, refl, ap, _∙_}
+use mathlib.Core.Path.{_≡_, ap, _∙_}
 use mathlib.Core.List.{List, [], _∷_}
 use lib.ListN.{getD, drop, drop-of-length-le}
 use lib.Seq.{drop-cons}
 use Rattle.model.specs.Bytes.{tab, padded}
 use Rattle.model.specs.Trace.{Packet}
 use Rattle.model.specs.Recording.{countAt, timeAt, rowKindAt, recordingParts, packetsOf, packetsAt}
-use Rattle.model.specs.Rules.{others}
 use Rattle.model.proofs.Basics.{length-tab, getD-tab}
 use Rattle.model.proofs.Places.{getD-column}
 
@@ -36,9 +35,3 @@ module _ (b : List ℕ) (i : ℕ) where
   pub left-past : countAt b ≤ i → drop i (packetsAt b) ≡ []
   unfolding packetsOf recordingParts
   left-past h = tab-past (λ j. record { time = getD (padded 512 (tab (timeAt b) (countAt b))) j 0; kind = getD (padded 512 (tab (rowKindAt b) (countAt b))) j 0 }) (countAt b) i h
-
-pub others-drop : (i : ℕ) (l : List Packet) → others (drop i l) ≡ drop (suc i) l
-others-drop zero [] = refl
-others-drop zero (p ∷ l) = refl
-others-drop (suc i) [] = refl
-others-drop (suc i) (p ∷ l) = others-drop i l

@@ -1,4 +1,4 @@
-use Rattle.account.proofs.Left.{left-cons, left-past}
+use Rattle.row_tests.proofs.Left.{left-cons, left-past}
 use Rattle.model.specs.Rules.{noneAt}
 use Rattle.model.specs.Trace.{Packet}
 use lib.Dec.{eqb}
@@ -8,8 +8,8 @@ use mathlib.Core.Path.{sym, ap, _∙_}
 use native.Mathlib.Omega.{arith}
 use Prim.Native.Nat.{ℕ}
 use borrow.Author.Needs.{needs}
-use Rattle.account.proofs.none_at.Statement.{statement}
-use Rattle.account.proofs.none_at.Tie as tie
+use Rattle.row_tests.proofs.none_at.Statement.{statement}
+use Rattle.row_tests.proofs.none_at.Tie as tie
 
 word-requires : tie.Need-word-requires
 word-requires c κs = search needs

@@ -1,7 +1,7 @@
 use mathlib.Core.Bool.{false≢true}
 use Rattle.model.specs.Recording.{timeAt, rowKindAt}
 use borrow.Author.Tests.{eq-eqb, ne-eqb}
-use Rattle.account.proofs.Left.{left-cons, left-past}
+use Rattle.row_tests.proofs.Left.{left-cons, left-past}
 use Rattle.witness.specs.Rows.{rowOf}
 use Rattle.model.specs.Rules.{isNext}
 use Rattle.model.specs.Trace.{Packet}
@@ -12,8 +12,8 @@ use mathlib.Core.Path.{sym, ap, _∙_}
 use native.Mathlib.Omega.{arith}
 use Prim.Native.Nat.{ℕ}
 use borrow.Author.Needs.{needs}
-use Rattle.account.proofs.is_next.Statement.{statement}
-use Rattle.account.proofs.is_next.Tie as tie
+use Rattle.row_tests.proofs.is_next.Statement.{statement}
+use Rattle.row_tests.proofs.is_next.Tie as tie
 
 word-requires : tie.Need-word-requires
 word-requires c κs = search needs
