@@ -27,10 +27,11 @@ use Rattle.model.proofs.Places.{tab-same}
 use Rattle.model.proofs.WitnessForm.{witness-back, witness-length}
 use Rattle.model.proofs.Judgement.{sound-judged}
 use Rattle.model.proofs.LongRecordings.{unrefused}
-use Rattle.lines.specs.Written.{Wrote, rowsStanding, FewRows, FilesJudged, Lines}
-use Rattle.lines.proofs.Stores.{wrote-front}
-use Rattle.lines.proofs.Digits.{line-length, rejected-length}
-use Rattle.lines.proofs.Rows.{rows-length}
+use Rattle.text.specs.Put.{Wrote, rowsStanding}
+use Rattle.text.proofs.Stores.{wrote-front}
+use Rattle.text.proofs.Digits.{line-length, rejected-length}
+use Rattle.text.proofs.Rows.{rows-length}
+use Rattle.lines.specs.Written.{FilesJudged, Lines}
 
 -- rows that a witness can hold
 pub record Fitting (rows : List Row) : Type 0 where
@@ -64,17 +65,12 @@ Holds (Rejected cost instant notYet noMore) rows = Unit {0}
 Holds (Exhausted budget instant) rows = Unit {0}
 Holds (Refused r) rows = Unit {0}
 
-pub few-rows : (v : Verdict) (rows : List Row) → Holds v rows → FewRows v
-few-rows (Accepted cost n) rows h = omega (arith, h .1 .few)
-few-rows (Rejected cost instant notYet noMore) rows h = tt
-few-rows (Exhausted budget instant) rows h = tt
-few-rows (Refused r) rows h = tt
-
 pub lines-back : (v : Verdict) (rows : List Row) (room : List ℕ) → Holds v rows
     → verdictLines v (rowsStanding v (roomBy v (witnessBytes One rows) room)) ≡ verdictLines v rows
 unfolding verdictLines
 lines-back (Accepted cost n) rows room (e, fit) =
-    ap (verdictLines (Accepted cost n)) (ap (tab (rowAt One (over (witnessBytes One rows) room))) e ∙ rows-back rows room fit)
+    let few : n ≤ mostRows One = omega (arith, fit .few) in
+    rw (le-leb _ _ few) (ap (verdictLines (Accepted cost n)) (ap (tab (rowAt One (over (witnessBytes One rows) room))) e ∙ rows-back rows room fit))
 lines-back (Rejected cost instant notYet noMore) rows room h = refl
 lines-back (Exhausted budget instant) rows room h = refl
 lines-back (Refused r) rows room h = refl
@@ -149,11 +145,6 @@ unfolding judgedLines
 judged-fit scratchLength roomLength table recording budget =
     lines-fit (validation One table recording budget scratchLength roomLength) (preferred (monitorAt table) (packetsAt recording))
     (validation-holds table recording budget scratchLength roomLength)
-
-pub few-validated : (table recording : List ℕ) (budget scratchLength roomLength : ℕ) (v : Verdict)
-    → v ≡ validation One table recording budget scratchLength roomLength → FewRows v
-few-validated table recording budget scratchLength roomLength v e =
-    subst FewRows (sym e) (few-rows (validation One table recording budget scratchLength roomLength) (preferred (monitorAt table) (packetsAt recording)) (validation-holds table recording budget scratchLength roomLength))
 
 module _ (files table recording : List ℕ) (budget : ℕ) (scratch room : List ℕ) where
   -- a validation of the files' two parts, and its verdict written

@@ -1,4 +1,1 @@
-pub mod Stores
-pub mod Digits
-pub mod Rows
 pub mod Judged

@@ -5,7 +5,7 @@ use lib.ListN.{length, take, drop, length-drop}
 use lib.Seq.{take-all}
 use borrow.Author.Needs.{needs}
 use Rattle.model.specs.Desk.{tableLength}
-use Rattle.lines.proofs.Judged.{judging, few-validated}
+use Rattle.lines.proofs.Judged.{judging}
 use Rattle.lines.proofs.judge.Statement.{statement}
 use Rattle.lines.proofs.judge.Tie as tie
 
@@ -34,7 +34,7 @@ validate-requires : tie.Need-validate-requires
 validate-requires c κs = search needs
 
 verdict-lines-requires : tie.Need-verdict-lines-requires
-verdict-lines-requires c κs = (few-validated _ _ _ _ _ _ (c .before .before .before .before .before .before .validate .ensures .answered), omega arith)
+verdict-lines-requires c κs = search needs
 
 same-length : tie.Need-same-length
 same-length c = search needs

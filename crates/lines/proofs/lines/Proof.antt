@@ -7,33 +7,27 @@ use Rattle.lines.proofs.Judged.{lines-short, lines-long, lines-judged}
 use Rattle.lines.proofs.lines.Statement.{statement}
 use Rattle.lines.proofs.lines.Tie as tie
 
-slice-aggregate-short-line : tie.Need-slice-aggregate-short-line
-slice-aggregate-short-line c = search needs
-
-short-line-requires : tie.Need-short-line-requires
-short-line-requires c κs = search needs
+refused-line-requires : tie.Need-refused-line-requires
+refused-line-requires c κs = search needs
 
 same-length : tie.Need-same-length
 same-length c = search needs
 
 returns : tie.Need-returns
 returns c =
-    let a = c .before .before .before .before .before .before .before .before .before .before .args in
-    lines-short (a .input .now) (a .scratch .now) (a .room .now) (omega arith) (c .before .before .short-line .ensures)
+    let a = c .before .before .before .before .before .before .before .before .before .args in
+    lines-short (a .input .now) (a .scratch .now) (a .room .now) (omega arith) (c .before .before .refused-line .ensures)
 
-slice-aggregate-short-line-2 : tie.Need-slice-aggregate-short-line-2
-slice-aggregate-short-line-2 c = search needs
-
-short-line-requires-2 : tie.Need-short-line-requires-2
-short-line-requires-2 c κs = search needs
+refused-line-requires-2 : tie.Need-refused-line-requires-2
+refused-line-requires-2 c κs = search needs
 
 same-length-2 : tie.Need-same-length-2
 same-length-2 c = search needs
 
 returns-2 : tie.Need-returns-2
 returns-2 c =
-    let a = c .before .before .before .before .before .before .before .before .before .before .before .args in
-    lines-long (a .input .now) (a .scratch .now) (a .room .now) (omega arith) (c .before .before .short-line2 .ensures)
+    let a = c .before .before .before .before .before .before .before .before .before .before .args in
+    lines-long (a .input .now) (a .scratch .now) (a .room .now) (omega arith) (c .before .before .refused-line2 .ensures)
 
 sub-end : tie.Need-sub-end
 sub-end c = search needs
@@ -73,12 +67,10 @@ pub lines-spec : {M : Type 1} → statement M
 lines-spec =
     tie.close
     (tie.spec
-    slice-aggregate-short-line
-    short-line-requires
+    refused-line-requires
     same-length
     returns
-    slice-aggregate-short-line-2
-    short-line-requires-2
+    refused-line-requires-2
     same-length-2
     returns-2
     sub-end

@@ -3,9 +3,9 @@ use mathlib.Core.Logic.{⊎-elim}
 use lib.ListN.{length, length-set}
 use lib.Seq.{set-out}
 use borrow.Author.Needs.{needs}
-use Rattle.lines.specs.Written.{stored}
-use Rattle.lines.proofs.emit.Statement.{statement}
-use Rattle.lines.proofs.emit.Tie as tie
+use Rattle.text.specs.Put.{stored}
+use Rattle.text.proofs.emit.Statement.{statement}
+use Rattle.text.proofs.emit.Tie as tie
 
 slice-write-text : tie.Need-slice-write-text
 slice-write-text c = search needs

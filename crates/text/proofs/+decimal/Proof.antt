@@ -3,14 +3,14 @@ use native.Mathlib.Omega.{arith}
 use borrow.Author.Needs.{needs}
 use borrow.Fn.Kinds.{In}
 use borrow.Fn.PlainCycle.{Measures, is, falls, and}
-use Rattle.lines.proofs.Stores.{wrote-none, wrote-more}
-use Rattle.lines.proofs.Digits.{digits-none, digits-last, digits-more, digits-length}
-use Rattle.lines.proofs.decimal.Reads as decimal
-use Rattle.lines.proofs.decimal.Kinds as decimal-kinds
-use Rattle.lines.proofs.+decimal.Lts-decimal as decimal-lts
-use Rattle.lines.proofs.emit.Reads as emit-reads
-use Rattle.lines.proofs.+decimal.{statement}
-use Rattle.lines.proofs.+decimal.Tie.{close}
+use Rattle.text.proofs.Stores.{wrote-none, wrote-more}
+use Rattle.text.proofs.Digits.{digits-none, digits-last, digits-more, digits-length}
+use Rattle.text.proofs.decimal.Reads as decimal
+use Rattle.text.proofs.decimal.Kinds as decimal-kinds
+use Rattle.text.proofs.+decimal.Lts-decimal as decimal-lts
+use Rattle.text.proofs.emit.Reads as emit-reads
+use Rattle.text.proofs.+decimal.{statement}
+use Rattle.text.proofs.+decimal.Tie.{close}
 
 abbrev μ-decimal : Measures 1 decimal-kinds.ps ℕ
 μ-decimal κs a = a .0

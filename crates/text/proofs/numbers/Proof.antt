@@ -1,9 +1,9 @@
 use native.Mathlib.Omega.{arith}
 use borrow.Author.Needs.{needs}
-use Rattle.lines.proofs.Digits.{spaced-length}
-use Rattle.lines.proofs.Stores.{wrote-more}
-use Rattle.lines.proofs.numbers.Statement.{statement}
-use Rattle.lines.proofs.numbers.Tie as tie
+use Rattle.text.proofs.Digits.{spaced-length}
+use Rattle.text.proofs.Stores.{wrote-more}
+use Rattle.text.proofs.numbers.Statement.{statement}
+use Rattle.text.proofs.numbers.Tie as tie
 
 put-requires : tie.Need-put-requires
 put-requires c κs = search needs

@@ -1,7 +1,7 @@
 use borrow.Author.Tests.{eq-eqb, ne-eqb}
 use borrow.Author.Needs.{needs}
-use Rattle.lines.proofs.marked.Statement.{statement}
-use Rattle.lines.proofs.marked.Tie as tie
+use Rattle.text.proofs.marked.Statement.{statement}
+use Rattle.text.proofs.marked.Tie as tie
 
 slice-aggregate-numbers : tie.Need-slice-aggregate-numbers
 slice-aggregate-numbers c = search needs

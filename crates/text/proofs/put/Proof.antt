@@ -6,10 +6,10 @@ use mathlib.Core.List.{List}
 use lib.Seq.{take-suc, take-all}
 use lib.ListN.{length, take}
 use borrow.Author.Needs.{needs}
-use Rattle.lines.specs.Written.{Wrote}
-use Rattle.lines.proofs.Stores.{wrote-none, wrote-more}
-use Rattle.lines.proofs.put.Statement.{statement}
-use Rattle.lines.proofs.put.Tie as tie
+use Rattle.text.specs.Put.{Wrote}
+use Rattle.text.proofs.Stores.{wrote-none, wrote-more}
+use Rattle.text.proofs.put.Statement.{statement}
+use Rattle.text.proofs.put.Tie as tie
 
 abbrev Inv-loop : tie.InvT-loop
 Inv-loop bytes text₀ at next₀ i₀ text next i =

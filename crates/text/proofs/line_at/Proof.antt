@@ -2,9 +2,9 @@ use mathlib.Core.Path.{subst}
 use borrow.Author.Needs.{needs}
 use Rattle.model.specs.Desk.{rowLine}
 use Rattle.model.specs.Witness.{Row}
-use Rattle.lines.specs.Written.{Wrote}
-use Rattle.lines.proofs.line_at.Statement.{statement}
-use Rattle.lines.proofs.line_at.Tie as tie
+use Rattle.text.specs.Put.{Wrote}
+use Rattle.text.proofs.line_at.Statement.{statement}
+use Rattle.text.proofs.line_at.Tie as tie
 
 cast-row-at : tie.Need-cast-row-at
 cast-row-at c = search needs

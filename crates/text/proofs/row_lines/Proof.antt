@@ -8,11 +8,11 @@ use Rattle.model.specs.Bytes.{tab}
 use Rattle.model.specs.Witness.{rowAt}
 use Rattle.model.specs.declared.Edition.the-variants.{One}
 use Rattle.model.specs.Desk.{rowLines}
-use Rattle.lines.specs.Written.{Wrote}
-use Rattle.lines.proofs.Stores.{wrote-none, wrote-more}
-use Rattle.lines.proofs.Rows.{lines-tab, row-length}
-use Rattle.lines.proofs.row_lines.Statement.{statement}
-use Rattle.lines.proofs.row_lines.Tie as tie
+use Rattle.text.specs.Put.{Wrote}
+use Rattle.text.proofs.Stores.{wrote-none, wrote-more}
+use Rattle.text.proofs.Rows.{lines-tab, row-length}
+use Rattle.text.proofs.row_lines.Statement.{statement}
+use Rattle.text.proofs.row_lines.Tie as tie
 
 abbrev Inv-loop : tie.InvT-loop
 Inv-loop witness rows text₀ at next₀ i₀ text next i =

@@ -1,9 +1,9 @@
 use native.Mathlib.Omega.{arith}
 use borrow.Author.Needs.{needs}
-use Rattle.lines.proofs.Digits.{numbers-length}
-use Rattle.lines.proofs.Stores.{wrote-more}
-use Rattle.lines.proofs.short_line.Statement.{statement}
-use Rattle.lines.proofs.short_line.Tie as tie
+use Rattle.text.proofs.Digits.{numbers-length}
+use Rattle.text.proofs.Stores.{wrote-more}
+use Rattle.text.proofs.short_line.Statement.{statement}
+use Rattle.text.proofs.short_line.Tie as tie
 
 numbers-requires : tie.Need-numbers-requires
 numbers-requires c κs = search needs

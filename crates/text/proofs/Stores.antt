@@ -7,7 +7,7 @@ use mathlib.Core.List.{List, [], _∷_, _++_}
 use lib.ListN.{length, set, length-append}
 use lib.Seq.{sets, drop-nil}
 use Rattle.model.specs.Desk.{inText}
-use Rattle.lines.specs.Written.{stored, Wrote}
+use Rattle.text.specs.Put.{stored, Wrote}
 
 stored-more : (t : List ℕ) (at : ℕ) (a b : List ℕ) → stored (stored t at a) (at + length a) b ≡ stored t at (a ++ b)
 unfolding stored

@@ -9,7 +9,7 @@ use lib.Dec.{eqb}
 use Rattle.model.specs.Bytes.{tab}
 use Rattle.model.specs.Witness.{Row, kept, removed}
 use Rattle.model.specs.Desk.{keptWord, removedWord, addedWord, markWord, spaced, newline, rowLine, rowLines}
-use Rattle.lines.proofs.Digits.{spaced-length, numbers-length}
+use Rattle.text.proofs.Digits.{spaced-length, numbers-length}
 
 lines-snoc : (l : List Row) (r : Row) → rowLines (l ++ (r ∷ [])) ≡ rowLines l ++ rowLine r
 unfolding rowLines

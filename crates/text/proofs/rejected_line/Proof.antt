@@ -1,10 +1,10 @@
 use native.Mathlib.Omega.{arith}
 use borrow.Author.Needs.{needs}
 use Rattle.model.specs.Desk.{rejectedWord}
-use Rattle.lines.proofs.Digits.{spaced-length, numbers-length}
-use Rattle.lines.proofs.Stores.{wrote-more}
-use Rattle.lines.proofs.rejected_line.Statement.{statement}
-use Rattle.lines.proofs.rejected_line.Tie as tie
+use Rattle.text.proofs.Digits.{spaced-length, numbers-length}
+use Rattle.text.proofs.Stores.{wrote-more}
+use Rattle.text.proofs.rejected_line.Statement.{statement}
+use Rattle.text.proofs.rejected_line.Tie as tie
 
 slice-aggregate-numbers : tie.Need-slice-aggregate-numbers
 slice-aggregate-numbers c = search needs

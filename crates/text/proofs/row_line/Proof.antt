@@ -1,11 +1,11 @@
 use native.Mathlib.Omega.{arith}
 use borrow.Author.Needs.{needs}
 use Rattle.model.specs.Desk.{markWord}
-use Rattle.lines.proofs.Digits.{spaced-length, numbers-length}
-use Rattle.lines.proofs.Rows.{mark-length}
-use Rattle.lines.proofs.Stores.{wrote-more}
-use Rattle.lines.proofs.row_line.Statement.{statement}
-use Rattle.lines.proofs.row_line.Tie as tie
+use Rattle.text.proofs.Digits.{spaced-length, numbers-length}
+use Rattle.text.proofs.Rows.{mark-length}
+use Rattle.text.proofs.Stores.{wrote-more}
+use Rattle.text.proofs.row_line.Statement.{statement}
+use Rattle.text.proofs.row_line.Tie as tie
 
 cast-marked : tie.Need-cast-marked
 cast-marked c = search needs
