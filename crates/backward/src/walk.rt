@@ -1,5 +1,5 @@
 // The walk along the least moves, whose rows are the preferred witness.
-use frame::edition::rows_place;
+use editions::rows_place;
 use frame::put_frame;
 use layers::Span;
 use layers::least_into;

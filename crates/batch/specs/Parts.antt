@@ -9,7 +9,7 @@ use Rattle.model.specs.Bytes.{byteAt, wordAt, wordBytes, longAt, longBytes}
 use Rattle.model.specs.declared.TableParts.{TableParts}
 use Rattle.model.specs.declared.RecordingParts.{RecordingParts}
 use Rattle.model.specs.declared.WitnessParts.{WitnessParts}
-use Rattle.frame.specs.Filled.{filled}
+use Rattle.columns.specs.Filled.{filled}
 
 abbrev pub fillerAt : List ℕ → ℕ
 fillerAt b = byteAt b 2

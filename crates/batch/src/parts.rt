@@ -1,6 +1,6 @@
 // The parts of a table, a recording and a witness as a case's files give them, so that they can be parts that no reading gives.
-use frame::column::bytes_column;
-use frame::column::words_column;
+use columns::bytes_column;
+use columns::words_column;
 use model::GUARD_LIMIT;
 use model::KIND_LIMIT;
 use model::ROW_LIMIT;

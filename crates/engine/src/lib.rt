@@ -1,7 +1,7 @@
 // Validation (document 01): can the unit have kept the protocol? The verdict, its cost, and the preferred witness.
 mod judge;
 
-use frame::edition::rows_place;
+use editions::rows_place;
 use judge::judge;
 use lent::Loan;
 use lent::lent_answer;

@@ -1,12 +1,9 @@
 // What the three kinds of bytes share: length and version in front, and writing into a room what reads as sound.
-pub mod column;
-pub mod edition;
-
-use crate::edition::count_place;
-use crate::edition::rows_place;
-use crate::edition::size_at;
-use crate::edition::size_width;
-use crate::edition::version_of;
+use editions::count_place;
+use editions::rows_place;
+use editions::size_at;
+use editions::size_width;
+use editions::version_of;
 use model::Edition;
 use model::Reading;
 use model::Refusal;

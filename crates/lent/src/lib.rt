@@ -1,5 +1,5 @@
 // What is lent: the numbers 30 and 31.
-use frame::edition::latest_time;
+use editions::latest_time;
 use frame::sound;
 use model::Edition;
 use model::Reading;

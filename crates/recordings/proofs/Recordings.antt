@@ -30,7 +30,7 @@ use Rattle.model.proofs.RecordingForm.{recording-facts}
 use Rattle.model.proofs.Tests.{then-sound}
 use Rattle.frame.proofs.Answers.{goes, sound-is}
 use Rattle.scan.proofs.Steps.{left}
-use Rattle.frame.proofs.Columns.{joined-long}
+use Rattle.columns.proofs.Columns.{joined-long}
 use Rattle.frame.proofs.Written.{high, taken, write-refused}
 
 module _ (table b : List ℕ) where

@@ -1,6 +1,6 @@
 // The recording, read and written against a table, whose numbers come first.
-use frame::column::bytes_column;
-use frame::column::words_column;
+use columns::bytes_column;
+use columns::words_column;
 use frame::put;
 use frame::put_frame;
 use frame::rows_framed;

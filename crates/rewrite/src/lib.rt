@@ -1,7 +1,7 @@
 // Bytes read and written again: the first refusal of either, else the bytes of the parts that were read.
 pub mod back;
 
-use frame::edition::rows_place;
+use editions::rows_place;
 use frame::put_frame;
 use model::Edition;
 use model::Reading;

@@ -29,7 +29,7 @@ use Rattle.model.proofs.KindForm.{kind-next, kind-most, kind-length, kinds-leng
 use Rattle.model.proofs.TableTrip.{monitor-back}
 use Rattle.wire.specs.Placed.{placed}
 use Rattle.wire.proofs.Room.{placed-behind}
-use Rattle.frame.proofs.Columns.{joined-most}
+use Rattle.columns.proofs.Columns.{joined-most}
 use Rattle.frame.proofs.Written.{placed-first, write-refused}
 use Rattle.frame.proofs.Answers.{stops, sound-is}
 use Rattle.scan.proofs.Scans.{counts-bound}

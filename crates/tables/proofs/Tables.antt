@@ -19,7 +19,7 @@ use Rattle.model.specs.declared.Reading.{Reading}
 use Rattle.model.specs.declared.Reading.the-variants.{Sound, Unsound}
 use Rattle.model.proofs.TableForm.{TableFacts, scan-facts, places}
 use Rattle.wire.specs.Placed.{placed}
-use Rattle.frame.proofs.Columns.{joined-long, place-more}
+use Rattle.columns.proofs.Columns.{joined-long, place-more}
 use Rattle.scan.proofs.Scans.{counts-bound}
 use Rattle.model.proofs.Tests.{then-sound}
 

@@ -1,6 +1,6 @@
 // The table: its fill, which copies, and what reading and writing give.
-use frame::column::bytes_column;
-use frame::column::smaller;
+use columns::bytes_column;
+use columns::smaller;
 use frame::is_version;
 use frame::put;
 use frame::sound;

@@ -11,7 +11,7 @@ ghost use Rattle.model.specs.Witness.{rowAt};
 ghost use Rattle.model.specs.Desk.{digits, spaced, refusedWord, line, rejectedLine, markWord, rowLine, rowLines, verdictLines};
 ghost use Rattle.witness.specs.Rows.{rowOf};
 ghost use Rattle.text.specs.Put.{Wrote, Small, rowsStanding};
-use frame::edition::most_rows;
+use editions::most_rows;
 use model::Edition;
 use model::KEPT;
 use model::REMOVED;

@@ -1,10 +1,10 @@
 // The form of a witness, of either edition: frame, rows and their order, without a table or a recording. Each public function takes any input.
-use frame::edition::count_place;
-use frame::edition::latest_time;
-use frame::edition::most_rows;
-use frame::edition::rows_place;
-use frame::edition::size_at;
-use frame::edition::size_width;
+use editions::count_place;
+use editions::latest_time;
+use editions::most_rows;
+use editions::rows_place;
+use editions::size_at;
+use editions::size_width;
 use frame::rows_framed;
 use frame::sound;
 use model::ADDED;

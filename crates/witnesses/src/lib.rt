@@ -1,9 +1,9 @@
 // The parts of a witness, of either edition: read and written by its form alone.
-use frame::column::bytes_column;
-use frame::column::words_column;
-use frame::edition::count_place;
-use frame::edition::most_rows;
-use frame::edition::rows_place;
+use columns::bytes_column;
+use columns::words_column;
+use editions::count_place;
+use editions::most_rows;
+use editions::rows_place;
 use frame::put_frame;
 use frame::sound;
 use model::Edition;

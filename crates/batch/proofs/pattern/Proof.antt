@@ -7,7 +7,7 @@ use mathlib.Core.List.{List, _++_, append-nil}
 use lib.ListN.{length, drop, set, length-set}
 use lib.Seq.{drop-length}
 use Rattle.model.specs.Bytes.{tab}
-use Rattle.frame.proofs.Columns.{column-more}
+use Rattle.columns.proofs.Columns.{column-more}
 use Rattle.batch.specs.Batch.{patternAt}
 use Rattle.batch.proofs.pattern.Statement.{statement}
 use Rattle.batch.proofs.pattern.Tie as tie

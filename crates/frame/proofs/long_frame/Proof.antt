@@ -1,5 +1,5 @@
 use native.Mathlib.Omega.{arith}
-use Rattle.frame.proofs.Columns.{step-bound}
+use Rattle.columns.proofs.Columns.{step-bound}
 use borrow.Author.Needs.{needs}
 use Rattle.frame.proofs.long_frame.Statement.{statement}
 use Rattle.frame.proofs.long_frame.Tie as tie

@@ -2,8 +2,8 @@ use borrow.Author.Tests.{le-leb, lt-leb, eq-eqb, ne-eqb, not-true, not-false}
 use native.Mathlib.Omega.{arith}
 use mathlib.Core.Path.{sym, _∙_}
 use Rattle.model.specs.Frame.{framedRows}
+use Rattle.columns.proofs.Columns.{step-bound}
 use Rattle.frame.proofs.Answers.{stops, goes}
-use Rattle.frame.proofs.Columns.{step-bound}
 use borrow.Author.Needs.{needs}
 use Rattle.frame.proofs.rows_framed.Statement.{statement}
 use Rattle.frame.proofs.rows_framed.Tie as tie

@@ -3,7 +3,7 @@ use mathlib.Core.Path.{refl, ap, _∙_}
 use Rattle.model.specs.Limits.{rowLimit}
 use Rattle.model.specs.Bytes.{padded, tab}
 use Rattle.model.specs.Recording.{recordingParts, timeAt}
-use Rattle.frame.proofs.Columns.{filled-zeros}
+use Rattle.columns.proofs.Columns.{filled-zeros}
 use borrow.Author.Needs.{needs}
 use Rattle.recordings.proofs.time_column.Statement.{statement}
 use Rattle.recordings.proofs.time_column.Tie as tie

@@ -9,7 +9,7 @@ use Rattle.model.specs.Kinds.{versionAt, kindAt, deviceAt}
 use Rattle.model.specs.Table.{kindsAt}
 use Rattle.model.proofs.Basics.{getD-tab}
 use Rattle.monitor.specs.From.{monitorFrom}
-use Rattle.frame.proofs.Columns.{column-padded, column-more}
+use Rattle.columns.proofs.Columns.{column-padded, column-more}
 use borrow.Author.Needs.{needs}
 use Rattle.tables.proofs.device_column.Statement.{statement}
 use Rattle.tables.proofs.device_column.Tie as tie

@@ -4,7 +4,7 @@ use mathlib.Core.Path.{_≡_, refl, ap, _∙_}
 use Rattle.model.specs.Limits.{kindLimit}
 use Rattle.model.specs.Bytes.{byteAt, padded, tab}
 use Rattle.model.specs.Kinds.{versionAt, kindWidth, kindAt}
-use Rattle.frame.proofs.Columns.{filled-zeros}
+use Rattle.columns.proofs.Columns.{filled-zeros}
 use Rattle.model.proofs.Places.{tab-same}
 use borrow.Author.Needs.{needs}
 use Rattle.tables.proofs.kind_column.Statement.{statement}

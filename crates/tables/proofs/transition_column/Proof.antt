@@ -1,5 +1,5 @@
 use Rattle.model.specs.Limits.{transitionLimit}
-use Rattle.frame.proofs.Columns.{column-padded, column-more}
+use Rattle.columns.proofs.Columns.{column-padded, column-more}
 use Rattle.tables.proofs.Tables.{next-at}
 use Rattle.model.specs.Bytes.{padded, byteAt, tab}
 use Prim.Native.Nat.{ℕ, _≤_, _-_, _+_, _*_}

@@ -2,7 +2,7 @@ use native.Mathlib.Omega.{arith}
 use mathlib.Core.Path.{_∙_}
 use Rattle.model.specs.Witness.{writeWitness}
 use Rattle.frame.proofs.Written.{write-refused}
-use Rattle.frame.proofs.Columns.{all-below}
+use Rattle.columns.proofs.Columns.{all-below}
 use Rattle.witnesses.proofs.Encoded.{too-many, writable, write-short, write-fits}
 use borrow.Author.Needs.{needs}
 use Rattle.witnesses.proofs.write_witness.Statement.{statement}

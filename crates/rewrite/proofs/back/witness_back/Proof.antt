@@ -1,6 +1,6 @@
 use native.Mathlib.Omega.{arith}
 use borrow.Author.Needs.{needs}
-use Rattle.frame.proofs.Columns.{all-below}
+use Rattle.columns.proofs.Columns.{all-below}
 use Rattle.rewrite.proofs.Kept.{witness-fits, witness-read, witness-unwritten}
 use Rattle.rewrite.proofs.back.witness_back.Statement.{statement}
 use Rattle.rewrite.proofs.back.witness_back.Tie as tie

@@ -2,8 +2,8 @@ use native.Mathlib.Omega.{arith}
 use mathlib.Core.Path.{_≡_}
 use Rattle.model.specs.declared.Edition.the-variants.{One, Two}
 use borrow.Author.Needs.{needs}
-use Rattle.frame.proofs.edition.size_at.Statement.{statement}
-use Rattle.frame.proofs.edition.size_at.Tie as tie
+use Rattle.editions.proofs.size_at.Statement.{statement}
+use Rattle.editions.proofs.size_at.Tie as tie
 
 enum-told : tie.Need-enum-told
 enum-told c = search needs

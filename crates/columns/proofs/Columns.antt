@@ -16,7 +16,7 @@ use Rattle.model.specs.Room.{over}
 use Rattle.model.proofs.Basics.{length-tab}
 use Rattle.wire.specs.Placed.{placed}
 use Rattle.wire.proofs.Room.{placed-behind}
-use Rattle.frame.specs.Filled.{filled}
+use Rattle.columns.specs.Filled.{filled}
 
 -- one more place of a column
 pub column-more : (f : ℕ → ℕ) (room : List ℕ) (i : ℕ) → i < length room → set (tab f i ++ drop i room) i (f i) ≡ tab f (i + 1) ++ drop (i + 1) room

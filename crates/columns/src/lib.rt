@@ -4,7 +4,7 @@ use wire::word;
 ghost use mathlib.Core.Path.{_≡_};
 ghost use Prim.Native.Nat.{_+_, _*_, min};
 ghost use Rattle.model.specs.Bytes.{byteAt, wordAt};
-ghost use Rattle.frame.specs.Filled.{filled};
+ghost use Rattle.columns.specs.Filled.{filled};
 
 pub fn smaller(a: usize, b: usize) -> usize
     ensures { λ r. ⌜ r ≡ min a b ⌝ }
