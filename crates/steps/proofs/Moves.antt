@@ -12,36 +12,27 @@ use borrow.Author.Tests.{eq-eqb, ne-eqb}
 use Rattle.model.specs.Bytes.{byteAt}
 use Rattle.model.specs.Guard.{holds}
 use Rattle.model.specs.Rule.{windowBehind, allows}
-use Rattle.model.specs.Monitor.{Monitor, Transition, under, fires, airtime, toUnit, isGuess, withinRule, after}
+use Rattle.model.specs.Monitor.{Monitor, Transition, under, fires, airtime, isGuess, withinRule, after}
 use Rattle.model.specs.Table.{transitionsAt}
-use Rattle.model.specs.Situation.{keep, rest, add, configOf, tick, onAir, sent, missed, moved, stepBy, restMove, firstAdd, moveOf}
+use Rattle.model.specs.Situation.{keep, add, configOf, tick, onAir, sent, moved, stepBy, restMove, firstAdd, moveOf}
 use Rattle.model.specs.declared.Config.{Config}
 use Rattle.model.specs.declared.Rule.{Rule}
 use Rattle.model.specs.declared.Situation.{Situation}
 use Rattle.model.proofs.Basics.{getElem-tab, getElem-tab-past}
 use Rattle.model.proofs.Instants.{moveOf-keep, move-add}
-use Rattle.model.proofs.Numbering.{outcome, sending}
+use Rattle.model.proofs.Numbering.{outcome}
 use Rattle.monitor.specs.From.{firing, monitorFrom, transitionFrom}
 use Rattle.monitor.specs.declared.Fired.{Fired}
 use Rattle.situation.specs.declared.Shape.{Shape}
 use Rattle.situation.specs.Numbering.{cappedBy}
 use Rattle.situation.specs.declared.Next.{Next}
-use Rattle.steps.specs.Steps.{leading, nextOf, tickedBy, stepped, sentBy, missedBy, triggerFrom}
+use Rattle.rests.specs.Resting.{leading, tickedBy, stepped}
+use Rattle.rests.proofs.Removed.{nowhere, there, TakesAir, on-air}
+use Rattle.steps.specs.Steps.{nextOf, sentBy, triggerFrom}
 
 pub next-leading : (s : Situation) (o : Option Situation) → nextOf (leading s o) ≡ o
 next-leading s none = refl
 next-leading s (some x) = refl
-
-abbrev nowhere : Situation → Next
-nowhere s = record { leads = false; to = s }
-
-abbrev there : Situation → Next
-there x = record { leads = true; to = x }
-
--- the tick
-
-pub still-ticked : (h : Shape) (s : Situation) (air : ℕ) → air ≡ s .air - 1 → tickedBy h (configOf s) air (s .window) ≡ tick (cappedBy h) s
-still-ticked h s air e = ap (λ (x : ℕ). tickedBy h (configOf s) x (s .window)) e
 
 -- a rule is no part of how a monitor fires
 
@@ -67,19 +58,6 @@ when-fired c (some d) e = refl
 when-unfired : (c : Config) (o : Option Config) → firing c o .fired ≡ false → o ≡ none
 when-unfired c none e = refl
 when-unfired c (some d) e = cc
-
--- the packet takes the air for its airtime, once the tick is past
-module _ (h : Shape) (m : Monitor) (k : ℕ) (s : Situation) (window : ℕ) where
-  abbrev TakesAir : Option Config → Next
-  TakesAir o = leading s (Option·map (λ c. tickedBy h c (airtime m k) window) o)
-
-  on-air : s .air ≡ 0 → (o : Option Config) → leading s (Option·map (tick (cappedBy h)) (onAir m k s window o)) ≡ TakesAir o
-  on-air free o =
-      ap (λ (b : Bool). leading s (Option·map (tick (cappedBy h)) (cond b (Option·map (sending m k window) o) none))) (eq-eqb (s .air) 0 free) ∙ on o
-    where
-      on : (p : Option Config) → leading s (Option·map (tick (cappedBy h)) (Option·map (sending m k window) p)) ≡ TakesAir p
-      on none = refl
-      on (some c) = ap (λ (air : ℕ). there (tickedBy h c air window)) (omega arith)
 
 module _ (h : Shape) (m : Monitor) (guess : Bool) (j k : ℕ) (s : Situation) where
   sent-taken : (s .air ≡ 0 → ⊥) → sent m guess j k s ≡ none
@@ -140,37 +118,9 @@ unfolding stepped stepBy moved sentBy
 kept-taken h m s j e none = refl
 kept-taken h m s j e (some k) = sent-nowhere h m false j k s e
 
-module _ (h : Shape) (m : Monitor) (s : Situation) where
-  pub kept-nothing : (j : ℕ) → nowhere s ≡ stepped h m none s (keep j)
-  unfolding stepped stepBy moved
-  kept-nothing j = refl
-
-  pub rested-nothing : there (tick (cappedBy h) s) ≡ stepped h m none s rest
-  unfolding stepped stepBy moved
-  rested-nothing = refl
-
--- a removed row
-
-module _ (h : Shape) (m : Monitor) (k : ℕ) (s : Situation) where
-  pub missed-taken : (s .air ≡ 0 → ⊥) → nowhere s ≡ missedBy h m k s
-  unfolding missedBy missed
-  missed-taken e = simp (ne-eqb (s .air) 0 e)
-
-  missed-free : s .air ≡ 0 → (unit : Bool) → toUnit m k ≡ unit → missedBy h m k s ≡ TakesAir h m k s (s .window) (cond unit (some (configOf s)) none)
-  unfolding missedBy missed
-  missed-free free unit e =
-      ap (λ (b : Bool). leading s (Option·map (tick (cappedBy h)) (onAir m k s (s .window) (cond b (some (configOf s)) none)))) e
-      ∙ on-air h m k s (s .window) free (cond unit (some (configOf s)) none)
-
-  pub missed-not : s .air ≡ 0 → toUnit m k ≡ false → nowhere s ≡ missedBy h m k s
-  missed-not free e = sym (missed-free free false e)
-
-  pub missed-row : s .air ≡ 0 → toUnit m k ≡ true → there (tickedBy h (configOf s) (airtime m k) (s .window)) ≡ missedBy h m k s
-  missed-row free e = sym (missed-free free true e)
-
-  pub removed-row : missedBy h m k s ≡ stepped h m (some k) s rest
-  unfolding missedBy stepped stepBy moved
-  removed-row = refl
+pub kept-nothing : (h : Shape) (m : Monitor) (s : Situation) (j : ℕ) → nowhere s ≡ stepped h m none s (keep j)
+unfolding stepped stepBy moved
+kept-nothing h m s j = refl
 
 -- an added row
 

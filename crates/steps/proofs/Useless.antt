@@ -19,8 +19,9 @@ use Rattle.monitor.specs.From.{monitorFrom, transitionFrom}
 use Rattle.situation.specs.declared.Shape.{Shape}
 use Rattle.situation.specs.Numbering.{numberBy, cappedBy}
 use Rattle.situation.specs.Ruled.{ruledFrom}
+use Rattle.rests.specs.Resting.{stepped}
 use Rattle.steps.specs.Stepping.{arriveFrom}
-use Rattle.steps.specs.Steps.{nextOf, stepped}
+use Rattle.steps.specs.Steps.{nextOf}
 use Rattle.steps.proofs.Moves.{neither, next-leading, taken-nowhere}
 
 module _ (table offsets : List ℕ) (h : Shape) (s : Situation) (k : ℕ) where

@@ -9,7 +9,8 @@ use Rattle.rule.specs.Within.{within}
 use Rattle.situation.specs.declared.Heard.{Heard}
 use Rattle.steps.specs.declared.Trigger.the-variants.{Kind}
 use Rattle.situation.specs.Rows.{heardOf}
-use Rattle.steps.specs.Steps.{triggerKind, triggerFrom, sentBy, stepped}
+use Rattle.rests.specs.Resting.{stepped}
+use Rattle.steps.specs.Steps.{triggerKind, triggerFrom, sentBy}
 use Rattle.situation.specs.Ruled.{ruledFrom}
 use Rattle.steps.proofs.Moves.{trigger-under, added-heard, added-none, added-row}
 use Rattle.steps.proofs.added.Statement.{statement}

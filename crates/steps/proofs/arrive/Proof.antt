@@ -10,7 +10,7 @@ use Rattle.situation.specs.declared.Shape.{Shape}
 use Rattle.situation.specs.declared.Next.{Next}
 use Rattle.situation.specs.Numbering.{numberBy, cappedBy}
 use Rattle.model.specs.Situation.{stepBy, moveOf}
-use Rattle.steps.specs.Steps.{leading, stepped}
+use Rattle.rests.specs.Resting.{leading, stepped}
 use Rattle.situation.specs.Ruled.{ruledFrom}
 use Rattle.steps.specs.Stepping.{arriveFrom}
 use Rattle.steps.proofs.arrive.Statement.{statement}

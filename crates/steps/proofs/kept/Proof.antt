@@ -3,7 +3,7 @@ use Rattle.model.specs.Situation.{keep}
 use Rattle.situation.specs.declared.Heard.{Heard}
 use Rattle.situation.specs.declared.Heard.the-variants.{Kind}
 use Rattle.situation.specs.Rows.{heardOf}
-use Rattle.steps.specs.Steps.{stepped}
+use Rattle.rests.specs.Resting.{stepped}
 use Rattle.situation.specs.Ruled.{ruledFrom}
 use Rattle.steps.proofs.Moves.{kept-nothing, kept-row}
 use borrow.Author.Needs.{needs}

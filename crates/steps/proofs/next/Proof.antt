@@ -1,5 +1,5 @@
 use mathlib.Core.Path.{ap, sym, _∙_}
-use Rattle.steps.specs.Steps.{stepped}
+use Rattle.rests.specs.Resting.{stepped}
 use Rattle.model.proofs.Instants.{moveOf-keep, move-rest, move-add}
 use Rattle.steps.proofs.Moves.{taken-nowhere}
 use native.Mathlib.Omega.{arith}

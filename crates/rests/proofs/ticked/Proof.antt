@@ -1,9 +1,9 @@
 use mathlib.Core.Path.{_≡_, sym, _∙_}
 use lib.ListN.{length, length-map}
-use Rattle.steps.proofs.Ticks.{ticked-with}
+use Rattle.rests.proofs.Ticks.{ticked-with}
 use borrow.Author.Needs.{needs}
-use Rattle.steps.proofs.ticked.Statement.{statement}
-use Rattle.steps.proofs.ticked.Tie as tie
+use Rattle.rests.proofs.ticked.Statement.{statement}
+use Rattle.rests.proofs.ticked.Tie as tie
 
 array-read-clock-ticked : tie.Need-array-read-clock-ticked
 array-read-clock-ticked c = search needs

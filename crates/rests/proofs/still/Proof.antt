@@ -2,11 +2,11 @@ use Prim.Native.Nat.{_-_}
 use native.Mathlib.Omega.{arith}
 use mathlib.Core.Path.{refl, ap, _∙_}
 use Rattle.model.specs.declared.Config.{Config}
-use Rattle.steps.specs.Steps.{tickedBy}
-use Rattle.steps.proofs.Moves.{still-ticked}
+use Rattle.rests.specs.Resting.{tickedBy}
+use Rattle.rests.proofs.Removed.{still-ticked}
 use borrow.Author.Needs.{needs}
-use Rattle.steps.proofs.still.Statement.{statement}
-use Rattle.steps.proofs.still.Tie as tie
+use Rattle.rests.proofs.still.Statement.{statement}
+use Rattle.rests.proofs.still.Tie as tie
 
 config-of-requires : tie.Need-config-of-requires
 config-of-requires c κs = search needs

@@ -5,12 +5,12 @@ use Rattle.model.specs.declared.Situation.{Situation}
 use Rattle.situation.specs.declared.Heard.{Heard}
 use Rattle.situation.specs.declared.Heard.the-variants.{Kind}
 use Rattle.situation.specs.Rows.{heardOf}
-use Rattle.steps.specs.Steps.{stepped}
+use Rattle.rests.specs.Resting.{stepped}
 use Rattle.situation.specs.Ruled.{ruledFrom}
-use Rattle.steps.proofs.Moves.{rested-nothing, removed-row}
+use Rattle.rests.proofs.Removed.{rested-nothing, removed-row}
 use borrow.Author.Needs.{needs}
-use Rattle.steps.proofs.rested.Statement.{statement}
-use Rattle.steps.proofs.rested.Tie as tie
+use Rattle.rests.proofs.rested.Statement.{statement}
+use Rattle.rests.proofs.rested.Tie as tie
 
 enum-told : tie.Need-enum-told
 enum-told c = search needs

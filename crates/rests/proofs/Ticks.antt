@@ -7,7 +7,7 @@ use lib.ListN.{length, getD}
 use Rattle.model.specs.declared.Config.{Config}
 use Rattle.situation.specs.declared.Shape.{Shape}
 use Rattle.situation.specs.Numbering.{cappedBy}
-use Rattle.steps.specs.Steps.{tickedBy}
+use Rattle.rests.specs.Resting.{tickedBy}
 
 written : (h : Shape) (c : List ℕ) → length c ≡ 2 → min (getD c 0 0 + 1) (h .first - 1) ∷ min (getD c 1 0 + 1) (h .second - 1) ∷ [] ≡ cappedBy h (map (λ x. x + 1) c)
 unfolding cappedBy

@@ -7,11 +7,11 @@ use borrow.Author.Needs.{needs}
 use Rattle.model.specs.Monitor.{airtime}
 use Rattle.model.specs.declared.Config.{Config}
 use Rattle.model.specs.declared.Situation.{Situation}
-use Rattle.steps.specs.Steps.{tickedBy}
+use Rattle.rests.specs.Resting.{tickedBy}
 use Rattle.situation.specs.Ruled.{ruledFrom}
-use Rattle.steps.proofs.Moves.{missed-taken, missed-not, missed-row}
-use Rattle.steps.proofs.missed.Statement.{statement}
-use Rattle.steps.proofs.missed.Tie as tie
+use Rattle.rests.proofs.Removed.{missed-taken, missed-not, missed-row}
+use Rattle.rests.proofs.missed.Statement.{statement}
+use Rattle.rests.proofs.missed.Tie as tie
 
 nowhere-requires : tie.Need-nowhere-requires
 nowhere-requires c κs = search needs
