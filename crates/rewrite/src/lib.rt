@@ -1,6 +1,4 @@
 // Bytes read and written again: the first refusal of either, else the bytes of the parts that were read.
-pub mod back;
-
 use editions::rows_place;
 use frame::put_frame;
 use model::Edition;

@@ -38,7 +38,7 @@ use Rattle.model.proofs.TableForm.{scan-sound}
 use Rattle.model.proofs.TableTrip.{sound-back, table-back, zero-beyond}
 use Rattle.model.proofs.RecordingForm.{recording-back, recording-zero}
 use Rattle.model.proofs.WitnessForm.{witness-parts-back, witness-zero}
-use Rattle.rewrite.specs.Back.{backBy, tableBack, recordingBack, witnessBack, TableKept, RecordingKept, WitnessKept, ReadsBack}
+use Rattle.read_back.specs.Back.{backBy, tableBack, recordingBack, witnessBack, TableKept, RecordingKept, WitnessKept, ReadsBack}
 
 -- what was written lies within the room
 module _ (w : Writing) (roomThen : List ℕ) (n : ℕ) where

@@ -1,9 +1,9 @@
 use native.Mathlib.Omega.{arith}
 use borrow.Author.Needs.{needs}
 use Rattle.columns.proofs.Columns.{all-below}
-use Rattle.rewrite.proofs.Kept.{witness-fits, witness-read, witness-unwritten}
-use Rattle.rewrite.proofs.back.witness_back.Statement.{statement}
-use Rattle.rewrite.proofs.back.witness_back.Tie as tie
+use Rattle.read_back.proofs.Kept.{witness-fits, witness-read, witness-unwritten}
+use Rattle.read_back.proofs.witness_back.Statement.{statement}
+use Rattle.read_back.proofs.witness_back.Tie as tie
 
 write-witness-requires : tie.Need-write-witness-requires
 write-witness-requires c κs = search needs

@@ -1,8 +1,8 @@
 use mathlib.Core.Path.{refl, ap, _∙_}
 use borrow.Author.Needs.{needs}
-use Rattle.rewrite.proofs.Kept.{no-table-read}
-use Rattle.rewrite.proofs.back.refused_table.Statement.{statement}
-use Rattle.rewrite.proofs.back.refused_table.Tie as tie
+use Rattle.read_back.proofs.Kept.{no-table-read}
+use Rattle.read_back.proofs.refused_table.Statement.{statement}
+use Rattle.read_back.proofs.refused_table.Tie as tie
 
 slice-aggregate-read-table : tie.Need-slice-aggregate-read-table
 slice-aggregate-read-table c = search needs

@@ -1,8 +1,8 @@
 use mathlib.Core.Path.{refl, ap, _∙_}
 use borrow.Author.Needs.{needs}
-use Rattle.rewrite.proofs.Kept.{no-witness-read}
-use Rattle.rewrite.proofs.back.refused_witness.Statement.{statement}
-use Rattle.rewrite.proofs.back.refused_witness.Tie as tie
+use Rattle.read_back.proofs.Kept.{no-witness-read}
+use Rattle.read_back.proofs.refused_witness.Statement.{statement}
+use Rattle.read_back.proofs.refused_witness.Tie as tie
 
 slice-aggregate-read-witness : tie.Need-slice-aggregate-read-witness
 slice-aggregate-read-witness c = search needs

@@ -1,8 +1,8 @@
 use mathlib.Core.Path.{refl, ap, _∙_}
 use borrow.Author.Needs.{needs}
-use Rattle.rewrite.proofs.Kept.{no-recording-read}
-use Rattle.rewrite.proofs.back.refused_recording.Statement.{statement}
-use Rattle.rewrite.proofs.back.refused_recording.Tie as tie
+use Rattle.read_back.proofs.Kept.{no-recording-read}
+use Rattle.read_back.proofs.refused_recording.Statement.{statement}
+use Rattle.read_back.proofs.refused_recording.Tie as tie
 
 slice-aggregate-read-recording : tie.Need-slice-aggregate-read-recording
 slice-aggregate-read-recording c = search needs

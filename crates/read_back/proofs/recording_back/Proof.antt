@@ -1,9 +1,9 @@
 use native.Mathlib.Omega.{arith}
 use borrow.Author.Needs.{needs}
 use Rattle.columns.proofs.Columns.{all-below}
-use Rattle.rewrite.proofs.Kept.{recording-fits, recording-read, recording-unwritten}
-use Rattle.rewrite.proofs.back.recording_back.Statement.{statement}
-use Rattle.rewrite.proofs.back.recording_back.Tie as tie
+use Rattle.read_back.proofs.Kept.{recording-fits, recording-read, recording-unwritten}
+use Rattle.read_back.proofs.recording_back.Statement.{statement}
+use Rattle.read_back.proofs.recording_back.Tie as tie
 
 write-recording-requires : tie.Need-write-recording-requires
 write-recording-requires c κs = search needs

@@ -20,7 +20,7 @@ ghost use Rattle.model.specs.Table.{writeTable, noTable};
 ghost use Rattle.model.specs.Recording.{writeRecording, noRecording};
 ghost use Rattle.model.specs.Witness.{writeWitness, noWitness};
 ghost use Rattle.model.specs.declared.Reading.the-variants.{Unsound};
-ghost use Rattle.rewrite.specs.Back.{tableBack, recordingBack, witnessBack, TableKept, RecordingKept, WitnessKept, ReadsBack};
+ghost use Rattle.read_back.specs.Back.{tableBack, recordingBack, witnessBack, TableKept, RecordingKept, WitnessKept, ReadsBack};
 
 // No bytes are no table: reading them gives parts that are all 0.
 fn refused_table(why: Refusal) -> TableReading

@@ -2,9 +2,9 @@ use native.Mathlib.Omega.{arith}
 use mathlib.Core.Path.{sym, _∙_}
 use lib.ListN.{length-map}
 use borrow.Author.Needs.{needs}
-use Rattle.rewrite.proofs.Kept.{table-fits, table-read, table-unwritten}
-use Rattle.rewrite.proofs.back.table_back.Statement.{statement}
-use Rattle.rewrite.proofs.back.table_back.Tie as tie
+use Rattle.read_back.proofs.Kept.{table-fits, table-read, table-unwritten}
+use Rattle.read_back.proofs.table_back.Statement.{statement}
+use Rattle.read_back.proofs.table_back.Tie as tie
 
 write-table-requires : tie.Need-write-table-requires
 write-table-requires c κs = search needs
