@@ -1,7 +1,6 @@
 // The walk along the least moves, whose rows are the preferred witness.
 use editions::rows_place;
 use frame::put_frame;
-use layers::Span;
 use layers::least_into;
 use measures::Measures;
 use model::ADDED;
@@ -12,6 +11,7 @@ use model::MOVE_LIMIT;
 use model::NO_TRANSITION;
 use model::REMOVED;
 use model::REST;
+use rows::span::Span;
 use situation::Heard;
 use situation::Shape;
 use situation::rows::heard_at;

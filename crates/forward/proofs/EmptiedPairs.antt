@@ -20,9 +20,9 @@ use Rattle.monitor.specs.From.{transitionCount}
 use Rattle.situation.specs.Rows.{heardAt}
 use Rattle.situation.specs.Numbering.{situationBy}
 use Rattle.situation.proofs.Cursors.{heard-recorded}
-use Rattle.layers.specs.Pairing.{answersInRow, CountedIn}
-use Rattle.layers.specs.declared.pairs.Pairs.{Pairs}
-use Rattle.layers.proofs.PairCounts.{same-pass}
+use Rattle.pairs.specs.Pairing.{answersInRow, CountedIn}
+use Rattle.pairs.specs.declared.Pairs.{Pairs}
+use Rattle.pairs.proofs.PairCounts.{same-pass}
 use Rattle.measures.specs.declared.Measures.{Measures}
 use Rattle.forward.specs.declared.Outcome.the-variants.{Emptied}
 use Rattle.measures.specs.Setting.{monitorBy}

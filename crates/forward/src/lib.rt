@@ -1,13 +1,13 @@
 // The forward pass: the situations possible after each instant, each set in its row of the scratch, and what they cost.
 use bits::count;
 use bits::put;
-use layers::Span;
-use layers::pairs::count_pairs;
 use measures::Measures;
 use measures::is_roomy;
 use memo::advance;
 use memo::forget;
+use pairs::count_pairs;
 use rows::load;
+use rows::span::Span;
 use rows::store;
 use situation::rows::heard_at;
 use situation::rows::passed;

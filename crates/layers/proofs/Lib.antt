@@ -1,2 +1,1 @@
 mod Moves
-pub mod PairCounts

@@ -1,12 +1,11 @@
 // The least move from a situation into a set. A set is a row of bits in the scratch.
-pub mod pairs;
-mod row;
-
 use model::FIRST_ADD;
 use model::MOVE_LIMIT;
 use model::REST;
 use model::Situation;
 use monitor::transitions;
+use rows::span;
+use rows::span::Span;
 use situation::Arrival;
 use situation::Heard;
 use situation::Shape;
@@ -22,12 +21,6 @@ ghost use Rattle.situation.specs.Rows.{heardOf};
 ghost use Rattle.steps.specs.Stepping.{arrivalOf, arriveFrom};
 ghost use Rattle.situation.specs.declared.Shape.{Shape};
 ghost use Rattle.layers.specs.Into.{Enough, arrivalIn, inRow, leadsTo, leastInto, stepAt};
-
-// A row of bits in the scratch: situation z is bit start + z, for z below size.
-pub struct Span {
-    pub start: usize,
-    pub size: usize,
-}
 
 // A move, and the number that it leads to: 0 where no move was found.
 pub struct Least {
@@ -89,7 +82,7 @@ fn leads<'a>(
             if to.size as u64 <= z {
                 return Arrival::Nowhere;
             }
-            if row::has(scratch, to.start, z as usize) {
+            if span::has(scratch, to.start, z as usize) {
                 Arrival::At(z)
             } else {
                 Arrival::Nowhere

@@ -1,4 +1,6 @@
 // Sets in words to and from sets in bytes.
+pub mod span;
+
 use words::lesser;
 use words::word;
 ghost use mathlib.Core.Path.{_≡_};

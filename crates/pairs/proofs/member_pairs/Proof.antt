@@ -4,11 +4,11 @@ use Rattle.model.specs.declared.Situation.{Situation}
 use Rattle.monitor.specs.From.{transitionCount}
 use Rattle.situation.specs.Rows.{heardOf}
 use Rattle.situation.specs.Numbering.{situationBy}
-use Rattle.layers.specs.Pairing.{answersAs, answersInRow}
-use Rattle.layers.proofs.PairCounts.{no-answers, tallied-as}
+use Rattle.pairs.specs.Pairing.{answersAs, answersInRow}
+use Rattle.pairs.proofs.PairCounts.{no-answers, tallied-as}
 use borrow.Author.Needs.{needs}
-use Rattle.layers.proofs.pairs.member_pairs.Statement.{statement}
-use Rattle.layers.proofs.pairs.member_pairs.Tie as tie
+use Rattle.pairs.proofs.member_pairs.Statement.{statement}
+use Rattle.pairs.proofs.member_pairs.Tie as tie
 
 has-requires : tie.Need-has-requires
 has-requires c κs = search needs

@@ -19,8 +19,8 @@ use Rattle.model.specs.declared.Situation.{Situation}
 use Rattle.monitor.specs.From.{attemptOf, monitorFrom}
 use Rattle.monitor.specs.declared.Attempt.{Attempt}
 use Rattle.monitor.specs.declared.Attempt.the-variants.{Unfit, Answer}
-use Rattle.layers.specs.declared.pairs.Pairs.{Pairs}
-use Rattle.layers.specs.Pairing.{answersAs, OneMore, Tallied, CountedIn}
+use Rattle.pairs.specs.declared.Pairs.{Pairs}
+use Rattle.pairs.specs.Pairing.{answersAs, OneMore, Tallied, CountedIn}
 
 -- numbers that pass
 

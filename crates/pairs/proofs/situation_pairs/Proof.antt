@@ -3,11 +3,11 @@ use mathlib.Core.Option.{none}
 use Rattle.monitor.specs.From.{transitionCount}
 use Rattle.situation.specs.declared.Heard.the-variants.{Nothing, Kind}
 use Rattle.situation.specs.Rows.{heardOf}
-use Rattle.layers.specs.Pairing.{answersAs}
-use Rattle.layers.proofs.PairCounts.{no-answers, says-nothing, says-taken}
+use Rattle.pairs.specs.Pairing.{answersAs}
+use Rattle.pairs.proofs.PairCounts.{no-answers, says-nothing, says-taken}
 use borrow.Author.Needs.{needs}
-use Rattle.layers.proofs.pairs.situation_pairs.Statement.{statement}
-use Rattle.layers.proofs.pairs.situation_pairs.Tie as tie
+use Rattle.pairs.proofs.situation_pairs.Statement.{statement}
+use Rattle.pairs.proofs.situation_pairs.Tie as tie
 
 enum-known-heard : tie.Need-enum-known-heard
 enum-known-heard c = search needs

@@ -13,7 +13,7 @@ use Rattle.bits.specs.Member.{mem}
 use Rattle.monitor.specs.From.{monitorFrom}
 use Rattle.situation.specs.Numbering.{situationBy}
 use Rattle.situation.specs.declared.Shape.{Shape}
-use Rattle.layers.specs.declared.pairs.Pairs.{Pairs}
+use Rattle.pairs.specs.declared.Pairs.{Pairs}
 
 -- transition j answers a, in a situation, to what is heard
 abbrev pub answersAs : List ℕ → List ℕ → Option ℕ → Situation → Readiness → ℕ → Bool

@@ -1,10 +1,10 @@
 use mathlib.Core.Path.{_≡_}
 use Rattle.model.specs.declared.Readiness.the-variants.{Yes, NotYet, NoMore}
 use Rattle.monitor.specs.declared.Attempt.the-variants.{Unfit, Answer}
-use Rattle.layers.proofs.PairCounts.{counted-unfit, counted-yes, counted-early, counted-late}
+use Rattle.pairs.proofs.PairCounts.{counted-unfit, counted-yes, counted-early, counted-late}
 use borrow.Author.Needs.{needs}
-use Rattle.layers.proofs.pairs.with_one.Statement.{statement}
-use Rattle.layers.proofs.pairs.with_one.Tie as tie
+use Rattle.pairs.proofs.with_one.Statement.{statement}
+use Rattle.pairs.proofs.with_one.Tie as tie
 
 enum-known-tried : tie.Need-enum-known-tried
 enum-known-tried c = search needs

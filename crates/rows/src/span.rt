@@ -4,8 +4,14 @@ ghost use mathlib.Core.Path.{_≡_};
 ghost use Prim.Native.Nat.{_+_};
 ghost use Rattle.bits.specs.Member.{mem};
 
+// Number z of the row is bit start + z, for z below size.
+pub struct Span {
+    pub start: usize,
+    pub size: usize,
+}
+
 // Is z in the row? Nothing is past the end.
-pub(crate) fn has(s: &[u8], start: usize, z: usize) -> bool
+pub fn has(s: &[u8], start: usize, z: usize) -> bool
     ensures { λ r. ⌜ r ≡ mem (now (s .entry)) (start + z) ⌝ }
 {
     let at = start / 8 + z / 8;

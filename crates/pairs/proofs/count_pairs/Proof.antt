@@ -4,11 +4,11 @@ use native.Mathlib.Omega.{arith}
 use Rattle.model.specs.Limits.{sizeLimit}
 use Rattle.monitor.specs.From.{transitionCount}
 use Rattle.situation.specs.Rows.{heardOf}
-use Rattle.layers.specs.Pairing.{answersInRow}
-use Rattle.layers.proofs.PairCounts.{Counting, none-counted, counting-more, counting-few, all-counted, tallied-few}
+use Rattle.pairs.specs.Pairing.{answersInRow}
+use Rattle.pairs.proofs.PairCounts.{Counting, none-counted, counting-more, counting-few, all-counted, tallied-few}
 use borrow.Author.Needs.{needs}
-use Rattle.layers.proofs.pairs.count_pairs.Statement.{statement}
-use Rattle.layers.proofs.pairs.count_pairs.Tie as tie
+use Rattle.pairs.proofs.count_pairs.Statement.{statement}
+use Rattle.pairs.proofs.count_pairs.Tie as tie
 
 abbrev Inv-loop : tie.InvT-loop
 Inv-loop table offsets h heard scratch from end found₀ n₀ found n =

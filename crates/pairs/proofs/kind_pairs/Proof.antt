@@ -8,11 +8,11 @@ use Rattle.model.specs.Pairs.{isAnswer}
 use Rattle.model.specs.declared.Config.{Config}
 use Rattle.model.specs.declared.Readiness.{Readiness}
 use Rattle.monitor.specs.From.{attemptOf, monitorFrom, transitionCount}
-use Rattle.layers.specs.Pairing.{answersAs, Tallied}
-use Rattle.layers.proofs.PairCounts.{none-yet, one-more, tallied-few, says-free}
+use Rattle.pairs.specs.Pairing.{answersAs, Tallied}
+use Rattle.pairs.proofs.PairCounts.{none-yet, one-more, tallied-few, says-free}
 use borrow.Author.Needs.{needs}
-use Rattle.layers.proofs.pairs.kind_pairs.Statement.{statement}
-use Rattle.layers.proofs.pairs.kind_pairs.Tie as tie
+use Rattle.pairs.proofs.kind_pairs.Statement.{statement}
+use Rattle.pairs.proofs.kind_pairs.Tie as tie
 
 abbrev Inv-loop : tie.InvT-loop
 Inv-loop table offsets kind s count found₀ j₀ found j = Tallied (answersAs table offsets (some kind) s) j found × (j ≤ transitionCount table)

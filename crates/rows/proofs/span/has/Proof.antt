@@ -1,4 +1,4 @@
--- `layers::row::has` meets its contract.
+-- `rows::span::has` meets its contract.
 use Prim.Native.Nat.{ℕ, _+_, _-_, _*_, _/_, _%_}
 use native.Mathlib.Omega.{arith}
 use mathlib.Core.Path.{_≡_, sym, ap, _∙_}
@@ -8,8 +8,8 @@ use lib.Seq.{take-all}
 use borrow.Author.Needs.{needs}
 use Rattle.bits.specs.Member.{mem}
 use Rattle.bits.proofs.Laws.{mem-past, mem-drop}
-use Rattle.layers.proofs.row.has.Statement.{statement}
-use Rattle.layers.proofs.row.has.Tie as tie
+use Rattle.rows.proofs.span.has.Statement.{statement}
+use Rattle.rows.proofs.span.has.Tie as tie
 
 -- all that is behind a place
 take-rest : (s : List ℕ) (a : ℕ) → take (length s - a) (drop a s) ≡ drop a s

@@ -1,6 +1,4 @@
 // The pairs of a situation of a row and a transition, by what the transition answers there to what is recorded (R-10).
-use crate::Span;
-use crate::row;
 use model::Readiness;
 use model::SIZE_LIMIT;
 use model::Situation;
@@ -8,6 +6,8 @@ use monitor::Attempt;
 use monitor::transitions;
 use monitor::tried;
 use rests::config_of;
+use rows::span;
+use rows::span::Span;
 use situation::Heard;
 use situation::Shape;
 use situation::numbering::situation_of;
@@ -17,7 +17,7 @@ ghost use Prim.Native.Nat.{_<_, min};
 ghost use Rattle.model.specs.Limits.{transitionLimit, sizeLimit};
 ghost use Rattle.monitor.specs.From.{attemptOf, transitionCount};
 ghost use Rattle.situation.specs.Rows.{heardOf};
-ghost use Rattle.layers.specs.Pairing.{answersAs, answersInRow, OneMore, Tallied, CountedIn};
+ghost use Rattle.pairs.specs.Pairing.{answersAs, answersInRow, OneMore, Tallied, CountedIn};
 
 // How many pairs answer not yet (too early), and how many no more (too late).
 pub struct Pairs {
@@ -85,7 +85,7 @@ fn member_pairs<'a>(
 ) -> Pairs
     ensures { λ r. ⌜ Tallied (λ a j. answersInRow (now (table .entry)) (now (offsets .entry)) h (heardOf heard) (now (scratch .entry)) from a n j) (transitionCount (now (table .entry))) r ⌝ }
 {
-    if row::has(scratch, from, n) {
+    if span::has(scratch, from, n) {
         return situation_pairs(table, offsets, heard, situation_of(h, n as u64));
     }
     Pairs { early: 0, late: 0 }
