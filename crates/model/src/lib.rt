@@ -1,6 +1,6 @@
 // The values that cross from one crate to the next: the parts of a table, a recording and a witness, a situation, and the answers.
 // Their meaning is in specs/: what bytes give which parts, and which number of document 01 each answer stands for.
-// The constants are document 01's limits and codes (specs/Limits, Witness, Situation); those of a witness's editions are in `frame`.
+// The constants are document 01's limits and codes (specs/Limits, Witness, Situation); those of a witness's editions are in `editions`.
 
 // the latest version of a table
 pub const TABLE_VERSIONS: u8 = 2;
