@@ -1,6 +1,5 @@
 // The lines that the program prints, written into a lent text: as far as they fit, the rest is dropped.
 // A writer takes the place to write at and returns the place behind what it wrote, whether or not there was room; for other crates that place is the front.
-ghost use mathlib.Core.Path.{_≡_};
 ghost use mathlib.Core.List.{[], _∷_, _++_};
 ghost use Prim.Native.Nat.{_+_, _*_, _<_, _≤_};
 ghost use lib.ListN.{length};
