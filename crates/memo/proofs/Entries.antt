@@ -10,7 +10,7 @@ use lib.ListN.{length, getD, set, take, drop, length-set}
 use lib.Seq.{ext-getD, getD-set-same, getD-set-other, getD-take, getD-drop}
 use Rattle.model.specs.Monitor.{Monitor}
 use Rattle.images.specs.Advanced.{AdvancedTo, RetreatedTo}
-use Rattle.memo.specs.Known.{tagOf, Holds, Entry, Known, KnownBack}
+use Rattle.memo.specs.Known.{tagOf, Stands, Entry, Known, KnownBack}
 use Rattle.memo.specs.Changed.{Changed, Starts}
 
 tag-told : (o p : Option ℕ) → tagOf o ≡ tagOf p → o ≡ p
@@ -30,11 +30,11 @@ pub before-next : (w k l : ℕ) → k < l → w * k + w ≤ w * l
 before-next w k l h = let n : w * (k + 1) ≤ w * l = mul-le-mul-left w (omega arith) in omega arith
 
 -- sets of as many words, from one place on, are the same
-held-same : (memo : List ℕ) (place : ℕ) (a b : List ℕ) → length a ≡ length b → Holds memo place a → Holds memo place b → a ≡ b
+held-same : (memo : List ℕ) (place : ℕ) (a b : List ℕ) → length a ≡ length b → Stands memo place a → Stands memo place b → a ≡ b
 held-same memo place a b l x y = ext-getD 0 a b l (λ i h. sym (x .same i h) ∙ y .same i (omega arith))
 
 -- a part that is the words of a set
-pub part-held : (memo : List ℕ) (place : ℕ) (a : List ℕ) → take (place + length a - place) (drop place memo) ≡ a → Holds memo place a
+pub part-held : (memo : List ℕ) (place : ℕ) (a : List ℕ) → take (place + length a - place) (drop place memo) ≡ a → Stands memo place a
 part-held memo place a e =
     record {
       same = λ i l.
@@ -64,7 +64,7 @@ changed-set s at v =
       over = λ j k. getD-set-other s at j v 0 (λ e. omega arith);
     }
 
-pub held-under : {low high : ℕ} {s t : List ℕ} (place : ℕ) (a : List ℕ) → Changed low high s t → place + length a ≤ low → Holds s place a → Holds t place a
+pub held-under : {low high : ℕ} {s t : List ℕ} (place : ℕ) (a : List ℕ) → Changed low high s t → place + length a ≤ low → Stands s place a → Stands t place a
 held-under place a x l h = record { same = λ i k. x .under (place + i) (omega arith) ∙ h .same i k }
 
 -- an entry that was not written is as it was
@@ -76,7 +76,7 @@ module _ (w slot : ℕ) (s t : List ℕ) (x : Changed (w * slot) (w * slot + w) 
       by (yes l) = x .under (w * k + j) (omega (arith, before-next w k slot l))
       by (no l) = x .over (w * k + j) (omega (arith, before-next w slot k (omega arith)))
 
-  held-was : (place from : ℕ) (a : List ℕ) → place ≡ w * k + from → from + length a ≤ w → Holds t place a → Holds s place a
+  held-was : (place from : ℕ) (a : List ℕ) → place ≡ w * k + from → from + length a ≤ w → Stands t place a → Stands s place a
   held-was place from a e l h =
       record {
         same = λ i q.
@@ -137,16 +137,16 @@ known-none m n s h = (
 
 -- what is worked out is kept
 module _ (m : Monitor) (n slot : ℕ) (o : Option ℕ) (s t a z : List ℕ) (la : length a ≡ n) (lz : length z ≡ n) where
-  module _ (x : Changed ((1 + 2 * n) * slot) ((1 + 2 * n) * slot + (1 + 2 * n)) s t) (tag : getD t ((1 + 2 * n) * slot) 0 ≡ tagOf o) (ha : Holds t ((1 + 2 * n) * slot + 1) a)
-      (hz : Holds t ((1 + 2 * n) * slot + 1 + n) z) (to : AdvancedTo m o n a z) (known : Known m n s) where
+  module _ (x : Changed ((1 + 2 * n) * slot) ((1 + 2 * n) * slot + (1 + 2 * n)) s t) (tag : getD t ((1 + 2 * n) * slot) 0 ≡ tagOf o) (ha : Stands t ((1 + 2 * n) * slot + 1) a)
+      (hz : Stands t ((1 + 2 * n) * slot + 1 + n) z) (to : AdvancedTo m o n a z) (known : Known m n s) where
     known-kept : Known m n t
     known-kept = record { entries = λ k p b y lb ly e hb hy. by k p b y lb ly e hb hy (ℕ-discrete k slot) }
       where
-        by : (k : ℕ) (p : Option ℕ) (b y : List ℕ) → length b ≡ n → length y ≡ n → Entry t (1 + 2 * n) k p → Holds t ((1 + 2 * n) * k + 1) b
-            → Holds t ((1 + 2 * n) * k + 1 + n) y → Dec (k ≡ slot) → AdvancedTo m p n b y
+        by : (k : ℕ) (p : Option ℕ) (b y : List ℕ) → length b ≡ n → length y ≡ n → Entry t (1 + 2 * n) k p → Stands t ((1 + 2 * n) * k + 1) b
+            → Stands t ((1 + 2 * n) * k + 1 + n) y → Dec (k ≡ slot) → AdvancedTo m p n b y
         by k p b y lb ly e hb hy (yes q) =
-            subst (λ (v : List ℕ). AdvancedTo m p n v y) (held-same t _ a b (la ∙ sym lb) ha (subst (λ (j : ℕ). Holds t ((1 + 2 * n) * j + 1) b) q hb))
-            (subst (λ (v : List ℕ). AdvancedTo m p n a v) (held-same t _ z y (lz ∙ sym ly) hz (subst (λ (j : ℕ). Holds t ((1 + 2 * n) * j + 1 + n) y) q hy))
+            subst (λ (v : List ℕ). AdvancedTo m p n v y) (held-same t _ a b (la ∙ sym lb) ha (subst (λ (j : ℕ). Stands t ((1 + 2 * n) * j + 1) b) q hb))
+            (subst (λ (v : List ℕ). AdvancedTo m p n a v) (held-same t _ z y (lz ∙ sym ly) hz (subst (λ (j : ℕ). Stands t ((1 + 2 * n) * j + 1 + n) y) q hy))
             (subst (λ (v : Option ℕ). AdvancedTo m v n a z)
             (tag-told o p (sym tag ∙ ap (λ (j : ℕ). getD t ((1 + 2 * n) * j) 0) (sym q) ∙ e .tagged)) to))
         by k p b y lb ly e hb hy (no d) =
@@ -155,17 +155,17 @@ module _ (m : Monitor) (n slot : ℕ) (o : Option ℕ) (s t a z : List ℕ) (la 
             (held-was (1 + 2 * n) slot s t x k d _ (1 + n) y (omega arith) (omega arith) hy)
 
   module _ (b : List ℕ) (lb : length b ≡ n) (x : Changed ((1 + 3 * n) * slot) ((1 + 3 * n) * slot + (1 + 3 * n)) s t) (tag : getD t ((1 + 3 * n) * slot) 0 ≡ tagOf o)
-      (ha : Holds t ((1 + 3 * n) * slot + 1) a) (hb : Holds t ((1 + 3 * n) * slot + 1 + n) b) (hz : Holds t ((1 + 3 * n) * slot + 1 + 2 * n) z)
+      (ha : Stands t ((1 + 3 * n) * slot + 1) a) (hb : Stands t ((1 + 3 * n) * slot + 1 + n) b) (hz : Stands t ((1 + 3 * n) * slot + 1 + 2 * n) z)
       (to : RetreatedTo m o n a b z) (known : KnownBack m n s) where
     known-back : KnownBack m n t
     known-back = record { entries = λ k p c d y lc ld ly e hc hd hy. by k p c d y lc ld ly e hc hd hy (ℕ-discrete k slot) }
       where
-        by : (k : ℕ) (p : Option ℕ) (c d y : List ℕ) → length c ≡ n → length d ≡ n → length y ≡ n → Entry t (1 + 3 * n) k p → Holds t ((1 + 3 * n) * k + 1) c
-            → Holds t ((1 + 3 * n) * k + 1 + n) d → Holds t ((1 + 3 * n) * k + 1 + 2 * n) y → Dec (k ≡ slot) → RetreatedTo m p n c d y
+        by : (k : ℕ) (p : Option ℕ) (c d y : List ℕ) → length c ≡ n → length d ≡ n → length y ≡ n → Entry t (1 + 3 * n) k p → Stands t ((1 + 3 * n) * k + 1) c
+            → Stands t ((1 + 3 * n) * k + 1 + n) d → Stands t ((1 + 3 * n) * k + 1 + 2 * n) y → Dec (k ≡ slot) → RetreatedTo m p n c d y
         by k p c d y lc ld ly e hc hd hy (yes q) =
-            subst (λ (v : List ℕ). RetreatedTo m p n v d y) (held-same t _ a c (la ∙ sym lc) ha (subst (λ (j : ℕ). Holds t ((1 + 3 * n) * j + 1) c) q hc))
-            (subst (λ (v : List ℕ). RetreatedTo m p n a v y) (held-same t _ b d (lb ∙ sym ld) hb (subst (λ (j : ℕ). Holds t ((1 + 3 * n) * j + 1 + n) d) q hd))
-            (subst (λ (v : List ℕ). RetreatedTo m p n a b v) (held-same t _ z y (lz ∙ sym ly) hz (subst (λ (j : ℕ). Holds t ((1 + 3 * n) * j + 1 + 2 * n) y) q hy))
+            subst (λ (v : List ℕ). RetreatedTo m p n v d y) (held-same t _ a c (la ∙ sym lc) ha (subst (λ (j : ℕ). Stands t ((1 + 3 * n) * j + 1) c) q hc))
+            (subst (λ (v : List ℕ). RetreatedTo m p n a v y) (held-same t _ b d (lb ∙ sym ld) hb (subst (λ (j : ℕ). Stands t ((1 + 3 * n) * j + 1 + n) d) q hd))
+            (subst (λ (v : List ℕ). RetreatedTo m p n a b v) (held-same t _ z y (lz ∙ sym ly) hz (subst (λ (j : ℕ). Stands t ((1 + 3 * n) * j + 1 + 2 * n) y) q hy))
             (subst (λ (v : Option ℕ). RetreatedTo m v n a b z)
             (tag-told o p (sym tag ∙ ap (λ (j : ℕ). getD t ((1 + 3 * n) * j) 0) (sym q) ∙ e .tagged)) to)))
         by k p c d y lc ld ly e hc hd hy (no u) =
@@ -184,51 +184,51 @@ starting w place tag o s p t e =
 
 module _ (m : Monitor) (place tag : ℕ) (o : Option ℕ) (tagged : tag ≡ tagOf o) where
   module _ (s a z : List ℕ) (lz : length z ≡ length a) (p : Starts (1 + 2 * length a) (length s) place) where
-    recall : getD s place 0 ≡ tag → Holds s (place + 1) a → Holds s (place + 1 + length a) z → Known m (length a) s → AdvancedTo m o (length a) a z
+    recall : getD s place 0 ≡ tag → Stands s (place + 1) a → Stands s (place + 1 + length a) z → Known m (length a) s → AdvancedTo m o (length a) a z
     recall e ha hz known =
-        known .entries (p .slot) o a z refl lz (starting (1 + 2 * length a) place tag o s p tagged e) (subst (λ (j : ℕ). Holds s (j + 1) a) (p .start) ha)
-        (subst (λ (j : ℕ). Holds s (j + 1 + length a) z) (p .start) hz)
+        known .entries (p .slot) o a z refl lz (starting (1 + 2 * length a) place tag o s p tagged e) (subst (λ (j : ℕ). Stands s (j + 1) a) (p .start) ha)
+        (subst (λ (j : ℕ). Stands s (j + 1 + length a) z) (p .start) hz)
 
-    pub recalled : (n : ℕ) → length a ≡ n → getD s place 0 ≡ tag → Holds s (place + 1) a → Holds s (place + 1 + length a) z → Known m n s → AdvancedTo m o n a z
+    pub recalled : (n : ℕ) → length a ≡ n → getD s place 0 ≡ tag → Stands s (place + 1) a → Stands s (place + 1 + length a) z → Known m n s → AdvancedTo m o n a z
     recalled n la e ha hz = subst (λ (k : ℕ). Known m k s → AdvancedTo m o k a z) la (recall e ha hz)
 
-    module _ (t u : List ℕ) (x : Changed place (place + 1 + length a) s t) (e : getD t place 0 ≡ tag) (ha : Holds t (place + 1) a)
-        (y : Changed (place + 1 + length a) (place + 1 + length a + length z) t u) (hz : Holds u (place + 1 + length a) z) where
+    module _ (t u : List ℕ) (x : Changed place (place + 1 + length a) s t) (e : getD t place 0 ≡ tag) (ha : Stands t (place + 1) a)
+        (y : Changed (place + 1 + length a) (place + 1 + length a + length z) t u) (hz : Stands u (place + 1 + length a) z) where
       keep : AdvancedTo m o (length a) a z → Known m (length a) s → Known m (length a) u
       keep =
           known-kept m (length a) (p .slot) o s u a z refl lz
           (subst (λ (j : ℕ). Changed j (j + (1 + 2 * length a)) s u) (p .start) (changed-more (changed-wider x (omega arith) (omega arith)) y (omega arith) (omega arith)))
           (ap (λ (j : ℕ). getD u j 0) (sym (p .start)) ∙ y .under place (omega arith) ∙ e ∙ tagged)
-          (subst (λ (j : ℕ). Holds u (j + 1) a) (p .start) (held-under (place + 1) a y (omega arith) ha))
-          (subst (λ (j : ℕ). Holds u (j + 1 + length a) z) (p .start) hz)
+          (subst (λ (j : ℕ). Stands u (j + 1) a) (p .start) (held-under (place + 1) a y (omega arith) ha))
+          (subst (λ (j : ℕ). Stands u (j + 1 + length a) z) (p .start) hz)
 
       pub kept : (n : ℕ) → length a ≡ n → AdvancedTo m o n a z → Known m n s → Known m n u
       kept n la = subst (λ (k : ℕ). AdvancedTo m o k a z → Known m k s → Known m k u) la keep
 
   module _ (s a b z : List ℕ) (la : length a ≡ length b) (lz : length z ≡ length b) (p : Starts (1 + 3 * length b) (length s) place) where
-    recall-back : getD s place 0 ≡ tag → Holds s (place + 1) a → Holds s (place + 1 + length a) b → Holds s (place + 1 + 2 * length b) z
+    recall-back : getD s place 0 ≡ tag → Stands s (place + 1) a → Stands s (place + 1 + length a) b → Stands s (place + 1 + 2 * length b) z
         → KnownBack m (length b) s → RetreatedTo m o (length b) a b z
     recall-back e ha hb hz known =
-        known .entries (p .slot) o a b z la refl lz (starting (1 + 3 * length b) place tag o s p tagged e) (subst (λ (j : ℕ). Holds s (j + 1) a) (p .start) ha)
-        (subst (λ (j : ℕ). Holds s (j + 1 + length b) b) (p .start) (subst (λ (k : ℕ). Holds s (place + 1 + k) b) la hb))
-        (subst (λ (j : ℕ). Holds s (j + 1 + 2 * length b) z) (p .start) hz)
+        known .entries (p .slot) o a b z la refl lz (starting (1 + 3 * length b) place tag o s p tagged e) (subst (λ (j : ℕ). Stands s (j + 1) a) (p .start) ha)
+        (subst (λ (j : ℕ). Stands s (j + 1 + length b) b) (p .start) (subst (λ (k : ℕ). Stands s (place + 1 + k) b) la hb))
+        (subst (λ (j : ℕ). Stands s (j + 1 + 2 * length b) z) (p .start) hz)
 
-    pub recalled-back : (n : ℕ) → length b ≡ n → getD s place 0 ≡ tag → Holds s (place + 1) a → Holds s (place + 1 + length a) b
-        → Holds s (place + 1 + 2 * length b) z → KnownBack m n s → RetreatedTo m o n a b z
+    pub recalled-back : (n : ℕ) → length b ≡ n → getD s place 0 ≡ tag → Stands s (place + 1) a → Stands s (place + 1 + length a) b
+        → Stands s (place + 1 + 2 * length b) z → KnownBack m n s → RetreatedTo m o n a b z
     recalled-back n lb e ha hb hz = subst (λ (k : ℕ). KnownBack m k s → RetreatedTo m o k a b z) lb (recall-back e ha hb hz)
 
-    module _ (t u : List ℕ) (x : Changed place (place + 1 + length a + length b) s t) (e : getD t place 0 ≡ tag) (ha : Holds t (place + 1) a)
-        (hb : Holds t (place + 1 + length a) b) (y : Changed (place + 1 + 2 * length b) (place + 1 + 2 * length b + length z) t u)
-        (hz : Holds u (place + 1 + 2 * length b) z) where
+    module _ (t u : List ℕ) (x : Changed place (place + 1 + length a + length b) s t) (e : getD t place 0 ≡ tag) (ha : Stands t (place + 1) a)
+        (hb : Stands t (place + 1 + length a) b) (y : Changed (place + 1 + 2 * length b) (place + 1 + 2 * length b + length z) t u)
+        (hz : Stands u (place + 1 + 2 * length b) z) where
       keep-back : RetreatedTo m o (length b) a b z → KnownBack m (length b) s → KnownBack m (length b) u
       keep-back =
           known-back m (length b) (p .slot) o s u a z la lz b refl
           (subst (λ (j : ℕ). Changed j (j + (1 + 3 * length b)) s u) (p .start) (changed-more (changed-wider x (omega arith) (omega arith)) y (omega arith) (omega arith)))
           (ap (λ (j : ℕ). getD u j 0) (sym (p .start)) ∙ y .under place (omega arith) ∙ e ∙ tagged)
-          (subst (λ (j : ℕ). Holds u (j + 1) a) (p .start) (held-under (place + 1) a y (omega arith) ha))
-          (subst (λ (j : ℕ). Holds u (j + 1 + length b) b) (p .start)
-          (held-under (place + 1 + length b) b y (omega arith) (subst (λ (k : ℕ). Holds t (place + 1 + k) b) la hb)))
-          (subst (λ (j : ℕ). Holds u (j + 1 + 2 * length b) z) (p .start) hz)
+          (subst (λ (j : ℕ). Stands u (j + 1) a) (p .start) (held-under (place + 1) a y (omega arith) ha))
+          (subst (λ (j : ℕ). Stands u (j + 1 + length b) b) (p .start)
+          (held-under (place + 1 + length b) b y (omega arith) (subst (λ (k : ℕ). Stands t (place + 1 + k) b) la hb)))
+          (subst (λ (j : ℕ). Stands u (j + 1 + 2 * length b) z) (p .start) hz)
 
       pub kept-back : (n : ℕ) → length b ≡ n → RetreatedTo m o n a b z → KnownBack m n s → KnownBack m n u
       kept-back n lb = subst (λ (k : ℕ). RetreatedTo m o k a b z → KnownBack m k s → KnownBack m k u) lb keep-back

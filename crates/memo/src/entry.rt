@@ -5,12 +5,12 @@ ghost use mathlib.Core.Bool.{true};
 ghost use Prim.Native.Nat.{_+_, _<_, _≤_};
 ghost use lib.ListN.{length, getD};
 ghost use Rattle.images.specs.Buffers.{Kept};
-ghost use Rattle.memo.specs.Known.{Holds};
+ghost use Rattle.memo.specs.Known.{Stands};
 ghost use Rattle.memo.specs.Changed.{Changed};
 
 pub(crate) fn put(memo: &mut [u64], at: usize, s: &[u64])
     requires { ⌜ at + length (now s) ≤ length (now memo) ⌝ }
-    ensures { λ _. ⌜ Changed at (at + length (now (s .entry))) (now (memo .entry)) (now (memo .exit)) × Holds (now (memo .exit)) at (now (s .entry)) ⌝ }
+    ensures { λ _. ⌜ Changed at (at + length (now (s .entry))) (now (memo .entry)) (now (memo .exit)) × Stands (now (memo .exit)) at (now (s .entry)) ⌝ }
 {
     let mut k = 0;
     while k < s.len() {
@@ -21,7 +21,7 @@ pub(crate) fn put(memo: &mut [u64], at: usize, s: &[u64])
 
 pub(crate) fn get(memo: &[u64], at: usize, s: &mut [u64])
     requires { ⌜ at + length (now s) ≤ length (now memo) ⌝ }
-    ensures { λ _. ⌜ Kept (now (s .entry)) (now (s .exit)) × Holds (now (memo .entry)) at (now (s .exit)) ⌝ }
+    ensures { λ _. ⌜ Kept (now (s .entry)) (now (s .exit)) × Stands (now (memo .entry)) at (now (s .exit)) ⌝ }
 {
     let mut k = 0;
     while k < s.len() {
@@ -32,7 +32,7 @@ pub(crate) fn get(memo: &[u64], at: usize, s: &mut [u64])
 
 pub(crate) fn holds(memo: &[u64], at: usize, s: &[u64]) -> bool
     requires { ⌜ at + length (now s) ≤ length (now memo) ⌝ }
-    ensures { λ r. ⌜ (r ≡ true → Holds (now (memo .entry)) at (now (s .entry))) ⌝ }
+    ensures { λ r. ⌜ (r ≡ true → Stands (now (memo .entry)) at (now (s .entry))) ⌝ }
 {
     let end = at + s.len();
     equal(&memo[at..end], s)
@@ -41,7 +41,7 @@ pub(crate) fn holds(memo: &[u64], at: usize, s: &[u64]) -> bool
 // Is the entry that of a tag and a set?
 pub(crate) fn is_for(memo: &[u64], at: usize, tag: u64, a: &[u64]) -> bool
     requires { ⌜ at + 1 + length (now a) ≤ length (now memo) ⌝ }
-    ensures { λ r. ⌜ (r ≡ true → (getD (now (memo .entry)) at 0 ≡ tag) × Holds (now (memo .entry)) (at + 1) (now (a .entry))) ⌝ }
+    ensures { λ r. ⌜ (r ≡ true → (getD (now (memo .entry)) at 0 ≡ tag) × Stands (now (memo .entry)) (at + 1) (now (a .entry))) ⌝ }
 {
     if memo[at] != tag {
         return false;
@@ -52,7 +52,7 @@ pub(crate) fn is_for(memo: &[u64], at: usize, tag: u64, a: &[u64]) -> bool
 // It becomes that.
 pub(crate) fn begin(memo: &mut [u64], at: usize, tag: u64, a: &[u64])
     requires { ⌜ at + 1 + length (now a) ≤ length (now memo) ⌝ }
-    ensures { λ _. ⌜ Changed at (at + 1 + length (now (a .entry))) (now (memo .entry)) (now (memo .exit)) × (getD (now (memo .exit)) at 0 ≡ tag) × Holds (now (memo .exit)) (at + 1) (now (a .entry)) ⌝ }
+    ensures { λ _. ⌜ Changed at (at + 1 + length (now (a .entry))) (now (memo .entry)) (now (memo .exit)) × (getD (now (memo .exit)) at 0 ≡ tag) × Stands (now (memo .exit)) (at + 1) (now (a .entry)) ⌝ }
 {
     memo[at] = tag;
     put(memo, at + 1, a);
@@ -61,7 +61,7 @@ pub(crate) fn begin(memo: &mut [u64], at: usize, tag: u64, a: &[u64])
 // .. of a tag and two sets?
 pub(crate) fn is_for_both(memo: &[u64], at: usize, tag: u64, a: &[u64], b: &[u64]) -> bool
     requires { ⌜ at + 1 + length (now a) + length (now b) ≤ length (now memo) ⌝ }
-    ensures { λ r. ⌜ (r ≡ true → (getD (now (memo .entry)) at 0 ≡ tag) × Holds (now (memo .entry)) (at + 1) (now (a .entry)) × Holds (now (memo .entry)) (at + 1 + length (now (a .entry))) (now (b .entry))) ⌝ }
+    ensures { λ r. ⌜ (r ≡ true → (getD (now (memo .entry)) at 0 ≡ tag) × Stands (now (memo .entry)) (at + 1) (now (a .entry)) × Stands (now (memo .entry)) (at + 1 + length (now (a .entry))) (now (b .entry))) ⌝ }
 {
     if is_for(memo, at, tag, a) {
         return holds(memo, at + 1 + a.len(), b);
@@ -71,7 +71,7 @@ pub(crate) fn is_for_both(memo: &[u64], at: usize, tag: u64, a: &[u64], b: &[u64
 
 pub(crate) fn begin_both(memo: &mut [u64], at: usize, tag: u64, a: &[u64], b: &[u64])
     requires { ⌜ at + 1 + length (now a) + length (now b) ≤ length (now memo) ⌝ }
-    ensures { λ _. ⌜ Changed at (at + 1 + length (now (a .entry)) + length (now (b .entry))) (now (memo .entry)) (now (memo .exit)) × (getD (now (memo .exit)) at 0 ≡ tag) × Holds (now (memo .exit)) (at + 1) (now (a .entry)) × Holds (now (memo .exit)) (at + 1 + length (now (a .entry))) (now (b .entry)) ⌝ }
+    ensures { λ _. ⌜ Changed at (at + 1 + length (now (a .entry)) + length (now (b .entry))) (now (memo .entry)) (now (memo .exit)) × (getD (now (memo .exit)) at 0 ≡ tag) × Stands (now (memo .exit)) (at + 1) (now (a .entry)) × Stands (now (memo .exit)) (at + 1 + length (now (a .entry))) (now (b .entry)) ⌝ }
 {
     begin(memo, at, tag, a);
     put(memo, at + 1 + a.len(), b);
