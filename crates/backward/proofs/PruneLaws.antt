@@ -35,7 +35,8 @@ use Rattle.images.specs.Buffers.{Sized, Kept}
 use Rattle.memo.specs.Known.{KnownBack}
 use Rattle.situation.specs.Rows.{heardAt, Cursor}
 use Rattle.situation.proofs.Cursors.{heard-recorded}
-use Rattle.layers.specs.Into.{stepAt, inRow, leastInto}
+use Rattle.layers.specs.Into.{inRow, leastInto}
+use Rattle.steps.specs.Stepping.{stepAt}
 use Rattle.measures.specs.declared.Measures.{Measures}
 use Rattle.measures.specs.Setting.{monitorBy, Setting}
 use Rattle.measures.specs.Working.{Working}

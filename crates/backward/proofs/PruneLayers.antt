@@ -22,7 +22,8 @@ use Rattle.words.specs.Words.{Is}
 use Rattle.images.specs.Buffers.{Sized}
 use Rattle.situation.specs.Rows.{heardAt, Cursor}
 use Rattle.situation.proofs.Cursors.{heard-recorded}
-use Rattle.layers.specs.Into.{stepAt, inRow, leastInto}
+use Rattle.layers.specs.Into.{inRow, leastInto}
+use Rattle.steps.specs.Stepping.{stepAt}
 use Rattle.measures.specs.declared.Measures.{Measures}
 use Rattle.measures.specs.Setting.{monitorBy, Setting, LayersUpTo, RowHolds}
 use Rattle.memo.specs.Known.{KnownBack}

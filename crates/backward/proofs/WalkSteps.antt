@@ -24,7 +24,8 @@ use Rattle.model.proofs.MoveRows.{rows-short}
 use Rattle.model.proofs.Numbering.{first-number-below}
 use Rattle.situation.specs.Rows.{Cursor}
 use Rattle.situation.proofs.Cursors.{first-cursor}
-use Rattle.layers.specs.Into.{stepAt, inRow, leastInto}
+use Rattle.layers.specs.Into.{inRow, leastInto}
+use Rattle.steps.specs.Stepping.{stepAt}
 use Rattle.measures.specs.declared.Measures.{Measures}
 use Rattle.measures.specs.Setting.{monitorBy, Setting}
 use Rattle.backward.specs.PruneRows.{PrunedRows}

@@ -13,7 +13,7 @@ ghost use Prim.Native.Nat.{_+_, _*_, _≤_, _<_};
 ghost use mathlib.Core.Path.{_≡_};
 ghost use lib.ListN.{length};
 ghost use Rattle.situation.specs.Rows.{heardAt, Cursor};
-ghost use Rattle.layers.specs.Into.{stepAt};
+ghost use Rattle.steps.specs.Stepping.{stepAt};
 ghost use Rattle.images.specs.Buffers.{Sized, Kept};
 ghost use Rattle.measures.specs.Roomy.{Roomy};
 ghost use Rattle.measures.specs.Setting.{monitorBy, Setting, LayersUpTo};

@@ -13,7 +13,6 @@ use model::REMOVED;
 use model::REST;
 use rows::span::Span;
 use situation::Heard;
-use situation::Shape;
 use situation::rows::heard_at;
 use situation::rows::passed;
 use wire::byte;
@@ -38,7 +37,7 @@ ghost use Rattle.witness.specs.Rows.{rowOf};
 ghost use Rattle.situation.specs.Rows.{heardOf};
 ghost use Rattle.images.specs.Buffers.{Kept};
 ghost use Rattle.measures.specs.Setting.{monitorBy, Triggers};
-ghost use Rattle.backward.specs.WalkRows.{Ground, RowsPut, Stands, rowsAfter, WalkedOn};
+ghost use Rattle.backward.specs.WalkRows.{Ground, RowsPut, Stands, WalkedOn};
 
 // Where the walk is between two instants: a situation's number, the recording's cursor, and how many rows are written.
 struct Place {

@@ -20,7 +20,7 @@ use words::keep_common;
 ghost use mathlib.Core.Path.{_≡_};
 ghost use mathlib.Core.List.{List};
 ghost use mathlib.Core.Bool.{_&&_, _||_};
-ghost use Prim.Native.Nat.{ℕ, _*_, _^_, _<_, _≤_};
+ghost use Prim.Native.Nat.{ℕ, _*_, _^_, _<_};
 ghost use lib.ListN.{length};
 ghost use Rattle.model.specs.Monitor.{Monitor};
 ghost use Rattle.monitor.specs.From.{transitionCount};

@@ -9,7 +9,7 @@ use words::clear;
 use words::keep_common;
 ghost use mathlib.Core.Path.{_≡_};
 ghost use mathlib.Core.Bool.{true};
-ghost use Prim.Native.Nat.{ℕ, _*_, _<_, _≤_};
+ghost use Prim.Native.Nat.{ℕ, _*_, _<_};
 ghost use lib.ListN.{length};
 ghost use Rattle.words.specs.Words.{Is, Joined, up, below, mem};
 ghost use Rattle.firings.specs.Folded.{setAt, foldedBy, spreadBy, resetSets};

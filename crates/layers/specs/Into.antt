@@ -8,13 +8,6 @@ use lib.Dec.{ltb}
 use Rattle.model.specs.Situation.{restMove, moveLimit}
 use Rattle.model.specs.Layers.{into, firstFrom}
 use Rattle.bits.specs.Member.{mem}
-use Rattle.situation.specs.Numbering.{situationBy}
-use Rattle.steps.specs.Stepping.{arriveFrom}
-use Rattle.situation.specs.declared.Shape.{Shape}
-
--- the step from number n by move k, where something is recorded or nothing
-abbrev pub stepAt : List ℕ → List ℕ → Shape → Option ℕ → (n k : ℕ) → Option ℕ
-stepAt table offsets h heard n k = arriveFrom table offsets h heard (situationBy h n) k
 
 -- number z is in the row that starts at a bit
 abbrev pub inRow : List ℕ → (start size z : ℕ) → Bool

@@ -18,9 +18,9 @@ ghost use Prim.Native.Nat.{ℕ, _-_, _<_};
 ghost use Rattle.model.specs.Situation.{moveLimit};
 ghost use Rattle.model.specs.Layers.{firstFrom};
 ghost use Rattle.situation.specs.Rows.{heardOf};
-ghost use Rattle.steps.specs.Stepping.{arrivalOf, arriveFrom};
+ghost use Rattle.steps.specs.Stepping.{arrivalOf, arriveFrom, stepAt};
 ghost use Rattle.situation.specs.declared.Shape.{Shape};
-ghost use Rattle.layers.specs.Into.{Enough, arrivalIn, inRow, leadsTo, leastInto, stepAt};
+ghost use Rattle.layers.specs.Into.{Enough, arrivalIn, inRow, leadsTo, leastInto};
 
 // A move, and the number that it leads to: 0 where no move was found.
 pub struct Least {

@@ -1,5 +1,4 @@
 // The static library's face (include/lutarosa.h): each function hands its bytes over and answers in document 01's numbers.
-ghost use mathlib.Core.Path.{_≡_};
 ghost use Rattle.model.specs.Rule.{ruleOf};
 ghost use Rattle.model.specs.Table.{tableAnswer};
 ghost use Rattle.model.specs.Recording.{recordingAnswer};

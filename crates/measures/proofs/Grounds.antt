@@ -31,8 +31,7 @@ use Rattle.situation.specs.Numbering.{Fits, numberBy, situationBy, cappedBy}
 use Rattle.situation.specs.Ruled.{ruledFrom}
 use Rattle.situation.proofs.Numbered.{same-number, same-situation, same-capped}
 use Rattle.situation.proofs.Shaped.{table-shape}
-use Rattle.steps.specs.Stepping.{arriveFrom}
-use Rattle.layers.specs.Into.{stepAt}
+use Rattle.steps.specs.Stepping.{arriveFrom, stepAt}
 use Rattle.measures.specs.declared.Measures.{Measures}
 use Rattle.measures.specs.Measured.{Measured}
 use Rattle.measures.specs.Setting.{monitorBy, Setting, Triggers}

@@ -17,7 +17,7 @@ use Rattle.model.specs.Sane.{Sane, SaneRecording}
 use Rattle.bits.specs.Member.{mem}
 use Rattle.monitor.specs.From.{monitorFrom, transitionCount}
 use Rattle.situation.specs.Numbering.{situationBy}
-use Rattle.layers.specs.Into.{stepAt}
+use Rattle.steps.specs.Stepping.{stepAt}
 use Rattle.measures.specs.declared.Measures.{Measures}
 
 -- the monitor that is judged: the table's, under the rule of the measures

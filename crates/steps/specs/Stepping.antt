@@ -5,7 +5,7 @@ use mathlib.Core.Option.{Option, none, some, Option·map}
 use Rattle.model.specs.Situation.{stepBy, moveOf}
 use Rattle.model.specs.declared.Situation.{Situation}
 use Rattle.situation.specs.declared.Shape.{Shape}
-use Rattle.situation.specs.Numbering.{cappedBy, numberBy}
+use Rattle.situation.specs.Numbering.{cappedBy, numberBy, situationBy}
 use Rattle.situation.specs.Ruled.{ruledFrom}
 use Rattle.situation.specs.declared.Arrival.{Arrival}
 use Rattle.situation.specs.declared.Arrival.the-variants.{Nowhere, At}
@@ -18,3 +18,7 @@ arrivalOf (At n) = some n
 unfoldable pub arriveFrom : List ℕ → List ℕ → Shape → Option ℕ → Situation → ℕ → Option ℕ
 arriveFrom table offsets h heard s k =
     Option·map (numberBy h) (stepBy (ruledFrom h table offsets) (cappedBy h) heard s (moveOf k))
+
+-- .. from the situation of number n, where something is recorded or nothing
+abbrev pub stepAt : List ℕ → List ℕ → Shape → Option ℕ → (n k : ℕ) → Option ℕ
+stepAt table offsets h heard n k = arriveFrom table offsets h heard (situationBy h n) k

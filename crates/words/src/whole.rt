@@ -2,10 +2,10 @@
 use crate::lesser;
 use crate::past;
 ghost use mathlib.Core.Path.{_≡_};
-ghost use mathlib.Core.Bool.{not, true, false, _&&_, _||_};
-ghost use Prim.Native.Nat.{_+_, _-_, _*_, _%_, _^_, _<_, _≤_};
+ghost use mathlib.Core.Bool.{not, true, false, _&&_};
+ghost use Prim.Native.Nat.{_+_, _-_, _*_, _≤_};
 ghost use lib.ListN.{length};
-ghost use Rattle.words.specs.Words.{mem, below, anyBelow, Joined, Is, Part};
+ghost use Rattle.words.specs.Words.{mem, below, anyBelow, Is, Part};
 
 // Takes out what is in the words from k on.
 fn clear_from(a: &mut [u64], k: usize)

@@ -7,13 +7,13 @@ use Rattle.cases.proofs.main.Statement.{statement}
 use Rattle.cases.proofs.main.Tie as tie
 
 slice-aggregate-all-cases : tie.Need-slice-aggregate-all-cases
-slice-aggregate-all-cases c = sym (length-replicate {A = ℕ} 400000 0)
+slice-aggregate-all-cases c = sym (length-replicate {A = ℕ} _ 0)
 
 slice-aggregate-all-cases-2 : tie.Need-slice-aggregate-all-cases-2
-slice-aggregate-all-cases-2 c = sym (length-replicate {A = ℕ} 400000 0)
+slice-aggregate-all-cases-2 c = sym (length-replicate {A = ℕ} _ 0)
 
 slice-aggregate-all-cases-3 : tie.Need-slice-aggregate-all-cases-3
-slice-aggregate-all-cases-3 c = sym (length-replicate {A = ℕ} 331000 0)
+slice-aggregate-all-cases-3 c = sym (length-replicate {A = ℕ} _ 0)
 
 all-cases-requires : tie.Need-all-cases-requires
 all-cases-requires c κs = search needs

@@ -24,7 +24,7 @@ returns : tie.Need-returns
 returns c = search needs
 
 slice-aggregate-read-input : tie.Need-slice-aggregate-read-input
-slice-aggregate-read-input c = sym (length-replicate {A = ℕ} 8193 0)
+slice-aggregate-read-input c = sym (length-replicate {A = ℕ} _ 0)
 
 read-input-requires : tie.Need-read-input-requires
 read-input-requires c κs = search needs
@@ -57,7 +57,7 @@ part-answer-end c =
 
 -- by a law: a search writes the array out
 slice-aggregate-answer : tie.Need-slice-aggregate-answer
-slice-aggregate-answer c = sym (length-replicate {A = ℕ} 400000 0)
+slice-aggregate-answer c = sym (length-replicate {A = ℕ} _ 0)
 
 answer-requires : tie.Need-answer-requires
 answer-requires c κs = search needs

@@ -6,7 +6,8 @@ use Rattle.model.specs.Table.{monitorAt}
 use Rattle.model.specs.Situation.{moveOf}
 use Rattle.situation.specs.Rows.{heardOf, Cursor}
 use Rattle.situation.proofs.Cursors.{heard-recorded, passed-cursor}
-use Rattle.layers.specs.Into.{stepAt, leastInto}
+use Rattle.layers.specs.Into.{leastInto}
+use Rattle.steps.specs.Stepping.{stepAt}
 use Rattle.measures.specs.Setting.{monitorBy}
 use Rattle.backward.specs.WalkRows.{Ground, Stands}
 use Rattle.measures.proofs.Rows.{row-start}
