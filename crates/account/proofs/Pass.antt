@@ -10,8 +10,8 @@ use lib.ListN.{length, drop}
 use lib.Dec.{eqb}
 use Rattle.model.specs.Trace.{Packet}
 use Rattle.model.specs.Monitor.{Monitor}
-use Rattle.model.specs.Recording.{countAt, packetsAt}
-use Rattle.model.specs.Witness.{Row, kept, rowAt, rows_at, witnessCountAt, badRow}
+use Rattle.model.specs.Recording.{count_at, packets_at}
+use Rattle.model.specs.Witness.{Row, kept, row_at, rows_at, witness_count_at, bad_row}
 use Rattle.model.specs.Rules.{Progress, begin, account, broken, changes, checked}
 use Rattle.model.specs.declared.Edition.{Edition}
 use Rattle.model.specs.declared.Checking.TheVariants.{Permitted, Unchecked}
@@ -21,14 +21,14 @@ use Rattle.witness.specs.declared.Entry.{Entry}
 use Rattle.account.specs.declared.Standing.{Standing}
 use Rattle.account.specs.declared.Step.{Step}
 use Rattle.witness.specs.Rows.{row_of}
-use Rattle.account.specs.Standing.{progressOf, Stepped, checkedRows}
-use Rattle.row_tests.proofs.Left.{tab-cons, tab-past, left-cons, left-past}
+use Rattle.account.specs.Standing.{progress_of, Stepped, checked_rows}
+use Rattle.row_tests.proofs.Left.{tab_cons, tab-past, left_cons, left-past}
 
 -- what a row adds to the answer
 
-broken-none : (edition : Edition) (m : Monitor) (p : Progress) (i : ℕ) (r : Row) (rs : List Row) → account edition m p r ≡ none → broken edition m p i (r ∷ rs) ≡ some i
+broken_none : (edition : Edition) (m : Monitor) (p : Progress) (i : ℕ) (r : Row) (rs : List Row) → account edition m p r ≡ none → broken edition m p i (r ∷ rs) ≡ some i
 unfolding broken
-broken-none edition m p i r rs e = rw (e, broken)
+broken_none edition m p i r rs e = rw (e, broken)
 
 broken-some : (edition : Edition) (m : Monitor) (p q : Progress) (i : ℕ) (r : Row) (rs : List Row) → account edition m p r ≡ some q → broken edition m p i (r ∷ rs) ≡ broken edition m q (suc i) rs
 unfolding broken
@@ -42,29 +42,29 @@ broken-done : (edition : Edition) (m : Monitor) (p : Progress) (i : ℕ) → p.l
 unfolding broken
 broken-done edition m p i e = rw e
 
-changes-none : changes [] ≡ 0
+changes_none : changes [] ≡ 0
 unfolding changes
-changes-none = refl
+changes_none = refl
 
-changes-cons : (r : Row) (rs : List Row) → changes (r ∷ rs) ≡ cond (eqb r.mark kept) 0 1 + changes rs
+changes_cons : (r : Row) (rs : List Row) → changes (r ∷ rs) ≡ cond (eqb r.mark kept) 0 1 + changes rs
 unfolding changes
-changes-cons r rs = refl
+changes_cons r rs = refl
 
-step-some : (ps : List Packet) (o : Option Progress) (st : Step) → Stepped ps o st → st.sound ≡ true → o ≡ some (progressOf ps st.to)
-step-some ps o st s t = sym s.is ∙ ap (λ (b : Bool). cond b (some (progressOf ps st.to)) none) t
+step-some : (ps : List Packet) (o : Option Progress) (st : Step) → Stepped ps o st → st.sound ≡ true → o ≡ some (progress_of ps st.to)
+step-some ps o st s t = sym s.is ∙ ap (λ (b : Bool). cond b (some (progress_of ps st.to)) none) t
 
-step-none : (ps : List Packet) (o : Option Progress) (st : Step) → Stepped ps o st → st.sound ≡ false → o ≡ none
-step-none ps o st s t = sym s.is ∙ ap (λ (b : Bool). cond b (some (progressOf ps st.to)) none) t
+step_none : (ps : List Packet) (o : Option Progress) (st : Step) → Stepped ps o st → st.sound ≡ false → o ≡ none
+step_none ps o st s t = sym s.is ∙ ap (λ (b : Bool). cond b (some (progress_of ps st.to)) none) t
 
 -- the pass at row i: what is ahead decides, and so many rows before it were removed or added
 pub record Ahead (edition : Edition) (m : Monitor) (recording witness : List ℕ) (s : Standing) (changed i : ℕ) : Type 0 where
-  pub within : i ≤ witnessCountAt edition witness
-  pub rules : broken edition m (begin (packetsAt recording)) 0 (rows_at edition witness) ≡ broken edition m (progressOf (packetsAt recording) s) i (drop i (rows_at edition witness))
+  pub within : i ≤ witness_count_at edition witness
+  pub rules : broken edition m (begin (packets_at recording)) 0 (rows_at edition witness) ≡ broken edition m (progress_of (packets_at recording) s) i (drop i (rows_at edition witness))
   pub counted : changes (rows_at edition witness) ≡ changed + changes (drop i (rows_at edition witness))
   pub few : changed ≤ i
 
-pub ahead-first : (edition : Edition) (m : Monitor) (recording witness : List ℕ) (s : Standing) → progressOf (packetsAt recording) s ≡ begin (packetsAt recording) → Ahead edition m recording witness s 0 0
-ahead-first edition m recording witness s e =
+pub ahead_first : (edition : Edition) (m : Monitor) (recording witness : List ℕ) (s : Standing) → progress_of (packets_at recording) s ≡ begin (packets_at recording) → Ahead edition m recording witness s 0 0
+ahead_first edition m recording witness s e =
     record {
       within = omega arith;
       rules = ap (λ (p : Progress). broken edition m p 0 (rows_at edition witness)) (sym e);
@@ -74,23 +74,23 @@ ahead-first edition m recording witness s e =
 
 module _ (edition : Edition) (m : Monitor) (recording witness : List ℕ) (s : Standing) (changed i : ℕ) (a : Ahead edition m recording witness s changed i) where
   abbrev ps : List Packet
-  ps = packetsAt recording
+  ps = packets_at recording
 
   abbrev rows : List Row
   rows = rows_at edition witness
 
-  module _ (e : Entry) (st : Step) (h : i < witnessCountAt edition witness) (r : row_of e ≡ rowAt edition witness i) (g : Stepped ps (account edition m (progressOf ps s) (row_of e)) st) where
+  module _ (e : Entry) (st : Step) (h : i < witness_count_at edition witness) (r : row_of e ≡ row_at edition witness i) (g : Stepped ps (account edition m (progress_of ps s) (row_of e)) st) where
     row-ahead : drop i rows ≡ row_of e ∷ drop (suc i) rows
-    row-ahead = tab-cons (rowAt edition witness) (witnessCountAt edition witness) i h ∙ ap (λ (x : Row). x ∷ drop (suc i) rows) (sym r)
+    row-ahead = tab_cons (row_at edition witness) (witness_count_at edition witness) i h ∙ ap (λ (x : Row). x ∷ drop (suc i) rows) (sym r)
 
     pub ahead_more : (more : ℕ) → more ≡ cond (eqb e.mark kept) 0 1 → st.sound ≡ true → more ≤ 1 → Ahead edition m recording witness st.to (changed + more) (i + 1)
     ahead_more more n t small =
-        let next : broken edition m (progressOf ps s) i (drop i rows) ≡ broken edition m (progressOf ps st.to) (suc i) (drop (suc i) rows) =
-        ap (broken edition m (progressOf ps s) i) row-ahead ∙ broken-some edition m (progressOf ps s) (progressOf ps st.to) i (row_of e) (drop (suc i) rows) (step-some ps (account edition m (progressOf ps s) (row_of e)) st g t) in
-        let further : broken edition m (progressOf ps st.to) (suc i) (drop (suc i) rows) ≡ broken edition m (progressOf ps st.to) (i + 1) (drop (i + 1) rows) =
-        ap (λ (k : ℕ). broken edition m (progressOf ps st.to) k (drop k rows)) (sym (add-one i)) in
+        let next : broken edition m (progress_of ps s) i (drop i rows) ≡ broken edition m (progress_of ps st.to) (suc i) (drop (suc i) rows) =
+        ap (broken edition m (progress_of ps s) i) row-ahead ∙ broken-some edition m (progress_of ps s) (progress_of ps st.to) i (row_of e) (drop (suc i) rows) (step-some ps (account edition m (progress_of ps s) (row_of e)) st g t) in
+        let further : broken edition m (progress_of ps st.to) (suc i) (drop (suc i) rows) ≡ broken edition m (progress_of ps st.to) (i + 1) (drop (i + 1) rows) =
+        ap (λ (k : ℕ). broken edition m (progress_of ps st.to) k (drop k rows)) (sym (add-one i)) in
         let count : changes (drop i rows) ≡ more + changes (drop (i + 1) rows) =
-        ap changes row-ahead ∙ changes-cons (row_of e) (drop (suc i) rows) ∙ ap (λ (k : ℕ). k + changes (drop (suc i) rows)) (sym n) ∙ ap (λ (k : ℕ). more + changes (drop k rows)) (sym (add-one i)) in
+        ap changes row-ahead ∙ changes_cons (row_of e) (drop (suc i) rows) ∙ ap (λ (k : ℕ). k + changes (drop (suc i) rows)) (sym n) ∙ ap (λ (k : ℕ). more + changes (drop k rows)) (sym (add-one i)) in
         record {
           within = omega arith;
           rules = a.rules ∙ next ∙ further;
@@ -98,29 +98,29 @@ module _ (edition : Edition) (m : Monitor) (recording witness : List ℕ) (s : S
           few = omega (arith, a.few);
         }
 
-    pub ahead-broken : st.sound ≡ false → Unchecked (WitnessRow i) ≡ checkedRows edition m ps rows
-    unfolding checkedRows
-    ahead-broken t =
+    pub ahead_broken : st.sound ≡ false → Unchecked (WitnessRow i) ≡ checked_rows edition m ps rows
+    unfolding checked_rows
+    ahead_broken t =
         let no : broken edition m (begin ps) 0 rows ≡ some i =
-        a.rules ∙ ap (broken edition m (progressOf ps s) i) row-ahead ∙ broken-none edition m (progressOf ps s) i (row_of e) (drop (suc i) rows) (step-none ps (account edition m (progressOf ps s) (row_of e)) st g t) in
-        ap (λ (o : Option ℕ). checked (badRow o) rows) (sym no)
+        a.rules ∙ ap (broken edition m (progress_of ps s) i) row-ahead ∙ broken_none edition m (progress_of ps s) i (row_of e) (drop (suc i) rows) (step_none ps (account edition m (progress_of ps s) (row_of e)) st g t) in
+        ap (λ (o : Option ℕ). checked (bad_row o) rows) (sym no)
 
-  module _ (h : witnessCountAt edition witness ≤ i) where
+  module _ (h : witness_count_at edition witness ≤ i) where
     none_ahead : drop i rows ≡ []
-    none_ahead = tab-past (rowAt edition witness) (witnessCountAt edition witness) i h
+    none_ahead = tab-past (row_at edition witness) (witness_count_at edition witness) i h
 
-    pub ahead-left : s.next < countAt recording → Unchecked (WitnessRow i) ≡ checkedRows edition m ps rows
-    unfolding checkedRows
-    ahead-left n =
+    pub ahead_left : s.next < count_at recording → Unchecked (WitnessRow i) ≡ checked_rows edition m ps rows
+    unfolding checked_rows
+    ahead_left n =
         let no : broken edition m (begin ps) 0 rows ≡ some i =
-        a.rules ∙ ap (broken edition m (progressOf ps s) i) none_ahead ∙ broken-left edition m (progressOf ps s) i _ _ (left-cons recording s.next n) in
-        ap (λ (o : Option ℕ). checked (badRow o) rows) (sym no)
+        a.rules ∙ ap (broken edition m (progress_of ps s) i) none_ahead ∙ broken-left edition m (progress_of ps s) i _ _ (left_cons recording s.next n) in
+        ap (λ (o : Option ℕ). checked (bad_row o) rows) (sym no)
 
-    pub ahead-done : countAt recording ≤ s.next → Permitted changed i ≡ checkedRows edition m ps rows
-    unfolding checkedRows
-    ahead-done n =
+    pub ahead_done : count_at recording ≤ s.next → Permitted changed i ≡ checked_rows edition m ps rows
+    unfolding checked_rows
+    ahead_done n =
         let yes : broken edition m (begin ps) 0 rows ≡ none =
-        a.rules ∙ ap (broken edition m (progressOf ps s) i) none_ahead ∙ broken-done edition m (progressOf ps s) i (left-past recording s.next n) in
-        let count : changed ≡ changes rows = omega (arith, a.counted, ap changes none_ahead ∙ changes-none) in
-        let all : i ≡ length rows = omega (arith, a.within, length-tab (rowAt edition witness) (witnessCountAt edition witness)) in
-        (λ j. Permitted (count j) (all j)) ∙ ap (λ (o : Option ℕ). checked (badRow o) rows) (sym yes)
+        a.rules ∙ ap (broken edition m (progress_of ps s) i) none_ahead ∙ broken-done edition m (progress_of ps s) i (left-past recording s.next n) in
+        let count : changed ≡ changes rows = omega (arith, a.counted, ap changes none_ahead ∙ changes_none) in
+        let all : i ≡ length rows = omega (arith, a.within, length-tab (row_at edition witness) (witness_count_at edition witness)) in
+        (λ j. Permitted (count j) (all j)) ∙ ap (λ (o : Option ℕ). checked (bad_row o) rows) (sym yes)

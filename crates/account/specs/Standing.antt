@@ -1,23 +1,23 @@
 -- What the code's small state stands for among the model's rows and progress.
 use Rattle.std.specs.Prelude.{◌<◌, ◌≤◌, ◌≡◌, List, true, cond, length, get_or, drop}
 use Rattle.std.proofs.Math.Option.{Option, none, some}
-use Rattle.model.specs.Limits.{timeLimit}
+use Rattle.model.specs.Limits.{time_limit}
 use Rattle.model.specs.Trace.{Packet}
 use Rattle.model.specs.Monitor.{Monitor}
-use Rattle.model.specs.Witness.{Row, badRow}
+use Rattle.model.specs.Witness.{Row, bad_row}
 use Rattle.model.specs.Rules.{Progress, begin, broken, checked}
 use Rattle.model.specs.declared.Edition.{Edition}
 use Rattle.model.specs.declared.Checking.{Checking}
 use Rattle.witness.specs.declared.Entry.{Entry}
-use Rattle.witness.specs.Rows.{beforeOf}
+use Rattle.witness.specs.Rows.{before_of}
 use Rattle.account.specs.declared.Standing.{Standing}
 use Rattle.account.specs.declared.Step.{Step}
 
 -- the recorded packets from the next one on are not accounted for
-abbrev pub progressOf : List Packet → Standing → Progress
-progressOf recording s =
+abbrev pub progress_of : List Packet → Standing → Progress
+progress_of recording s =
     record {
-      before = beforeOf s.before;
+      before = before_of s.before;
       left = drop s.next recording;
       now = s.now;
       config = s.config;
@@ -26,12 +26,12 @@ progressOf recording s =
     }
 
 abbrev pub step_of : List Packet → Step → Option Progress
-step_of recording s = cond s.sound (some (progressOf recording s.to)) none
+step_of recording s = cond s.sound (some (progress_of recording s.to)) none
 
 -- the clocks read at most the ticks until the monitor last fired, and no time is past the last
 pub record Bounded (s : Standing) : Type 0 where
   pub fired : s.now ≤ s.before.time
-  pub last : s.before.time ≤ timeLimit
+  pub last : s.before.time ≤ time_limit
   pub clocks : length s.config.clocks ≡ 2
   pub first : get_or s.config.clocks 0 0 ≤ s.now
   pub second : get_or s.config.clocks 1 0 ≤ s.now
@@ -40,7 +40,7 @@ pub record Bounded (s : Standing) : Type 0 where
 pub record Ready (s : Standing) (e : Entry) : Type 0 where
   pub bounded : Bounded s
   pub behind : s.before.time < e.time
-  pub last : e.time ≤ timeLimit
+  pub last : e.time ≤ time_limit
 
 -- a step is the model's, and leaves the state in its bounds
 pub record Stepped (recording : List Packet) (next : Option Progress) (s : Step) : Type 0 where
@@ -48,5 +48,5 @@ pub record Stepped (recording : List Packet) (next : Option Progress) (s : Step)
   pub bounded : s.sound ≡ true → Bounded s.to
 
 -- the answer by the rows alone
-unfoldable pub checkedRows : Edition → Monitor → List Packet → List Row → Checking
-checkedRows edition m recording rows = checked (badRow (broken edition m (begin recording) 0 rows)) rows
+unfoldable pub checked_rows : Edition → Monitor → List Packet → List Row → Checking
+checked_rows edition m recording rows = checked (bad_row (broken edition m (begin recording) 0 rows)) rows

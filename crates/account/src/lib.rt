@@ -3,12 +3,12 @@ ghost use Rattle.std.specs.Prelude.{◌≡◌, List, cond, ◌+◌, ◌<◌, ◌
 ghost use Rattle.std.proofs.Math.Option.{none};
 ghost use Rattle.model.specs.Monitor.{wait};
 ghost use Rattle.model.specs.Trace.{Packet};
-ghost use Rattle.model.specs.Recording.{packetsAt};
+ghost use Rattle.model.specs.Recording.{packets_at};
 ghost use Rattle.model.specs.Witness.{kept, rows_at};
 ghost use Rattle.model.specs.Rules.{begin, sends, removes, keeps, adds, account};
 ghost use Rattle.witness.specs.Rows.{row_of};
-ghost use Rattle.row_tests.specs.Under.{ruledFrom};
-ghost use Rattle.account.specs.Standing.{progressOf, Bounded, Ready, Stepped, checkedRows};
+ghost use Rattle.row_tests.specs.Under.{ruled_from};
+ghost use Rattle.account.specs.Standing.{progress_of, Bounded, Ready, Stepped, checked_rows};
 
 use model::{Checking, Config, Edition, KEPT, REMOVED, Refusal, Rule};
 use monitor::{fire, to_unit};
@@ -66,7 +66,7 @@ fn sent<'a>(
     next: u16,
 ) -> Step
     requires { Ready s e }
-    ensures { (recording : List Packet) → Stepped recording (sends (ruledFrom rule table.now offsets.now) (progressOf recording s) (row_of e) (drop next recording)) result }
+    ensures { (recording : List Packet) → Stepped recording (sends (ruled_from rule table.now offsets.now) (progress_of recording s) (row_of e) (drop next recording)) result }
 {
     let guess = is_guess(rule, table, e);
     if !allows(rule, s.window, guess) {
@@ -102,7 +102,7 @@ fn keep_row<'a>(
     e: Entry,
 ) -> Step
     requires { Ready s e }
-    ensures { Stepped (packetsAt recording.now) (keeps (ruledFrom rule table.now offsets.now) (progressOf (packetsAt recording.now) s) (row_of e)) result }
+    ensures { Stepped (packets_at recording.now) (keeps (ruled_from rule table.now offsets.now) (progress_of (packets_at recording.now) s) (row_of e)) result }
 {
     let next = s.next;
     if !is_next(recording, next, e) {
@@ -120,7 +120,7 @@ fn remove_row<'a>(
     e: Entry,
 ) -> Step
     requires { Ready s e }
-    ensures { (rule : Rule) → Stepped (packetsAt recording.now) (removes (ruledFrom rule table.now offsets.now) (progressOf (packetsAt recording.now) s) (row_of e)) result }
+    ensures { (rule : Rule) → Stepped (packets_at recording.now) (removes (ruled_from rule table.now offsets.now) (progress_of (packets_at recording.now) s) (row_of e)) result }
 {
     let next = s.next;
     if !is_next(recording, next, e) {
@@ -154,7 +154,7 @@ fn add_row<'a>(
     e: Entry,
 ) -> Step
     requires { Ready s e }
-    ensures { Stepped (packetsAt recording.now) (adds (ruledFrom rule table.now offsets.now) (progressOf (packetsAt recording.now) s) (row_of e)) result }
+    ensures { Stepped (packets_at recording.now) (adds (ruled_from rule table.now offsets.now) (progress_of (packets_at recording.now) s) (row_of e)) result }
 {
     let next = s.next;
     if !none_at(recording, next, e.time) {
@@ -174,7 +174,7 @@ fn accounted<'a>(
     e: Entry,
 ) -> Step
     requires { Bounded s }
-    ensures { Stepped (packetsAt recording.now) (account edition (ruledFrom rule table.now offsets.now) (progressOf (packetsAt recording.now) s) (row_of e)) result }
+    ensures { Stepped (packets_at recording.now) (account edition (ruled_from rule table.now offsets.now) (progress_of (packets_at recording.now) s) (row_of e)) result }
 {
     let before = s.before;
     let next = s.next;
@@ -197,7 +197,7 @@ fn accounted<'a>(
 }
 
 fn begun() -> Standing
-    ensures { Bounded result × ((recording : List Packet) → progressOf recording result ≡ begin recording) }
+    ensures { Bounded result × ((recording : List Packet) → progress_of recording result ≡ begin recording) }
 {
     Standing {
         before: no_row(),
@@ -228,7 +228,7 @@ pub fn check_rows<'a>(
     recording: &[u8],
     witness: &[u8],
 ) -> Checking
-    ensures { result ≡ checkedRows edition (ruledFrom rule table.now offsets.now) (packetsAt recording.now) (rows_at edition witness.now) }
+    ensures { result ≡ checked_rows edition (ruled_from rule table.now offsets.now) (packets_at recording.now) (rows_at edition witness.now) }
 {
     let count = count_at(edition, witness);
     let mut s = begun();

@@ -11,86 +11,86 @@ use borrow.Author.Tests.{eq-eqb, eqb-true}
 use Rattle.model.specs.Bytes.{tab}
 use Rattle.model.specs.Monitor.{Monitor}
 use Rattle.model.specs.Trace.{Packet, PacketTrace}
-use Rattle.model.specs.Recording.{countAt, timeAt, rowKindAt, packetsAt, end_of}
+use Rattle.model.specs.Recording.{count_at, time_at, row_kind_at, packets_at, end_of}
 use Rattle.model.proofs.Basics.{and_right}
-use Rattle.model.proofs.RecordingForm.{packetAt, packets-tab}
-use Rattle.situation.specs.Rows.{is_at, heardAt, Cursor}
-use Rattle.situation.proofs.Cursors.{at_row, times-rise}
+use Rattle.model.proofs.RecordingForm.{packet_at, packets-tab}
+use Rattle.situation.specs.Rows.{is_at, heard_at, Cursor}
+use Rattle.situation.proofs.Cursors.{at_row, times_rise}
 use Rattle.measures.proofs.Ends.{end-time}
-use Rattle.backward.specs.PruneRows.{cursorBefore}
+use Rattle.backward.specs.PruneRows.{cursor_before}
 
 -- what the row before the cursor says
 
 module _ (b : List ℕ) (j t : ℕ) where
-  pub back-heard : (k : ℕ) → heardAt b (j - 1) t ≡ some k → cursorBefore b j t ≡ j - 1
-  unfolding cursorBefore heardAt
+  pub back-heard : (k : ℕ) → heard_at b (j - 1) t ≡ some k → cursor_before b j t ≡ j - 1
+  unfolding cursor_before heard_at
   back-heard k e = on (is_at b (j - 1) t) e
     where
-      on : (found : Bool) → cond found (some (rowKindAt b (j - 1))) none ≡ some k → cond found (j - 1) j ≡ j - 1
+      on : (found : Bool) → cond found (some (row_kind_at b (j - 1))) none ≡ some k → cond found (j - 1) j ≡ j - 1
       on true q = refl
       on false q = cc
 
-  pub back-nothing : heardAt b (j - 1) t ≡ none → cursorBefore b j t ≡ j
-  unfolding cursorBefore heardAt
+  pub back-nothing : heard_at b (j - 1) t ≡ none → cursor_before b j t ≡ j
+  unfolding cursor_before heard_at
   back-nothing e = on (is_at b (j - 1) t) e
     where
-      on : (found : Bool) → cond found (some (rowKindAt b (j - 1))) none ≡ none → cond found (j - 1) j ≡ j
+      on : (found : Bool) → cond found (some (row_kind_at b (j - 1))) none ≡ none → cond found (j - 1) j ≡ j
       on true q = cc
       on false q = refl
 
-pub back-first : (b : List ℕ) (t : ℕ) → cursorBefore b 0 t ≡ 0
-unfolding cursorBefore
+pub back-first : (b : List ℕ) (t : ℕ) → cursor_before b 0 t ≡ 0
+unfolding cursor_before
 back-first b t = on (is_at b 0 t)
   where
     on : (found : Bool) → ◌≡◌ {A = ℕ} (cond found 0 0) 0
     on true = refl
     on false = refl
 
-at-instant : (b : List ℕ) (i t : ℕ) → is_at b i t ≡ true → timeAt b i ≡ t
+at_instant : (b : List ℕ) (i t : ℕ) → is_at b i t ≡ true → time_at b i ≡ t
 unfolding is_at
-at-instant b i t e = eqb-true (timeAt b i) t (and_right (ltb i (countAt b)) (eqb (timeAt b i) t) e)
+at_instant b i t e = eqb-true (time_at b i) t (and_right (ltb i (count_at b)) (eqb (time_at b i) t) e)
 
-module _ (m : Monitor) (b : List ℕ) (trace : PacketTrace m (packetsAt b)) where
-  pub last-cursor : Cursor b (countAt b) (end_of (packetsAt b) + 1)
-  last-cursor = record { within = omega arith; before = λ k h. early k h (countAt b) refl; behind = λ k l h. absurd (omega arith) }
+module _ (m : Monitor) (b : List ℕ) (trace : PacketTrace m (packets_at b)) where
+  pub last-cursor : Cursor b (count_at b) (end_of (packets_at b) + 1)
+  last-cursor = record { within = omega arith; before = λ k h. early k h (count_at b) refl; behind = λ k l h. absurd (omega arith) }
     where
-      early : (k : ℕ) → k < countAt b → (n : ℕ) → countAt b ≡ n → timeAt b k < end_of (packetsAt b) + 1
+      early : (k : ℕ) → k < count_at b → (n : ℕ) → count_at b ≡ n → time_at b k < end_of (packets_at b) + 1
       early k h zero e = absurd (omega arith)
       early k h (suc n) e = on (dec_lt k n)
         where
-          on : Dec (k < n) → timeAt b k < end_of (packetsAt b) + 1
-          on (yes l) = omega (arith, end-time b n e, times-rise m b trace k n l (omega arith))
-          on (no l) = let same : k ≡ n = omega arith in omega (arith, end-time b n e, ap (timeAt b) same)
+          on : Dec (k < n) → time_at b k < end_of (packets_at b) + 1
+          on (yes l) = omega (arith, end-time b n e, times_rise m b trace k n l (omega arith))
+          on (no l) = let same : k ≡ n = omega arith in omega (arith, end-time b n e, ap (time_at b) same)
 
   -- exactly the rows with times below t are before the cursor that has gone back
-  pub back-cursor : {j t : ℕ} → Cursor b j (t + 1) → Cursor b (cursorBefore b j t) t
-  unfolding cursorBefore
+  pub back-cursor : {j t : ℕ} → Cursor b j (t + 1) → Cursor b (cursor_before b j t) t
+  unfolding cursor_before
   back-cursor {j} {t} at = on (is_at b (j - 1) t) refl
     where
-      not_last : is_at b (j - 1) t ≡ false → j - 1 < countAt b → timeAt b (j - 1) ≡ t → ⊥
-      not_last e h q = false≢true (sym e ∙ at_row b (j - 1) t h ∙ eq-eqb (timeAt b (j - 1)) t q)
+      not_last : is_at b (j - 1) t ≡ false → j - 1 < count_at b → time_at b (j - 1) ≡ t → ⊥
+      not_last e h q = false≢true (sym e ∙ at_row b (j - 1) t h ∙ eq-eqb (time_at b (j - 1)) t q)
 
-      earlier : timeAt b (j - 1) ≡ t → (k : ℕ) → k < j - 1 → timeAt b k < t
-      earlier q k l = omega (arith, times-rise m b trace k (j - 1) l (omega (arith, at.within)))
+      earlier : time_at b (j - 1) ≡ t → (k : ℕ) → k < j - 1 → time_at b k < t
+      earlier q k l = omega (arith, times_rise m b trace k (j - 1) l (omega (arith, at.within)))
 
-      from : timeAt b (j - 1) ≡ t → (k : ℕ) → j - 1 ≤ k → k < countAt b → t ≤ timeAt b k
+      from : time_at b (j - 1) ≡ t → (k : ℕ) → j - 1 ≤ k → k < count_at b → t ≤ time_at b k
       from q k l h = by (dec_lt k j)
         where
-          by : Dec (k < j) → t ≤ timeAt b k
-          by (yes g) = let same : k ≡ j - 1 = omega arith in omega (arith, ap (timeAt b) same)
+          by : Dec (k < j) → t ≤ time_at b k
+          by (yes g) = let same : k ≡ j - 1 = omega arith in omega (arith, ap (time_at b) same)
           by (no g) = omega (arith, at.behind k (omega arith) h)
 
-      up_to : (timeAt b (j - 1) ≡ t → ⊥) → (k : ℕ) → k < j → timeAt b k < t
+      up_to : (time_at b (j - 1) ≡ t → ⊥) → (k : ℕ) → k < j → time_at b k < t
       up_to other k l = by (dec_lt k (j - 1))
         where
-          last : timeAt b (j - 1) < t + 1
+          last : time_at b (j - 1) < t + 1
           last = at.before (j - 1) (omega arith)
 
-          by : Dec (k < j - 1) → timeAt b k < t
-          by (yes g) = omega (arith, last, times-rise m b trace k (j - 1) g (omega (arith, at.within)))
+          by : Dec (k < j - 1) → time_at b k < t
+          by (yes g) = omega (arith, last, times_rise m b trace k (j - 1) g (omega (arith, at.within)))
           by (no g) =
               let same : k ≡ j - 1 = omega arith in
-              let not : timeAt b k ≡ t → ⊥ = λ q. other (ap (timeAt b) (sym same) ∙ q) in
+              let not : time_at b k ≡ t → ⊥ = λ q. other (ap (time_at b) (sym same) ∙ q) in
               omega (arith, at.before k l)
 
       on : (found : Bool) → is_at b (j - 1) t ≡ found → Cursor b (cond (is_at b (j - 1) t) (j - 1) j) t
@@ -98,8 +98,8 @@ module _ (m : Monitor) (b : List ℕ) (trace : PacketTrace m (packetsAt b)) wher
           rw e
           (record {
             within = omega (arith, at.within);
-            before = earlier (at-instant b (j - 1) t e);
-            behind = from (at-instant b (j - 1) t e);
+            before = earlier (at_instant b (j - 1) t e);
+            behind = from (at_instant b (j - 1) t e);
           })
       on false e =
           rw e

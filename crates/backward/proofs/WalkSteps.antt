@@ -9,30 +9,30 @@ use mathlib.Core.Option.{Option, some, some-injective}
 use lib.ListN.{length, get_or, replicate, length-replicate, length-append}
 use lib.Seq.{get_or-set_same}
 use Rattle.model.specs.Monitor.{Monitor}
-use Rattle.model.specs.Recording.{packetsAt, end_of}
-use Rattle.model.specs.Layers.{count, layer, arrived, leastFrom}
-use Rattle.model.specs.Situation.{move_of, moveLimit, recordedAt, firstNumber}
+use Rattle.model.specs.Recording.{packets_at, end_of}
+use Rattle.model.specs.Layers.{count, layer, arrived, least_from}
+use Rattle.model.specs.Situation.{move_of, move_limit, recorded_at, first_number}
 use Rattle.model.specs.Validation.{rows_by, rows_of, moves_of, preferred, HasRows}
 use Rattle.model.specs.Witness.{Row}
-use Rattle.model.proofs.SetLaws.{member-within, leadsInto-member, count-some}
-use Rattle.model.proofs.LayerLaws.{length-layer, layer-suc, layer-leads}
-use Rattle.model.proofs.LeastLaws.{alive-suc, length-alive, alive-carries, leads-enters, leastInto-leads, leastFrom-zero, leastFrom-suc, leastMoves-from, length-least}
+use Rattle.model.proofs.SetLaws.{member_within, leads_into_member, count-some}
+use Rattle.model.proofs.LayerLaws.{length-layer, layer_suc, layer-leads}
+use Rattle.model.proofs.LeastLaws.{alive_suc, length-alive, alive_carries, leads_enters, least_into-leads, least_from_zero, least_from_suc, least_moves-from, length_least}
 use Rattle.model.proofs.LeastLaws as least
 use Rattle.model.specs.Layers as L
-use Rattle.model.proofs.WalkLaws.{least-same}
+use Rattle.model.proofs.WalkLaws.{least_same}
 use Rattle.model.proofs.MoveRows.{rows_short}
-use Rattle.model.proofs.Numbering.{first-number-below}
+use Rattle.model.proofs.Numbering.{first_number_below}
 use Rattle.situation.specs.Rows.{Cursor}
 use Rattle.situation.proofs.Cursors.{first-cursor}
-use Rattle.layers.specs.Into.{in_row, leastInto}
-use Rattle.steps.specs.Stepping.{stepAt}
+use Rattle.layers.specs.Into.{in_row, least_into}
+use Rattle.steps.specs.Stepping.{step_at}
 use Rattle.measures.specs.declared.Measures.{Measures}
-use Rattle.measures.specs.Setting.{monitorBy, Setting}
+use Rattle.measures.specs.Setting.{monitor_by, Setting}
 use Rattle.backward.specs.PruneRows.{PrunedRows}
-use Rattle.backward.specs.WalkRows.{RowsPut, Room, Stands, rowsAfter, WalkedOn}
-use Rattle.backward.proofs.PruneLayers.{reaching, PrunedBy, in-row-pruned, least_step}
+use Rattle.backward.specs.WalkRows.{RowsPut, Room, Stands, rows_after, WalkedOn}
+use Rattle.backward.proofs.PruneLayers.{reaching, PrunedBy, in_row_pruned, least_step}
 use Rattle.measures.proofs.Rows.{size_of, step_of, possible}
-use Rattle.backward.proofs.WalkRoom.{rows-put-none, rows-put-same, rows-put-more}
+use Rattle.backward.proofs.WalkRoom.{rows_put_none, rows_put_same, rows_put_more}
 use Rattle.backward.proofs.WalkMoves.{fits-number}
 
 -- where the end can be reached from a possible situation, the least move leads to another
@@ -43,112 +43,112 @@ module _ (N K : ℕ) (step : ℕ → ℕ → ℕ → Option ℕ) (first : ℕ) w
     pub arrives : step (suc t) n k ≡ some number
     pub here : get_or (layer N K step first (suc t)) number false ≡ true
     pub alive : get_or (L.alive N K step left (suc t)) number false ≡ true
-    pub moves : leastFrom N K step (suc left) t n ≡ k ∷ leastFrom N K step left (suc t) number
+    pub moves : least_from N K step (suc left) t n ≡ k ∷ least_from N K step left (suc t) number
 
   pub inside : (t n : ℕ) → get_or (layer N K step first t) n false ≡ true → n < N
-  inside t n e = omega (arith, member-within (layer N K step first t) n e, length-layer N K step first t)
+  inside t n e = omega (arith, member_within (layer N K step first t) n e, length-layer N K step first t)
 
-  moves-on : (left t n x : ℕ) → step (suc t) n (least.leastInto N K step (L.alive N K step left (suc t)) t n) ≡ some x
-      → leastFrom N K step (suc left) t n ≡ least.leastInto N K step (L.alive N K step left (suc t)) t n ∷ leastFrom N K step left (suc t) x
-  moves-on left t n x e =
-      leastFrom-suc N K step left t n
-      ∙ ap (λ (o : Option ℕ). least.leastInto N K step (L.alive N K step left (suc t)) t n ∷ leastFrom N K step left (suc t) (arrived N K step o)) e
+  moves_on : (left t n x : ℕ) → step (suc t) n (least.least_into N K step (L.alive N K step left (suc t)) t n) ≡ some x
+      → least_from N K step (suc left) t n ≡ least.least_into N K step (L.alive N K step left (suc t)) t n ∷ least_from N K step left (suc t) x
+  moves_on left t n x e =
+      least_from_suc N K step left t n
+      ∙ ap (λ (o : Option ℕ). least.least_into N K step (L.alive N K step left (suc t)) t n ∷ least_from N K step left (suc t) (arrived N K step o)) e
 
   pub next : (left t n : ℕ) → get_or (layer N K step first t) n false ≡ true → get_or (L.alive N K step (suc left) t) n false ≡ true
-      → Next left t n (least.leastInto N K step (L.alive N K step left (suc t)) t n)
+      → Next left t n (least.least_into N K step (L.alive N K step left (suc t)) t n)
   next left t n here alive =
       let s : List Bool = L.alive N K step left (suc t) in
-      let k : ℕ = least.leastInto N K step s t n in
-      let (j, y, few, q, r) = (leads-enters N K step s (suc t) n K).0 (sym (alive-suc N K step left t n (inside t n here)) ∙ alive) in
-      let (x, le, p, g) = leastInto-leads N K step s t n j few ((leadsInto-member s (step (suc t) n j)).1 (y, q, r)) in
-      let below : x < N = omega (arith, member-within s x g, length-alive N K step left (suc t)) in
+      let k : ℕ = least.least_into N K step s t n in
+      let (j, y, few, q, r) = (leads_enters N K step s (suc t) n K).0 (sym (alive_suc N K step left t n (inside t n here)) ∙ alive) in
+      let (x, le, p, g) = least_into-leads N K step s t n j few ((leads_into_member s (step (suc t) n j)).1 (y, q, r)) in
+      let below : x < N = omega (arith, member_within s x g, length-alive N K step left (suc t)) in
       let little : k < K = omega arith in
       record {
         number = x;
         few = little;
         arrives = p;
-        here = (layer-suc N K step first t x).1 (n, k, inside t n here, here, little, p, below);
+        here = (layer_suc N K step first t x).1 (n, k, inside t n here, here, little, p, below);
         alive = g;
-        moves = moves-on left t n x p;
+        moves = moves_on left t n x p;
       }
 
 -- what the code's least move k from n after instant t comes to
 pub record Leading (m : Monitor) (recording : List ℕ) (last t n k : ℕ) (heard : Option ℕ) (to : Option ℕ) : Type 0 where
   pub number : ℕ
   pub arrives : to ≡ some number
-  pub few : k < moveLimit
+  pub few : k < move_limit
   pub fits : HasRows m heard (move_of k)
   pub here : get_or (possible m recording (t + 1)) number false ≡ true
   pub alive : get_or (reaching m recording (last - (t + 1)) (t + 1)) number false ≡ true
-  pub split : rowsAfter m recording last t n ≡ rows_by m heard (t + 1) (move_of k) ++ rowsAfter m recording last (t + 1) number
+  pub split : rows_after m recording last t n ≡ rows_by m heard (t + 1) (move_of k) ++ rows_after m recording last (t + 1) number
 
 module _ (m : Monitor) (recording : List ℕ) (last : ℕ) where
   -- the rows of the first of the least moves, and the rows of the others
   rows_split : (t n k x : ℕ) → t < last
-      → leastFrom (size_of m) moveLimit (step_of m recording) (suc (last - (t + 1))) t n
-      ≡ k ∷ leastFrom (size_of m) moveLimit (step_of m recording) (last - (t + 1)) (suc t) x
-      → rowsAfter m recording last t n
-      ≡ rows_by m (recordedAt (packetsAt recording) (t + 1)) (t + 1) (move_of k) ++ rowsAfter m recording last (t + 1) x
+      → least_from (size_of m) move_limit (step_of m recording) (suc (last - (t + 1))) t n
+      ≡ k ∷ least_from (size_of m) move_limit (step_of m recording) (last - (t + 1)) (suc t) x
+      → rows_after m recording last t n
+      ≡ rows_by m (recorded_at (packets_at recording) (t + 1)) (t + 1) (move_of k) ++ rows_after m recording last (t + 1) x
   unfolding rows_of
   rows_split t n k x l e =
       let left : last - t ≡ suc (last - (t + 1)) = omega arith in
-      ap (λ (u : ℕ). rows_of m (packetsAt recording) (t + 1) (leastFrom (size_of m) moveLimit (step_of m recording) u t n)) left
-      ∙ ap (rows_of m (packetsAt recording) (t + 1)) e
+      ap (λ (u : ℕ). rows_of m (packets_at recording) (t + 1) (least_from (size_of m) move_limit (step_of m recording) u t n)) left
+      ∙ ap (rows_of m (packets_at recording) (t + 1)) e
       ∙ ap₂
-      (λ (u v : ℕ). rows_by m (recordedAt (packetsAt recording) (t + 1)) (t + 1) (move_of k) ++ rows_of m (packetsAt recording) u (leastFrom (size_of m) moveLimit (step_of m recording) (last - (t + 1)) v x))
+      (λ (u v : ℕ). rows_by m (recorded_at (packets_at recording) (t + 1)) (t + 1) (move_of k) ++ rows_of m (packets_at recording) u (least_from (size_of m) move_limit (step_of m recording) (last - (t + 1)) v x))
       (sym (add-one (t + 1))) (sym (add-one t))
 
 module _
     (table offsets recording : List ℕ) (g : Measures) (set : Setting table offsets recording g)
-    (scratch : List ℕ) (rows : PrunedRows (monitorBy g table) recording scratch g.row g.size g.last)
+    (scratch : List ℕ) (rows : PrunedRows (monitor_by g table) recording scratch g.row g.size g.last)
   where
     -- the code's least move into the next row is that of the definition
-    least-move : (t n : ℕ) (heard : Option ℕ) → t < g.last → heard ≡ recordedAt (packetsAt recording) (t + 1) → get_or (possible (monitorBy g table) recording t) n false ≡ true → n < g.size
-        → leastInto (stepAt table offsets g.shape heard) scratch (8 * g.row * (t + 1)) g.size n
-        ≡ least.leastInto (size_of (monitorBy g table)) moveLimit (step_of (monitorBy g table) recording) (reaching (monitorBy g table) recording (g.last - (t + 1)) (suc t)) t n
+    least-move : (t n : ℕ) (heard : Option ℕ) → t < g.last → heard ≡ recorded_at (packets_at recording) (t + 1) → get_or (possible (monitor_by g table) recording t) n false ≡ true → n < g.size
+        → least_into (step_at table offsets g.shape heard) scratch (8 * g.row * (t + 1)) g.size n
+        ≡ least.least_into (size_of (monitor_by g table)) move_limit (step_of (monitor_by g table) recording) (reaching (monitor_by g table) recording (g.last - (t + 1)) (suc t)) t n
     least-move t n heard early q here l =
         least_step table offsets recording g set heard scratch (8 * g.row * (t + 1)) (t + 1) t n q (add-one t) l
-        ∙ least-same (size_of (monitorBy g table)) moveLimit (step_of (monitorBy g table) recording) (firstNumber (monitorBy g table)) (g.last - (t + 1)) t n (in_row scratch (8 * g.row * (t + 1)) g.size)
-        (subst (λ (u : ℕ). PrunedBy (monitorBy g table) recording (g.last - (t + 1)) u (in_row scratch (8 * g.row * (t + 1)) g.size)) (add-one t)
-        (in-row-pruned table offsets recording g set scratch (8 * g.row * (t + 1)) (g.last - (t + 1)) (t + 1) (rows (t + 1) (omega arith))))
+        ∙ least_same (size_of (monitor_by g table)) move_limit (step_of (monitor_by g table) recording) (first_number (monitor_by g table)) (g.last - (t + 1)) t n (in_row scratch (8 * g.row * (t + 1)) g.size)
+        (subst (λ (u : ℕ). PrunedBy (monitor_by g table) recording (g.last - (t + 1)) u (in_row scratch (8 * g.row * (t + 1)) g.size)) (add-one t)
+        (in_row_pruned table offsets recording g set scratch (8 * g.row * (t + 1)) (g.last - (t + 1)) (t + 1) (rows (t + 1) (omega arith))))
         (omega (arith, set.whole)) here
 
-    pub leading : (t n j : ℕ) (heard : Option ℕ) (k : ℕ) → t < g.last → heard ≡ recordedAt (packetsAt recording) (t + 1)
-        → k ≡ leastInto (stepAt table offsets g.shape heard) scratch (8 * g.row * (t + 1)) g.size n → Stands (monitorBy g table) recording g.last t n j
-        → Leading (monitorBy g table) recording g.last t n k heard (stepAt table offsets g.shape heard n k)
+    pub leading : (t n j : ℕ) (heard : Option ℕ) (k : ℕ) → t < g.last → heard ≡ recorded_at (packets_at recording) (t + 1)
+        → k ≡ least_into (step_at table offsets g.shape heard) scratch (8 * g.row * (t + 1)) g.size n → Stands (monitor_by g table) recording g.last t n j
+        → Leading (monitor_by g table) recording g.last t n k heard (step_at table offsets g.shape heard n k)
     leading t n j heard k early q e stands =
         record {
           number = on.number;
-          arrives = ap (λ (o : Option ℕ). stepAt table offsets g.shape o n k) q ∙ set.stepping (t + 1) n k below ∙ arrives;
+          arrives = ap (λ (o : Option ℕ). step_at table offsets g.shape o n k) q ∙ set.stepping (t + 1) n k below ∙ arrives;
           few = omega (arith, same, on.few);
-          fits = subst (λ (o : Option ℕ). HasRows m o (move_of k)) (sym q) (fits-number m (packetsAt recording) (t + 1) n k on.number arrives);
-          here = subst (λ (u : ℕ). get_or (possible (monitorBy g table) recording u) on.number false ≡ true) (sym (add-one t)) on.here;
-          alive = subst (λ (u : ℕ). get_or (reaching (monitorBy g table) recording left u) on.number false ≡ true) (sym (add-one t)) on.alive;
+          fits = subst (λ (o : Option ℕ). HasRows m o (move_of k)) (sym q) (fits-number m (packets_at recording) (t + 1) n k on.number arrives);
+          here = subst (λ (u : ℕ). get_or (possible (monitor_by g table) recording u) on.number false ≡ true) (sym (add-one t)) on.here;
+          alive = subst (λ (u : ℕ). get_or (reaching (monitor_by g table) recording left u) on.number false ≡ true) (sym (add-one t)) on.alive;
           split =
-              rows_split (monitorBy g table) recording g.last t n k on.number early (on.moves ∙ ap (λ (i : ℕ). i ∷ leastFrom (size_of (monitorBy g table)) moveLimit (step_of (monitorBy g table) recording) left (suc t) on.number) (sym same))
-              ∙ ap (λ (o : Option ℕ). rows_by m o (t + 1) (move_of k) ++ rowsAfter (monitorBy g table) recording g.last (t + 1) on.number) (sym q);
+              rows_split (monitor_by g table) recording g.last t n k on.number early (on.moves ∙ ap (λ (i : ℕ). i ∷ least_from (size_of (monitor_by g table)) move_limit (step_of (monitor_by g table) recording) left (suc t) on.number) (sym same))
+              ∙ ap (λ (o : Option ℕ). rows_by m o (t + 1) (move_of k) ++ rows_after (monitor_by g table) recording g.last (t + 1) on.number) (sym q);
         }
       where
         m : Monitor
-        m = monitorBy g table
+        m = monitor_by g table
 
         left : ℕ
         left = g.last - (t + 1)
 
         below : n < g.size
-        below = omega (arith, set.whole, inside (size_of (monitorBy g table)) moveLimit (step_of (monitorBy g table) recording) (firstNumber m) t n stands.here)
+        below = omega (arith, set.whole, inside (size_of (monitor_by g table)) move_limit (step_of (monitor_by g table) recording) (first_number m) t n stands.here)
 
-        on : Next (size_of (monitorBy g table)) moveLimit (step_of (monitorBy g table) recording) (firstNumber m) left t n (least.leastInto (size_of (monitorBy g table)) moveLimit (step_of (monitorBy g table) recording) (reaching (monitorBy g table) recording left (suc t)) t n)
+        on : Next (size_of (monitor_by g table)) move_limit (step_of (monitor_by g table) recording) (first_number m) left t n (least.least_into (size_of (monitor_by g table)) move_limit (step_of (monitor_by g table) recording) (reaching (monitor_by g table) recording left (suc t)) t n)
         on =
             let more : g.last - t ≡ suc left = omega arith in
-            next (size_of (monitorBy g table)) moveLimit (step_of (monitorBy g table) recording) (firstNumber m) left t n stands.here
-            (subst (λ (u : ℕ). get_or (reaching (monitorBy g table) recording u t) n false ≡ true) more stands.alive)
+            next (size_of (monitor_by g table)) move_limit (step_of (monitor_by g table) recording) (first_number m) left t n stands.here
+            (subst (λ (u : ℕ). get_or (reaching (monitor_by g table) recording u t) n false ≡ true) more stands.alive)
 
-        same : k ≡ least.leastInto (size_of (monitorBy g table)) moveLimit (step_of (monitorBy g table) recording) (reaching (monitorBy g table) recording left (suc t)) t n
+        same : k ≡ least.least_into (size_of (monitor_by g table)) move_limit (step_of (monitor_by g table) recording) (reaching (monitor_by g table) recording left (suc t)) t n
         same = e ∙ least-move t n heard early q stands.here below
 
-        arrives : step_of (monitorBy g table) recording (t + 1) n k ≡ some on.number
-        arrives = ap₂ (λ (u i : ℕ). step_of (monitorBy g table) recording u n i) (add-one t) same ∙ on.arrives
+        arrives : step_of (monitor_by g table) recording (t + 1) n k ≡ some on.number
+        arrives = ap₂ (λ (u i : ℕ). step_of (monitor_by g table) recording u n i) (add-one t) same ∙ on.arrives
 
 pub onward : {m : Monitor} {recording : List ℕ} {last t n k : ℕ} {heard to : Option ℕ} → Leading m recording last t n k heard to
     → {x j r next : ℕ} {before after : List ℕ} → to ≡ some x → Cursor recording j (t + 1 + 1)
@@ -165,83 +165,83 @@ onward {m} {recording} {last} {t} {n} {k} {heard} {to} on {x} {j} {r} {next} {be
             cursor = cursor;
           };
       wrote = wrote;
-      split = on.split ∙ ap (λ (z : ℕ). rows_by m heard (t + 1) (move_of k) ++ rowsAfter m recording last (t + 1) z) same;
+      split = on.split ∙ ap (λ (z : ℕ). rows_by m heard (t + 1) (move_of k) ++ rows_after m recording last (t + 1) z) same;
     }
 
 -- the rows written up to instant t, and those to come from number n, are the preferred witness
 pub record Walked (m : Monitor) (recording : List ℕ) (last t n r : ℕ) (before after : List ℕ) : Type 0 where
   pub rows : List Row
   pub wrote : RowsPut rows 0 r before after
-  pub whole : rows ++ rowsAfter m recording last t n ≡ preferred m (packetsAt recording)
+  pub whole : rows ++ rows_after m recording last t n ≡ preferred m (packets_at recording)
 
 module _ {m : Monitor} {recording : List ℕ} {last t n r : ℕ} {before after : List ℕ} (walked : Walked m recording last t n r before after)
-    (room : Room (preferred m (packetsAt recording)) 0 before)
+    (room : Room (preferred m (packets_at recording)) 0 before)
   where
     pub walked_on : {x j next : ℕ} {then : List ℕ} → WalkedOn m recording last t n r x j next after then → Walked m recording last (t + 1) x next before then
     walked_on {x} on =
-        let all : (walked.rows ++ on.rows) ++ rowsAfter m recording last (t + 1) x ≡ preferred m (packetsAt recording) =
-        append_assoc walked.rows on.rows (rowsAfter m recording last (t + 1) x)
+        let all : (walked.rows ++ on.rows) ++ rows_after m recording last (t + 1) x ≡ preferred m (packets_at recording) =
+        append_assoc walked.rows on.rows (rows_after m recording last (t + 1) x)
         ∙ ap (λ (l : List Row). walked.rows ++ l) (sym on.split)
         ∙ walked.whole in
         record {
           rows = walked.rows ++ on.rows;
-          wrote = rows-put-more (omega (arith, ap length all, length-append (walked.rows ++ on.rows) (rowsAfter m recording last (t + 1) x))) walked.wrote on.wrote;
+          wrote = rows_put_more (omega (arith, ap length all, length-append (walked.rows ++ on.rows) (rows_after m recording last (t + 1) x))) walked.wrote on.wrote;
           whole = all;
         }
 
 -- where the walk begins and ends
 module _ (table offsets recording : List ℕ) (g : Measures) (set : Setting table offsets recording g) where
-  pub stands-first : 0 < count (possible (monitorBy g table) recording g.last) → Stands (monitorBy g table) recording g.last 0 (firstNumber (monitorBy g table)) 0
+  pub stands-first : 0 < count (possible (monitor_by g table) recording g.last) → Stands (monitor_by g table) recording g.last 0 (first_number (monitor_by g table)) 0
   unfolding layer
   stands-first some_left =
-      let m = monitorBy g table in
-      let step = step_of (monitorBy g table) recording in
-      let below : firstNumber m < size_of (monitorBy g table) = first-number-below set.sane in
-      let (z, l, member) = count-some (possible (monitorBy g table) recording g.last) some_left in
-      let (ks, long, leads) = layer-leads (size_of (monitorBy g table)) moveLimit step (firstNumber m) g.last z member in
+      let m = monitor_by g table in
+      let step = step_of (monitor_by g table) recording in
+      let below : first_number m < size_of (monitor_by g table) = first_number_below set.sane in
+      let (z, l, member) = count-some (possible (monitor_by g table) recording g.last) some_left in
+      let (ks, long, leads) = layer-leads (size_of (monitor_by g table)) move_limit step (first_number m) g.last z member in
       let whole : g.last ≡ g.last - 0 = omega arith in
       record {
-        here = get_or-set_same (replicate (size_of (monitorBy g table)) false) (firstNumber m) true false (omega (arith, length-replicate (size_of (monitorBy g table)) false));
-        alive = (alive-carries (size_of (monitorBy g table)) moveLimit step (g.last - 0) 0 (firstNumber m) below).1 (ks, z, long ∙ whole, leads);
+        here = get_or-set_same (replicate (size_of (monitor_by g table)) false) (first_number m) true false (omega (arith, length-replicate (size_of (monitor_by g table)) false));
+        alive = (alive_carries (size_of (monitor_by g table)) move_limit step (g.last - 0) 0 (first_number m) below).1 (ks, z, long ∙ whole, leads);
         cursor = first-cursor m recording set.sound.trace;
       }
 
-  pub rows_all : rowsAfter (monitorBy g table) recording g.last 0 (firstNumber (monitorBy g table)) ≡ preferred (monitorBy g table) (packetsAt recording)
+  pub rows_all : rows_after (monitor_by g table) recording g.last 0 (first_number (monitor_by g table)) ≡ preferred (monitor_by g table) (packets_at recording)
   unfolding preferred
   rows_all =
-      let whole : g.last - 0 ≡ end_of (packetsAt recording) = omega (arith, set.end) in
-      ap (λ (u : ℕ). rows_of (monitorBy g table) (packetsAt recording) 1 (leastFrom (size_of (monitorBy g table)) moveLimit (step_of (monitorBy g table) recording) u 0 (firstNumber (monitorBy g table)))) whole
-      ∙ ap (rows_of (monitorBy g table) (packetsAt recording) 1) (sym (leastMoves-from (size_of (monitorBy g table)) moveLimit (step_of (monitorBy g table) recording) (firstNumber (monitorBy g table)) (end_of (packetsAt recording))))
+      let whole : g.last - 0 ≡ end_of (packets_at recording) = omega (arith, set.end) in
+      ap (λ (u : ℕ). rows_of (monitor_by g table) (packets_at recording) 1 (least_from (size_of (monitor_by g table)) move_limit (step_of (monitor_by g table) recording) u 0 (first_number (monitor_by g table)))) whole
+      ∙ ap (rows_of (monitor_by g table) (packets_at recording) 1) (sym (least_moves-from (size_of (monitor_by g table)) move_limit (step_of (monitor_by g table) recording) (first_number (monitor_by g table)) (end_of (packets_at recording))))
 
-  pub rows_end : (n : ℕ) → rowsAfter (monitorBy g table) recording g.last g.last n ≡ []
+  pub rows_end : (n : ℕ) → rows_after (monitor_by g table) recording g.last g.last n ≡ []
   unfolding rows_of
   rows_end n =
       let none_left : g.last - g.last ≡ 0 = omega arith in
-      ap (λ (u : ℕ). rows_of (monitorBy g table) (packetsAt recording) (g.last + 1) (leastFrom (size_of (monitorBy g table)) moveLimit (step_of (monitorBy g table) recording) u g.last n)) none_left
-      ∙ ap (rows_of (monitorBy g table) (packetsAt recording) (g.last + 1)) (leastFrom-zero (size_of (monitorBy g table)) moveLimit (step_of (monitorBy g table) recording) g.last n)
+      ap (λ (u : ℕ). rows_of (monitor_by g table) (packets_at recording) (g.last + 1) (least_from (size_of (monitor_by g table)) move_limit (step_of (monitor_by g table) recording) u g.last n)) none_left
+      ∙ ap (rows_of (monitor_by g table) (packets_at recording) (g.last + 1)) (least_from_zero (size_of (monitor_by g table)) move_limit (step_of (monitor_by g table) recording) g.last n)
 
   -- at most one row an instant
-  pub rows_fit : length (preferred (monitorBy g table) (packetsAt recording)) ≤ g.last
+  pub rows_fit : length (preferred (monitor_by g table) (packets_at recording)) ≤ g.last
   unfolding preferred
   rows_fit =
       omega (
         arith,
         set.end,
-        rows_short (monitorBy g table) (packetsAt recording) 1 (moves_of (monitorBy g table) (packetsAt recording)),
-        length-least (size_of (monitorBy g table)) moveLimit (step_of (monitorBy g table) recording) (firstNumber (monitorBy g table)) (end_of (packetsAt recording)),
+        rows_short (monitor_by g table) (packets_at recording) 1 (moves_of (monitor_by g table) (packets_at recording)),
+        length_least (size_of (monitor_by g table)) move_limit (step_of (monitor_by g table) recording) (first_number (monitor_by g table)) (end_of (packets_at recording)),
       )
 
-  pub rows-room : (room : List ℕ) → 5 * (g.last + length (packetsAt recording)) ≤ length room → Room (preferred (monitorBy g table) (packetsAt recording)) 0 room
+  pub rows-room : (room : List ℕ) → 5 * (g.last + length (packets_at recording)) ≤ length room → Room (preferred (monitor_by g table) (packets_at recording)) 0 room
   rows-room room long = omega (arith, long, rows_fit)
 
-  pub walked-first : (room : List ℕ) → Walked (monitorBy g table) recording g.last 0 (firstNumber (monitorBy g table)) 0 room room
-  walked-first room = record { rows = []; wrote = rows-put-none 0 room; whole = rows_all }
+  pub walked_first : (room : List ℕ) → Walked (monitor_by g table) recording g.last 0 (first_number (monitor_by g table)) 0 room room
+  walked_first room = record { rows = []; wrote = rows_put_none 0 room; whole = rows_all }
 
-  pub walked_all : {t n r : ℕ} {before after : List ℕ} → Walked (monitorBy g table) recording g.last t n r before after → t ≡ g.last
-      → RowsPut (preferred (monitorBy g table) (packetsAt recording)) 0 r before after
+  pub walked_all : {t n r : ℕ} {before after : List ℕ} → Walked (monitor_by g table) recording g.last t n r before after → t ≡ g.last
+      → RowsPut (preferred (monitor_by g table) (packets_at recording)) 0 r before after
   walked_all {t} {n} walked e =
-      rows-put-same
+      rows_put_same
       (sym (append-nil walked.rows)
-      ∙ ap (λ (l : List Row). walked.rows ++ l) (sym (ap (λ (u : ℕ). rowsAfter (monitorBy g table) recording g.last u n) e ∙ rows_end n))
+      ∙ ap (λ (l : List Row). walked.rows ++ l) (sym (ap (λ (u : ℕ). rows_after (monitor_by g table) recording g.last u n) e ∙ rows_end n))
       ∙ walked.whole)
       walked.wrote

@@ -3,25 +3,25 @@ use Rattle.std.specs.Prelude.{ℕ, ◌+◌, ◌-◌, ◌*◌, ◌<◌, ◌≤◌
 use Rattle.std.proofs.Math.Option.{Option}
 use Rattle.model.specs.Size
 use Rattle.model.specs.Monitor.{Monitor}
-use Rattle.model.specs.Recording.{packetsAt}
-use Rattle.model.specs.Situation.{moveLimit, stepNumber}
-use Rattle.model.specs.Validation.{possibleAfter}
+use Rattle.model.specs.Recording.{packets_at}
+use Rattle.model.specs.Situation.{move_limit, step_number}
+use Rattle.model.specs.Validation.{possible_after}
 use Rattle.model.specs.Layers.{alive}
 use Rattle.bits.specs.Member.{mem}
 use Rattle.situation.specs.Rows.{is_at}
-use Rattle.layers.specs.Into.{leastInto}
+use Rattle.layers.specs.Into.{least_into}
 use Rattle.words.specs.Words as Words
 use Rattle.images.specs.Buffers.{Sized}
 use Rattle.memo.specs.Known.{KnownBack}
 use Rattle.measures.specs.declared.Measures.{Measures}
 
 -- the cursor before row j - 1 where that is at instant t
-unfoldable pub cursorBefore : List ℕ → (j t : ℕ) → ℕ
-cursorBefore b j t = cond (is_at b (j - 1) t) (j - 1) j
+unfoldable pub cursor_before : List ℕ → (j t : ℕ) → ℕ
+cursor_before b j t = cond (is_at b (j - 1) t) (j - 1) j
 
 -- what stays of situation n of one row: it is there, and some move leads from it into another row
 abbrev pub stays : (step : ℕ → ℕ → Option ℕ) → List ℕ → (from to size n : ℕ) → Bool
-stays step scratch from to size n = mem scratch (from + n) && ltb (leastInto step scratch to size n) moveLimit
+stays step scratch from to size n = mem scratch (from + n) && ltb (least_into step scratch to size n) move_limit
 
 -- the first n situations of a row are done
 pub record RowCut (step : ℕ → ℕ → Option ℕ) (from to size n : ℕ) (before after : List ℕ) : Type 0 where
@@ -32,10 +32,10 @@ pub record RowCut (step : ℕ → ℕ → Option ℕ) (from to size n : ℕ) (be
 -- the row that starts at a bit holds the situations that are possible after instant t and from which the end can be reached, with left instants to go
 abbrev pub PrunedAt : Monitor → (recording scratch : List ℕ) → (start size left t : ℕ) → Type 0
 PrunedAt m recording scratch start size left t =
-    let packets = packetsAt recording in
+    let packets = packets_at recording in
     (z : ℕ) → z < size
     → mem scratch (start + z)
-    ≡ (get_or (possibleAfter m packets t) z false && get_or (alive (Size.size m) moveLimit (stepNumber m packets) left t) z false)
+    ≡ (get_or (possible_after m packets t) z false && get_or (alive (Size.size m) move_limit (step_number m packets) left t) z false)
 
 -- the row of instant t, where the end is the instant last
 abbrev pub PrunedRow : Monitor → (recording scratch : List ℕ) → (row size last t : ℕ) → Type 0

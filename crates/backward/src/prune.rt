@@ -1,12 +1,12 @@
 // The way back through the rows: a situation from which the end cannot be reached is cut from its row.
 ghost use Rattle.std.specs.Prelude.{◌+◌, ◌*◌, ◌≤◌, ◌<◌, ◌≡◌, length};
-ghost use Rattle.situation.specs.Rows.{heardAt, Cursor};
-ghost use Rattle.steps.specs.Stepping.{stepAt};
+ghost use Rattle.situation.specs.Rows.{heard_at, Cursor};
+ghost use Rattle.steps.specs.Stepping.{step_at};
 ghost use Rattle.images.specs.Buffers.{Sized, Kept};
 ghost use Rattle.measures.specs.Roomy.{Roomy};
-ghost use Rattle.measures.specs.Setting.{monitorBy, Setting, LayersUpTo};
+ghost use Rattle.measures.specs.Setting.{monitor_by, Setting, LayersUpTo};
 ghost use Rattle.measures.specs.Working.{Working};
-ghost use Rattle.backward.specs.PruneRows.{cursorBefore, RowCut, PrunedRows, RowWithin, Coming};
+ghost use Rattle.backward.specs.PruneRows.{cursor_before, RowCut, PrunedRows, RowWithin, Coming};
 
 use measures::{Measures, is_roomy};
 use memo::{forget, retreat};
@@ -18,7 +18,7 @@ use words::copy;
 
 // The cursor of instant t, from that of the next instant.
 fn back(recording: &[u8], cursor: usize, t: u64) -> usize
-    ensures { result ≡ cursorBefore recording.now cursor t }
+    ensures { result ≡ cursor_before recording.now cursor t }
 {
     if cursor == 0 {
         return 0;
@@ -49,7 +49,7 @@ fn prune_at<'a>(
     t: usize,
 ) -> usize
     requires { Roomy g (length scratch.old) × (t < g.last) }
-    ensures { Kept scratch.old scratch.new × Kept next.old next.new × Kept row.old row.new × Kept sets.old sets.new × Kept one.old one.new × Kept two.old two.new × Kept memo.old memo.new × (result ≡ cursorBefore recording.now cursor (t + 1)) × (Setting table.now offsets.now recording.now g → Working table.now offsets.now g marks.now planes.now → Cursor recording.now cursor (t + 1 + 1) → RowWithin scratch.old g.row g.size t → Coming (monitorBy g table.now) g (t + 1) scratch.old next.old row.old sets.old one.old two.old memo.old → RowCut (stepAt table.now offsets.now g.shape (heardAt recording.now result (t + 1))) (8 * g.row * t) (8 * g.row * (t + 1)) g.size g.size scratch.old scratch.new × Coming (monitorBy g table.now) g t scratch.new next.new row.new sets.new one.new two.new memo.new) }
+    ensures { Kept scratch.old scratch.new × Kept next.old next.new × Kept row.old row.new × Kept sets.old sets.new × Kept one.old one.new × Kept two.old two.new × Kept memo.old memo.new × (result ≡ cursor_before recording.now cursor (t + 1)) × (Setting table.now offsets.now recording.now g → Working table.now offsets.now g marks.now planes.now → Cursor recording.now cursor (t + 1 + 1) → RowWithin scratch.old g.row g.size t → Coming (monitor_by g table.now) g (t + 1) scratch.old next.old row.old sets.old one.old two.old memo.old → RowCut (step_at table.now offsets.now g.shape (heard_at recording.now result (t + 1))) (8 * g.row * t) (8 * g.row * (t + 1)) g.size g.size scratch.old scratch.new × Coming (monitor_by g table.now) g t scratch.new next.new row.new sets.new one.new two.new memo.new) }
 {
     let instant = t as u64 + 1;
     let before = back(recording, cursor, instant);
@@ -82,7 +82,7 @@ pub fn prune<'a>(
     two: &mut [u64],
     memo: &mut [u64],
 )
-    ensures { Kept scratch.old scratch.new × Kept next.old next.new × Kept row.old row.new × Kept sets.old sets.new × Kept one.old one.new × Kept two.old two.new × Kept memo.old memo.new × (Setting table.now offsets.now recording.now g → Working table.now offsets.now g marks.now planes.now → g.row * (g.last + 1) ≤ length scratch.old → LayersUpTo (monitorBy g table.now) recording.now scratch.old g.row g.last → Sized g.words sets.old one.old two.old → length next.old ≡ g.words → length row.old ≡ g.words → PrunedRows (monitorBy g table.now) recording.now scratch.new g.row g.size g.last) }
+    ensures { Kept scratch.old scratch.new × Kept next.old next.new × Kept row.old row.new × Kept sets.old sets.new × Kept one.old one.new × Kept two.old two.new × Kept memo.old memo.new × (Setting table.now offsets.now recording.now g → Working table.now offsets.now g marks.now planes.now → g.row * (g.last + 1) ≤ length scratch.old → LayersUpTo (monitor_by g table.now) recording.now scratch.old g.row g.last → Sized g.words sets.old one.old two.old → length next.old ≡ g.words → length row.old ≡ g.words → PrunedRows (monitor_by g table.now) recording.now scratch.new g.row g.size g.last) }
 {
     // Sizes that do not fit each other: nothing is done.
     if !is_roomy(g, scratch.len()) {

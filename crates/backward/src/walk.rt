@@ -1,18 +1,18 @@
 // The walk along the least moves, whose rows are the preferred witness.
 ghost use Rattle.std.specs.Prelude.{ℕ, ◌+◌, ◌*◌, ◌≤◌, ◌<◌, ◌≡◌, [], ◌∷◌, length};
 ghost use Rattle.std.proofs.Math.Option.{some};
-ghost use Rattle.model.specs.Edition.{rowsPlace};
-ghost use Rattle.model.specs.Table.{monitorAt};
-ghost use Rattle.model.specs.Recording.{packetsAt};
-ghost use Rattle.model.specs.Situation.{triggerOf, moveLimit, move_of};
+ghost use Rattle.model.specs.Edition.{rows_place};
+ghost use Rattle.model.specs.Table.{monitor_at};
+ghost use Rattle.model.specs.Recording.{packets_at};
+ghost use Rattle.model.specs.Situation.{trigger_of, move_limit, move_of};
 ghost use Rattle.model.specs.Layers.{count};
 ghost use Rattle.model.specs.Room.{over};
-ghost use Rattle.model.specs.Validation.{rowFor, rows_by, HasRows, possibleAfter, preferred};
-ghost use Rattle.model.specs.Witness.{added, rowsBytes, witnessBytes};
+ghost use Rattle.model.specs.Validation.{row_for, rows_by, HasRows, possible_after, preferred};
+ghost use Rattle.model.specs.Witness.{added, rows_bytes, witness_bytes};
 ghost use Rattle.witness.specs.Rows.{row_of};
-ghost use Rattle.situation.specs.Rows.{heardOf};
+ghost use Rattle.situation.specs.Rows.{heard_of};
 ghost use Rattle.images.specs.Buffers.{Kept};
-ghost use Rattle.measures.specs.Setting.{monitorBy, Triggers};
+ghost use Rattle.measures.specs.Setting.{monitor_by, Triggers};
 ghost use Rattle.backward.specs.WalkRows.{Ground, RowsPut, Stands, WalkedOn};
 
 use editions::rows_place;
@@ -47,7 +47,7 @@ fn put_row(room: &mut [u8], r: usize, row: Entry) -> usize
 // A kept or a removed row, if a row is recorded.
 fn put_heard(room: &mut [u8], r: usize, mark: u8, t: u16, heard: Heard, transition: u8) -> usize
     requires { r < 65536 }
-    ensures { (result ≤ r + 1) × RowsPut (rowFor mark t (heardOf heard) transition) r result room.old room.new }
+    ensures { (result ≤ r + 1) × RowsPut (row_for mark t (heard_of heard) transition) r result room.old room.new }
 {
     match heard {
         Heard::Kind(kind) => put_row(
@@ -74,7 +74,7 @@ fn put_added<'a>(
     j: usize,
 ) -> usize
     requires { (r < 65536) × (j < 256) }
-    ensures { Kept room.old room.new × (result ≤ r + 1) × (Triggers table.now offsets.now → (a : ℕ) → triggerOf (monitorAt table.now) j ≡ some a → RowsPut (rowFor added t (triggerOf (monitorAt table.now) j) j) r result room.old room.new) }
+    ensures { Kept room.old room.new × (result ≤ r + 1) × (Triggers table.now offsets.now → (a : ℕ) → trigger_of (monitor_at table.now) j ≡ some a → RowsPut (row_for added t (trigger_of (monitor_at table.now) j) j) r result room.old room.new) }
 {
     let kind = byte(table, short(offsets, j) as usize + 2);
     put_row(
@@ -100,7 +100,7 @@ fn put_move<'a>(
     k: usize,
 ) -> usize
     requires { r < 65536 }
-    ensures { Kept room.old room.new × (result ≤ r + 1) × (Triggers table.now offsets.now → k < moveLimit → HasRows (monitorAt table.now) (heardOf heard) (move_of k) → RowsPut (rows_by (monitorAt table.now) (heardOf heard) t (move_of k)) r result room.old room.new) }
+    ensures { Kept room.old room.new × (result ≤ r + 1) × (Triggers table.now offsets.now → k < move_limit → HasRows (monitor_at table.now) (heard_of heard) (move_of k) → RowsPut (rows_by (monitor_at table.now) (heard_of heard) t (move_of k)) r result room.old room.new) }
 {
     if MOVE_LIMIT <= k {
         return r;
@@ -126,7 +126,7 @@ fn walk_on<'a>(
     at: Place,
 ) -> Place
     requires { (g.row ≤ 8192) × (t < 65535) × (at.rows ≤ t) }
-    ensures { Kept room.old room.new × (result.rows ≤ t + 1) × (Ground table.now offsets.now recording.now scratch.now g → t < g.last → Stands (monitorBy g table.now) recording.now g.last t at.number at.cursor → WalkedOn (monitorBy g table.now) recording.now g.last t at.number at.rows result.number result.cursor result.rows room.old room.new) }
+    ensures { Kept room.old room.new × (result.rows ≤ t + 1) × (Ground table.now offsets.now recording.now scratch.now g → t < g.last → Stands (monitor_by g table.now) recording.now g.last t at.number at.cursor → WalkedOn (monitor_by g table.now) recording.now g.last t at.number at.rows result.number result.cursor result.rows room.old room.new) }
 {
     let instant = t as u64 + 1;
     let heard = heard_at(recording, at.cursor, instant);
@@ -164,7 +164,7 @@ fn walk_rows<'a>(
     room: &mut [u8],
 ) -> usize
     requires { (g.row ≤ 8192) × (g.last < 65536) }
-    ensures { Kept room.old room.new × (result ≤ g.last) × (Ground table.now offsets.now recording.now scratch.now g → 0 < count (possibleAfter (monitorBy g table.now) (packetsAt recording.now) g.last) → 5 * (g.last + length (packetsAt recording.now)) ≤ length room.old → (result ≡ length (preferred (monitorBy g table.now) (packetsAt recording.now))) × (room.new ≡ over (rowsBytes (preferred (monitorBy g table.now) (packetsAt recording.now))) room.old)) }
+    ensures { Kept room.old room.new × (result ≤ g.last) × (Ground table.now offsets.now recording.now scratch.now g → 0 < count (possible_after (monitor_by g table.now) (packets_at recording.now) g.last) → 5 * (g.last + length (packets_at recording.now)) ≤ length room.old → (result ≡ length (preferred (monitor_by g table.now) (packets_at recording.now))) × (room.new ≡ over (rows_bytes (preferred (monitor_by g table.now) (packets_at recording.now))) room.old)) }
 {
     let mut at = Place {
         number: g.first,
@@ -189,7 +189,7 @@ pub fn walk<'a>(
     scratch: &'a [u8],
     room: &mut [u8],
 ) -> usize
-    ensures { Kept room.old room.new × (Ground table.now offsets.now recording.now scratch.now g → 0 < count (possibleAfter (monitorBy g table.now) (packetsAt recording.now) g.last) → rowsPlace edition + 5 * (g.last + length (packetsAt recording.now)) ≤ length room.old → (result ≡ length (preferred (monitorBy g table.now) (packetsAt recording.now))) × (room.new ≡ over (witnessBytes edition (preferred (monitorBy g table.now) (packetsAt recording.now))) room.old)) }
+    ensures { Kept room.old room.new × (Ground table.now offsets.now recording.now scratch.now g → 0 < count (possible_after (monitor_by g table.now) (packets_at recording.now) g.last) → rows_place edition + 5 * (g.last + length (packets_at recording.now)) ≤ length room.old → (result ≡ length (preferred (monitor_by g table.now) (packets_at recording.now))) × (room.new ≡ over (witness_bytes edition (preferred (monitor_by g table.now) (packets_at recording.now))) room.old)) }
 {
     // Sizes that no sound table and recording have, or too little room: nothing is written.
     if 65535 < g.last {

@@ -7,30 +7,30 @@ use mathlib.Core.List.{List, [], ◌∷◌, ◌++◌}
 use lib.ListN.{length, get_or, drop}
 use lib.Seq.{drop-cons}
 use Rattle.model.specs.Bytes.{word_bytes}
-use Rattle.batch.specs.Batch.{sumFrom}
-use Rattle.batch.specs.Parts.{wordsBytes}
+use Rattle.batch.specs.Batch.{sum_from}
+use Rattle.batch.specs.Parts.{words_bytes}
 
-pub sum_more : (total : ℕ) (bytes : List ℕ) (i : ℕ) → i < length bytes → sumFrom ((total * 257 + get_or bytes i 0 + 1) % 1000003) (drop (i + 1) bytes) ≡ sumFrom total (drop i bytes)
-unfolding sumFrom
+pub sum_more : (total : ℕ) (bytes : List ℕ) (i : ℕ) → i < length bytes → sum_from ((total * 257 + get_or bytes i 0 + 1) % 1000003) (drop (i + 1) bytes) ≡ sum_from total (drop i bytes)
+unfolding sum_from
 sum_more total bytes i h =
-    ap (λ (n : ℕ). sumFrom ((total * 257 + get_or bytes i 0 + 1) % 1000003) (drop n bytes)) (add-one i)
-    ∙ sym (ap (sumFrom total) (drop-cons bytes i 0 h))
+    ap (λ (n : ℕ). sum_from ((total * 257 + get_or bytes i 0 + 1) % 1000003) (drop n bytes)) (add-one i)
+    ∙ sym (ap (sum_from total) (drop-cons bytes i 0 h))
 
-sum-append : (from : ℕ) (l m : List ℕ) → sumFrom (sumFrom from l) m ≡ sumFrom from (l ++ m)
-unfolding sumFrom
-sum-append from [] m = refl
-sum-append from (b ∷ l) m = sum-append ((from * 257 + b + 1) % 1000003) l m
+sum_append : (from : ℕ) (l m : List ℕ) → sum_from (sum_from from l) m ≡ sum_from from (l ++ m)
+unfolding sum_from
+sum_append from [] m = refl
+sum_append from (b ∷ l) m = sum_append ((from * 257 + b + 1) % 1000003) l m
 
-pub sum-behind : (from t u : ℕ) (l m : List ℕ) → t ≡ sumFrom from l → u ≡ sumFrom t m → u ≡ sumFrom from (l ++ m)
-sum-behind from t u l m e q = q ∙ ap (λ (n : ℕ). sumFrom n m) e ∙ sum-append from l m
+pub sum_behind : (from t u : ℕ) (l m : List ℕ) → t ≡ sum_from from l → u ≡ sum_from t m → u ≡ sum_from from (l ++ m)
+sum_behind from t u l m e q = q ∙ ap (λ (n : ℕ). sum_from n m) e ∙ sum_append from l m
 
-pub word-bytes : (w : ℕ) → w < 65536 → (w / 256 ∷ w % 256 ∷ []) ≡ word_bytes w
-word-bytes w h = let high : w / 256 ≡ w / 256 % 256 = omega arith in ap (λ (n : ℕ). n ∷ w % 256 ∷ []) high
+pub word_bytes_lem : (w : ℕ) → w < 65536 → (w / 256 ∷ w % 256 ∷ []) ≡ word_bytes w
+word_bytes_lem w h = let high : w / 256 ≡ w / 256 % 256 = omega arith in ap (λ (n : ℕ). n ∷ w % 256 ∷ []) high
 
 -- one more two-byte number
-pub words_more : (total t : ℕ) (words : List ℕ) (i : ℕ) → i < length words → t ≡ sumFrom total (word_bytes (get_or words i 0)) → sumFrom t (wordsBytes (drop (i + 1) words)) ≡ sumFrom total (wordsBytes (drop i words))
-unfolding wordsBytes
+pub words_more : (total t : ℕ) (words : List ℕ) (i : ℕ) → i < length words → t ≡ sum_from total (word_bytes (get_or words i 0)) → sum_from t (words_bytes (drop (i + 1) words)) ≡ sum_from total (words_bytes (drop i words))
+unfolding words_bytes
 words_more total t words i h e =
-    ap (λ (n : ℕ). sumFrom t (wordsBytes (drop n words))) (add-one i)
-    ∙ sum-behind total t (sumFrom t (wordsBytes (drop (Prim.Native.Nat.suc i) words))) (word_bytes (get_or words i 0)) (wordsBytes (drop (Prim.Native.Nat.suc i) words)) e refl
-    ∙ sym (ap (λ (l : List ℕ). sumFrom total (wordsBytes l)) (drop-cons words i 0 h))
+    ap (λ (n : ℕ). sum_from t (words_bytes (drop n words))) (add-one i)
+    ∙ sum_behind total t (sum_from t (words_bytes (drop (Prim.Native.Nat.suc i) words))) (word_bytes (get_or words i 0)) (words_bytes (drop (Prim.Native.Nat.suc i) words)) e refl
+    ∙ sym (ap (λ (l : List ℕ). sum_from total (words_bytes l)) (drop-cons words i 0 h))

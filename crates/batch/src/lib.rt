@@ -4,7 +4,7 @@ pub mod sums;
 
 ghost use Rattle.std.specs.Prelude.{◌≡◌, length};
 ghost use Rattle.model.specs.Bytes.{tab};
-ghost use Rattle.batch.specs.Batch.{HeadAt, patternAt};
+ghost use Rattle.batch.specs.Batch.{HeadAt, pattern_at};
 
 use model::Rule;
 use wire::{byte, long};
@@ -43,7 +43,7 @@ pub fn head_of(bytes: &[u8]) -> Head
 
 // What lent bytes hold before a call: byte i is (7 i + 1) modulo 256.
 pub fn pattern(bytes: &mut [u8])
-    ensures { bytes.new ≡ tab patternAt (length bytes.old) }
+    ensures { bytes.new ≡ tab pattern_at (length bytes.old) }
 {
     let mut next: u64 = 1;
     let mut i = 0;

@@ -1,6 +1,6 @@
 // The parts of a table, a recording and a witness as a case's files give them, so that they can be parts that no reading gives.
 ghost use Rattle.std.specs.Prelude.{◌≡◌, ◌≤◌};
-ghost use Rattle.batch.specs.Parts.{fillerTimeAt, kindsGiven, transitionsGiven, guardsGiven, tableGiven, recordedTimesGiven, recordedKindsGiven, recordingGiven, rowsGiven, timesGiven, witnessGiven};
+ghost use Rattle.batch.specs.Parts.{filler_time_at, kinds_given, transitions_given, guards_given, table_given, recorded_times_given, recorded_kinds_given, recording_given, rows_given, times_given, witness_given};
 
 use columns::{bytes_column, words_column};
 use model::{
@@ -14,7 +14,7 @@ const PLACES: u32 = GUARD_LIMIT as u32;
 
 fn kind_column(b: &[u8], field: u8) -> [u8; KIND_LIMIT]
     requires { field ≤ 2 }
-    ensures { result ≡ kindsGiven b.now field }
+    ensures { result ≡ kinds_given b.now field }
 {
     let filler = byte(b, 2);
     let mut column = [filler; KIND_LIMIT];
@@ -23,7 +23,7 @@ fn kind_column(b: &[u8], field: u8) -> [u8; KIND_LIMIT]
 }
 
 fn transition_column<'a>(b: &'a [u8], fields: &'a [u8], field: u8) -> [u8; TRANSITION_LIMIT]
-    ensures { result ≡ transitionsGiven b.now fields.now field }
+    ensures { result ≡ transitions_given b.now fields.now field }
 {
     let filler = byte(b, 2);
     let mut column = [filler; TRANSITION_LIMIT];
@@ -32,7 +32,7 @@ fn transition_column<'a>(b: &'a [u8], fields: &'a [u8], field: u8) -> [u8; TRANS
 }
 
 fn guard_places<'a>(b: &'a [u8], guards: &'a [u8]) -> [u8; GUARD_LIMIT * TRANSITION_LIMIT]
-    ensures { result ≡ guardsGiven b.now guards.now }
+    ensures { result ≡ guards_given b.now guards.now }
 {
     let filler = byte(b, 2);
     let mut places = [filler; GUARD_LIMIT * TRANSITION_LIMIT];
@@ -41,7 +41,7 @@ fn guard_places<'a>(b: &'a [u8], guards: &'a [u8]) -> [u8; GUARD_LIMIT * TRANSIT
 }
 
 pub fn table_parts<'a>(b: &'a [u8], fields: &'a [u8], guards: &'a [u8]) -> TableParts
-    ensures { result ≡ tableGiven b.now fields.now guards.now }
+    ensures { result ≡ table_given b.now fields.now guards.now }
 {
     let directions = kind_column(b, 0);
     let airtimes = kind_column(b, 1);
@@ -76,13 +76,13 @@ pub fn table_parts<'a>(b: &'a [u8], fields: &'a [u8], guards: &'a [u8]) -> Table
 }
 
 fn filler_time(b: &[u8]) -> u16
-    ensures { result ≡ fillerTimeAt b.now }
+    ensures { result ≡ filler_time_at b.now }
 {
     257 * byte(b, 2) as u16
 }
 
 fn recorded_times(b: &[u8]) -> [u16; ROW_LIMIT]
-    ensures { result ≡ recordedTimesGiven b.now }
+    ensures { result ≡ recorded_times_given b.now }
 {
     let filler = filler_time(b);
     let mut times = [filler; ROW_LIMIT];
@@ -91,7 +91,7 @@ fn recorded_times(b: &[u8]) -> [u16; ROW_LIMIT]
 }
 
 fn recorded_kinds(b: &[u8]) -> [u8; ROW_LIMIT]
-    ensures { result ≡ recordedKindsGiven b.now }
+    ensures { result ≡ recorded_kinds_given b.now }
 {
     let filler = byte(b, 2);
     let mut kinds = [filler; ROW_LIMIT];
@@ -100,7 +100,7 @@ fn recorded_kinds(b: &[u8]) -> [u8; ROW_LIMIT]
 }
 
 pub fn recording_parts(b: &[u8]) -> RecordingParts
-    ensures { result ≡ recordingGiven b.now }
+    ensures { result ≡ recording_given b.now }
 {
     let times = recorded_times(b);
     let kinds = recorded_kinds(b);
@@ -112,7 +112,7 @@ pub fn recording_parts(b: &[u8]) -> RecordingParts
 }
 
 fn row_column(b: &[u8], start: u8) -> [u8; WITNESS_PLACES]
-    ensures { result ≡ rowsGiven b.now start }
+    ensures { result ≡ rows_given b.now start }
 {
     let filler = byte(b, 2);
     let mut column = [filler; WITNESS_PLACES];
@@ -121,7 +121,7 @@ fn row_column(b: &[u8], start: u8) -> [u8; WITNESS_PLACES]
 }
 
 fn time_column(b: &[u8]) -> [u16; WITNESS_PLACES]
-    ensures { result ≡ timesGiven b.now }
+    ensures { result ≡ times_given b.now }
 {
     let filler = filler_time(b);
     let mut column = [filler; WITNESS_PLACES];
@@ -130,7 +130,7 @@ fn time_column(b: &[u8]) -> [u16; WITNESS_PLACES]
 }
 
 pub fn witness_parts(b: &[u8]) -> WitnessParts
-    ensures { result ≡ witnessGiven b.now }
+    ensures { result ≡ witness_given b.now }
 {
     let marks = row_column(b, 7);
     let times = time_column(b);

@@ -1,14 +1,14 @@
 // A sum over bytes that goes by place, so that bytes that change places change it; and the same over every number of parts.
 ghost use Rattle.std.specs.Prelude.{◌≡◌, ◌%◌, ◌<◌};
-ghost use Rattle.model.specs.Bytes.{word_bytes, longBytes};
-ghost use Rattle.batch.specs.Batch.{sumFrom};
-ghost use Rattle.batch.specs.Parts.{wordsBytes, kindNumbers, transitionNumbers, tableNumbers, recordingNumbers, witnessNumbers};
+ghost use Rattle.model.specs.Bytes.{word_bytes, long_bytes};
+ghost use Rattle.batch.specs.Batch.{sum_from};
+ghost use Rattle.batch.specs.Parts.{words_bytes, kind_numbers, transition_numbers, table_numbers, recording_numbers, witness_numbers};
 
 use model::{RecordingParts, TableParts, WitnessParts};
 
 fn sum_on(from: u64, bytes: &[u8]) -> u64
     requires { from < 1000003 }
-    ensures { (result ≡ sumFrom from bytes.now) × (result < 1000003) }
+    ensures { (result ≡ sum_from from bytes.now) × (result < 1000003) }
 {
     let mut total = from;
     let mut i = 0;
@@ -21,14 +21,14 @@ fn sum_on(from: u64, bytes: &[u8]) -> u64
 
 // Goes on from a sum.
 pub fn sum(from: u64, bytes: &[u8]) -> u64
-    ensures { (result ≡ sumFrom (from % 1000003) bytes.now) × (result < 1000003) }
+    ensures { (result ≡ sum_from (from % 1000003) bytes.now) × (result < 1000003) }
 {
     sum_on(from % 1000003, bytes)
 }
 
 fn sum_word(from: u64, word: u16) -> u64
     requires { from < 1000003 }
-    ensures { (result ≡ sumFrom from (word_bytes word)) × (result < 1000003) }
+    ensures { (result ≡ sum_from from (word_bytes word)) × (result < 1000003) }
 {
     let bytes = [(word / 256) as u8, (word % 256) as u8];
     sum_on(from, &bytes)
@@ -36,7 +36,7 @@ fn sum_word(from: u64, word: u16) -> u64
 
 fn sum_long(from: u64, long: u32) -> u64
     requires { from < 1000003 }
-    ensures { (result ≡ sumFrom from (longBytes long)) × (result < 1000003) }
+    ensures { (result ≡ sum_from from (long_bytes long)) × (result < 1000003) }
 {
     let bytes = [
         (long / 16777216 % 256) as u8,
@@ -49,7 +49,7 @@ fn sum_long(from: u64, long: u32) -> u64
 
 fn sum_words(from: u64, words: &[u16]) -> u64
     requires { from < 1000003 }
-    ensures { (result ≡ sumFrom from (wordsBytes words.now)) × (result < 1000003) }
+    ensures { (result ≡ sum_from from (words_bytes words.now)) × (result < 1000003) }
 {
     let mut total = from;
     let mut i = 0;
@@ -61,7 +61,7 @@ fn sum_words(from: u64, words: &[u16]) -> u64
 }
 
 fn sum_kinds(t: TableParts) -> u64
-    ensures { (result ≡ sumFrom 1 (kindNumbers t)) × (result < 1000003) }
+    ensures { (result ≡ sum_from 1 (kind_numbers t)) × (result < 1000003) }
 {
     let counts = [
         t.version,
@@ -79,7 +79,7 @@ fn sum_kinds(t: TableParts) -> u64
 
 fn sum_transitions(from: u64, t: TableParts) -> u64
     requires { from < 1000003 }
-    ensures { (result ≡ sumFrom from (transitionNumbers t)) × (result < 1000003) }
+    ensures { (result ≡ sum_from from (transition_numbers t)) × (result < 1000003) }
 {
     let total = sum_on(from, &t.sources);
     let total = sum_on(total, &t.targets);
@@ -92,13 +92,13 @@ fn sum_transitions(from: u64, t: TableParts) -> u64
 }
 
 pub fn sum_table(t: TableParts) -> u64
-    ensures { (result ≡ sumFrom 1 (tableNumbers t)) × (result < 1000003) }
+    ensures { (result ≡ sum_from 1 (table_numbers t)) × (result < 1000003) }
 {
     sum_transitions(sum_kinds(t), t)
 }
 
 pub fn sum_recording(r: RecordingParts) -> u64
-    ensures { (result ≡ sumFrom 1 (recordingNumbers r)) × (result < 1000003) }
+    ensures { (result ≡ sum_from 1 (recording_numbers r)) × (result < 1000003) }
 {
     let total = sum_word(1, r.count);
     let total = sum_words(total, &r.times);
@@ -106,7 +106,7 @@ pub fn sum_recording(r: RecordingParts) -> u64
 }
 
 pub fn sum_witness(w: WitnessParts) -> u64
-    ensures { (result ≡ sumFrom 1 (witnessNumbers w)) × (result < 1000003) }
+    ensures { (result ≡ sum_from 1 (witness_numbers w)) × (result < 1000003) }
 {
     let total = sum_long(1, w.count);
     let total = sum_on(total, &w.marks);

@@ -17,12 +17,12 @@ right : (a b : Bool) → T (a && b) → T b
 right true b t = t
 right false b t = absurd t
 
-every-at : (f : ℕ → Bool) (n : ℕ) → T (every f n) → (k : ℕ) → k < n → T (f k)
-every-at f zero t k h = absurd (not-suc-le-zero h)
-every-at f (suc n) t k h =
+every_at : (f : ℕ → Bool) (n : ℕ) → T (every f n) → (k : ℕ) → k < n → T (f k)
+every_at f zero t k h = absurd (not-suc-le-zero h)
+every_at f (suc n) t k h =
     ⊎_elim
     (λ e. subst (λ (m : ℕ). T (f m)) (sym e) (left (f n) (every f n) t))
-    (λ l. every-at f n (right (f n) (every f n) t) k l)
+    (λ l. every_at f n (right (f n) (every f n) t) k l)
     (eq-or-lt_of_le (le_of_suc-le-suc h))
 
 -- the byte with bit i alone, as `1 << i` has it
@@ -35,28 +35,28 @@ alone i j = eqb (one i / 2 ^ j % 2) (cond (eqb j i) 1 0)
 
 one_at : (i j : ℕ) → i < 8 → j < 8 → one i / 2 ^ j % 2 ≡ cond (eqb j i) 1 0
 one_at i j hi hj =
-    eqb→eq (one i / 2 ^ j % 2) (cond (eqb j i) 1 0) (every-at (alone i) 8 (every-at (λ (k : ℕ). every (alone k) 8) 8 tt i hi) j hj)
+    eqb→eq (one i / 2 ^ j % 2) (cond (eqb j i) 1 0) (every_at (alone i) 8 (every_at (λ (k : ℕ). every (alone k) 8) 8 tt i hi) j hj)
 
 -- a bit of a union is that of the two bits
-or-bit : (a b j : ℕ) → bit_or a b / 2 ^ j % 2 ≡ bit_or (a / 2 ^ j % 2) (b / 2 ^ j % 2)
-or-bit a b j = ap (λ (x : ℕ). x % 2) (or_shr a b j) ∙ or_mod (a / 2 ^ j) (b / 2 ^ j) 1
+or_bit : (a b j : ℕ) → bit_or a b / 2 ^ j % 2 ≡ bit_or (a / 2 ^ j % 2) (b / 2 ^ j % 2)
+or_bit a b j = ap (λ (x : ℕ). x % 2) (or_shr a b j) ∙ or_mod (a / 2 ^ j) (b / 2 ^ j) 1
 
-or-one : (x : ℕ) → x < 2 → bit_or x 1 ≡ 1
-or-one zero h = refl
-or-one (suc zero) h = refl
-or-one (suc (suc x)) h = omega arith
+or_one : (x : ℕ) → x < 2 → bit_or x 1 ≡ 1
+or_one zero h = refl
+or_one (suc zero) h = refl
+or_one (suc (suc x)) h = omega arith
 
 module _ (b i : ℕ) (hi : i < 8) where
   or_same : bit_or b (one i) / 2 ^ i % 2 ≡ 1
   or_same =
-      or-bit b (one i) i
+      or_bit b (one i) i
       ∙ ap (bit_or (b / 2 ^ i % 2)) (one_at i i hi hi ∙ ap (λ (t : Bool). cond t 1 0) (eq-eqb i i refl))
-      ∙ or-one (b / 2 ^ i % 2) (omega arith)
+      ∙ or_one (b / 2 ^ i % 2) (omega arith)
 
   module _ (j : ℕ) (hj : j < 8) (ne : j ≡ i → ⊥) where
     or-other : bit_or b (one i) / 2 ^ j % 2 ≡ b / 2 ^ j % 2
     or-other =
-        or-bit b (one i) j
+        or_bit b (one i) j
         ∙ ap (bit_or (b / 2 ^ j % 2)) (one_at i j hi hj ∙ ap (λ (t : Bool). cond t 1 0) (ne_eqb j i ne))
         ∙ or_zero_r (b / 2 ^ j % 2)
 
@@ -76,8 +76,8 @@ module _ (s : List ℕ) (i v : ℕ) (h : i / 8 < length s) where
         ∙ ap (λ (x : ℕ). bit (get_or s x 0) (k % 8)) (sym e)
     mem-by k ne (no d) = ap (λ (b : ℕ). bit b (k % 8)) (get_or-set_other s (i / 8) (k / 8) v 0 d)
 
-    mem-other : (k : ℕ) → (k ≡ i → ⊥) → mem (set s (i / 8) v) k ≡ mem s k
-    mem-other k ne = mem-by k ne (ℕ_discrete (k / 8) (i / 8))
+    mem_other : (k : ℕ) → (k ≡ i → ⊥) → mem (set s (i / 8) v) k ≡ mem s k
+    mem_other k ne = mem-by k ne (ℕ_discrete (k / 8) (i / 8))
 
 pub put_in : (s : List ℕ) (i : ℕ) → i / 8 < length s → PutIn i s (set s (i / 8) (bit_or (get_or s (i / 8) 0) (one (i % 8))))
 put_in s i h =
@@ -86,6 +86,6 @@ put_in s i h =
     record {
       size = length-set s (i / 8) (bit_or b (one (i % 8)));
       there = λ l. mem-here s i (bit_or b (one (i % 8))) h i refl ∙ ap (λ (x : ℕ). eqb x 1) (or_same b (i % 8) place);
-      others = mem-other s i (bit_or b (one (i % 8))) h (or-other b (i % 8) place);
+      others = mem_other s i (bit_or b (one (i % 8))) h (or-other b (i % 8) place);
       past = λ l. absurd (omega arith);
     }

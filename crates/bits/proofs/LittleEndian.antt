@@ -5,8 +5,8 @@ use native.Mathlib.Decide.{dec_lt}
 use lib.Pow.{field, mod-mod-pow}
 use lib.Seq.{drop-length}
 use Rattle.bits.specs.Member.{bit, mem}
-use Rattle.bits.specs.LittleEndian.{littleEndian}
-use Rattle.bits.proofs.Laws.{bit-zero, bit-shr, mem-at, mem-past, mem-drop}
+use Rattle.bits.specs.LittleEndian.{little_endian}
+use Rattle.bits.proofs.Laws.{bit_zero, bit_shr, mem_at, mem-past, mem-drop}
 
 -- each is below 256
 abbrev pub AreBytes : List ℕ → Type 0
@@ -14,8 +14,8 @@ AreBytes s = (i : ℕ) → get_or s i 0 < 256
 
 -- the bits of a byte with others above it: its own, and then the others'
 module _ (b m : ℕ) (small : b < 256) where
-  bit-low : (j : ℕ) → j < 8 → bit (b + 256 * m) j ≡ bit b j
-  bit-low j h =
+  bit_low : (j : ℕ) → j < 8 → bit (b + 256 * m) j ≡ bit b j
+  bit_low j h =
       let above : 8 ≡ 7 - j + 1 + j = omega arith in
       let cut : (b + 256 * m) % 2 ^ 8 ≡ b = omega arith in
       ap (λ (x : ℕ). eqb x 1)
@@ -27,48 +27,48 @@ module _ (b m : ℕ) (small : b < 256) where
   bit_high : (j : ℕ) → bit (b + 256 * m) (8 + j) ≡ bit m j
   bit_high j =
       let rest : (b + 256 * m) / 2 ^ 8 ≡ m = omega arith in
-      sym (bit-shr (b + 256 * m) 8 j) ∙ ap (λ (x : ℕ). bit x j) rest
+      sym (bit_shr (b + 256 * m) 8 j) ∙ ap (λ (x : ℕ). bit x j) rest
 
 mem-first : (b : ℕ) (s : List ℕ) (j : ℕ) → j < 8 → mem (b ∷ s) j ≡ bit b j
-mem-first b s j h = ap (mem (b ∷ s)) (omega arith) ∙ mem-at (b ∷ s) 0 j h
+mem-first b s j h = ap (mem (b ∷ s)) (omega arith) ∙ mem_at (b ∷ s) 0 j h
 
 -- the bits of a number made of bytes are the set in them
-pub little-endian-bits : (s : List ℕ) → AreBytes s → (j : ℕ) → bit (littleEndian s) j ≡ mem s j
-unfolding littleEndian
-little-endian-bits [] small j = bit-zero 0 j refl ∙ sym (mem-past [] j (omega arith))
-little-endian-bits (b ∷ s) small j = on (little-endian-bits s (λ i. small (suc i))) (dec_lt j 8)
+pub little_endian_bits : (s : List ℕ) → AreBytes s → (j : ℕ) → bit (little_endian s) j ≡ mem s j
+unfolding little_endian
+little_endian_bits [] small j = bit_zero 0 j refl ∙ sym (mem-past [] j (omega arith))
+little_endian_bits (b ∷ s) small j = on (little_endian_bits s (λ i. small (suc i))) (dec_lt j 8)
   where
-    on : ((i : ℕ) → bit (littleEndian s) i ≡ mem s i) → Dec (j < 8) → bit (b + 256 * littleEndian s) j ≡ mem (b ∷ s) j
-    on rest (yes h) = bit-low b (littleEndian s) (small 0) j h ∙ sym (mem-first b s j h)
+    on : ((i : ℕ) → bit (little_endian s) i ≡ mem s i) → Dec (j < 8) → bit (b + 256 * little_endian s) j ≡ mem (b ∷ s) j
+    on rest (yes h) = bit_low b (little_endian s) (small 0) j h ∙ sym (mem-first b s j h)
     on rest (no h) =
         let e : j ≡ 8 + (j - 8) = omega arith in
-        ap (bit (b + 256 * littleEndian s)) e
-        ∙ bit_high b (littleEndian s) (small 0) (j - 8)
+        ap (bit (b + 256 * little_endian s)) e
+        ∙ bit_high b (little_endian s) (small 0) (j - 8)
         ∙ rest (j - 8)
         ∙ mem-drop (b ∷ s) 1 (j - 8)
         ∙ ap (mem (b ∷ s)) (sym e)
 
 -- n bytes make a number below 256 ^ n
-little-endian-power : (s : List ℕ) → AreBytes s → littleEndian s < 256 ^ length s
-unfolding littleEndian
-little-endian-power [] small = omega arith
-little-endian-power (b ∷ s) small = omega (arith, small 0, pow-suc 256 (length s), little-endian-power s (λ i. small (suc i)))
+little_endian_power : (s : List ℕ) → AreBytes s → little_endian s < 256 ^ length s
+unfolding little_endian
+little_endian_power [] small = omega arith
+little_endian_power (b ∷ s) small = omega (arith, small 0, pow-suc 256 (length s), little_endian_power s (λ i. small (suc i)))
 
-pub little-endian-below : (s : List ℕ) (n : ℕ) → AreBytes s → length s ≤ n → littleEndian s < 256 ^ n
-little-endian-below s n small h = lt_of_lt_of_le (little-endian-power s small) (pow-le-pow_right (omega arith) h)
+pub little_endian_below : (s : List ℕ) (n : ℕ) → AreBytes s → length s ≤ n → little_endian s < 256 ^ n
+little_endian_below s n small h = lt_of_lt_of_le (little_endian_power s small) (pow-le-pow_right (omega arith) h)
 
 -- a number read from its last byte on: none is read, and one more
-pub none_read : (b : List ℕ) → 0 ≡ littleEndian (drop (length b) b)
-unfolding littleEndian
-none_read b = ap littleEndian (sym (drop-length b))
+pub none_read : (b : List ℕ) → 0 ≡ little_endian (drop (length b) b)
+unfolding little_endian
+none_read b = ap little_endian (sym (drop-length b))
 
-module _ (b : List ℕ) (i x : ℕ) (left : 0 < i) (h : i ≤ length b) (read : x ≡ littleEndian (drop i b)) where
+module _ (b : List ℕ) (i x : ℕ) (left : 0 < i) (h : i ≤ length b) (read : x ≡ little_endian (drop i b)) where
   pub read_below : AreBytes b → length b ≤ 8 → x < 256 ^ 7
   read_below small few =
-      omega (arith, little-endian-below (drop i b) 7 (λ k. rw get_or-drop (small (i + k))) (omega (arith, length-drop i b)))
+      omega (arith, little_endian_below (drop i b) 7 (λ k. rw get_or-drop (small (i + k))) (omega (arith, length-drop i b)))
 
-  pub one-more-read : 256 * x + get_or b (i - 1) 0 ≡ littleEndian (drop (i - 1) b)
-  unfolding littleEndian
-  one-more-read =
+  pub one_more_read : 256 * x + get_or b (i - 1) 0 ≡ little_endian (drop (i - 1) b)
+  unfolding little_endian
+  one_more_read =
       let e : suc (i - 1) ≡ i = omega arith in
-      omega (arith, ap littleEndian (drop-cons b (i - 1) 0 (omega arith)), ap (λ (n : ℕ). littleEndian (drop n b)) e)
+      omega (arith, ap little_endian (drop-cons b (i - 1) 0 (omega arith)), ap (λ (n : ℕ). little_endian (drop n b)) e)

@@ -10,10 +10,10 @@ count-nothing : Counted (1 ∷ []) 0 → ⊥
 unfolding mem tally
 count-nothing c = omega (arith, c.exact (omega arith))
 
-word-of-nothing : WordOf (1 ∷ []) 0 0 → ⊥
+word_of_nothing : WordOf (1 ∷ []) 0 0 → ⊥
 unfolding mem
-word-of-nothing w = false≢true (w.bits 0 (omega arith))
+word_of_nothing w = false≢true (w.bits 0 (omega arith))
 
-other-order : WordOf (1 ∷ 0 ∷ []) 0 256 → ⊥
+other_order : WordOf (1 ∷ 0 ∷ []) 0 256 → ⊥
 unfolding mem
-other-order w = false≢true (w.bits 0 (omega arith))
+other_order w = false≢true (w.bits 0 (omega arith))

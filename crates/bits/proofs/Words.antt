@@ -7,9 +7,9 @@ use lib.ListN.{get_or-eq_default}
 use Rattle.bits.specs.Member.{bit, mem}
 use Rattle.bits.specs.Words.{in_word, WordOf}
 use Rattle.bits.specs.Counting.{tally, population, Counted}
-use Rattle.bits.specs.LittleEndian.{littleEndian}
-use Rattle.bits.proofs.Laws.{bit-zero, bit-shr, mem-past, mem-part, tally-same, tally-add, tally-none, population-fits}
-use Rattle.bits.proofs.LittleEndian.{AreBytes, little-endian-bits, little-endian-below}
+use Rattle.bits.specs.LittleEndian.{little_endian}
+use Rattle.bits.proofs.Laws.{bit_zero, bit_shr, mem-past, mem_part, tally-same, tally-add, tally_none, population-fits}
+use Rattle.bits.proofs.LittleEndian.{AreBytes, little_endian_bits, little_endian_below}
 
 -- a number below 2 ^ k has as many bits as it has ones
 
@@ -25,16 +25,16 @@ lowest x =
     ∙ ap (λ (q : ℕ). cond (eqb (q % 2) 1) 1 0) (div-one x)
     ∙ digit (x % 2) (omega arith)
 
-tally-ones : (k x : ℕ) → x < 2 ^ k → tally (bit x) k ≡ ones x
+tally_ones : (k x : ℕ) → x < 2 ^ k → tally (bit x) k ≡ ones x
 unfolding ones tally
-tally-ones zero x h = ap ones (sym (lt-one h))
-tally-ones (suc k) x h =
+tally_ones zero x h = ap ones (sym (lt-one h))
+tally_ones (suc k) x h =
     let half : x / 2 < 2 ^ k = omega (arith, pow-suc 2 k) in
     let e : suc k ≡ 1 + k = omega arith in
     ap (tally (bit x)) e
     ∙ tally-add (bit x) 1 k
     ∙ ap₂ (λ (a b : ℕ). a + b)
-    (tally-same (λ j. bit x (1 + j)) (bit (x / 2)) k (λ j l. sym (bit-shr x 1 j)) ∙ tally-ones k (x / 2) half)
+    (tally-same (λ j. bit x (1 + j)) (bit (x / 2)) k (λ j l. sym (bit_shr x 1 j)) ∙ tally_ones k (x / 2) half)
     (lowest x)
     ∙ omega (arith, ones_step x)
 
@@ -53,28 +53,28 @@ module _ (s : List ℕ) (k n : ℕ) (few : n ≤ 8) (there : 8 * k + n ≤ lengt
       on (yes l) = omega (arith, get_or-take n (drop (8 * k) s) i 0 l, get_or-drop (8 * k) s i 0, bytes (8 * k + i))
       on (no l) = let past : length part ≤ i = omega (arith, part_length) in omega (arith, get_or-eq_default part 0 past)
 
-  part-bits : (j : ℕ) → j < 64 → Dec (j < 8 * n) → mem part j ≡ in_word s k j
-  part-bits j h (yes l) = let start : 8 * (8 * k) ≡ 64 * k = omega arith in mem-part s (8 * k) n j l ∙ ap (λ (i : ℕ). mem s (i + j)) start
-  part-bits j h (no l) = mem-past part j (omega (arith, part_length)) ∙ sym (mem-past s (64 * k + j) (omega (arith, all (omega arith))))
+  part_bits : (j : ℕ) → j < 64 → Dec (j < 8 * n) → mem part j ≡ in_word s k j
+  part_bits j h (yes l) = let start : 8 * (8 * k) ≡ 64 * k = omega arith in mem_part s (8 * k) n j l ∙ ap (λ (i : ℕ). mem s (i + j)) start
+  part_bits j h (no l) = mem-past part j (omega (arith, part_length)) ∙ sym (mem-past s (64 * k + j) (omega (arith, all (omega arith))))
 
-  pub word_of : AreBytes s → (r : ℕ) → r ≡ littleEndian part → WordOf s k r
+  pub word_of : AreBytes s → (r : ℕ) → r ≡ little_endian part → WordOf s k r
   word_of bytes r e =
       record {
-        fits = omega (arith, little-endian-below part 8 (part_bytes bytes) (omega (arith, part_length)));
-        bits = λ j h. ap (λ (x : ℕ). bit x j) e ∙ little-endian-bits part (part_bytes bytes) j ∙ part-bits j h (dec_lt j (8 * n));
+        fits = omega (arith, little_endian_below part 8 (part_bytes bytes) (omega (arith, part_length)));
+        bits = λ j h. ap (λ (x : ℕ). bit x j) e ∙ little_endian_bits part (part_bytes bytes) j ∙ part_bits j h (dec_lt j (8 * n));
       }
 
 -- past the end
-pub word-past : (s : List ℕ) (k : ℕ) → length s < 8 * k → WordOf s k 0
-word-past s k h = record { fits = omega arith; bits = λ j l. bit-zero 0 j refl ∙ sym (mem-past s (64 * k + j) (omega arith)) }
+pub word_past : (s : List ℕ) (k : ℕ) → length s < 8 * k → WordOf s k 0
+word_past s k h = record { fits = omega arith; bits = λ j l. bit_zero 0 j refl ∙ sym (mem-past s (64 * k + j) (omega arith)) }
 
 -- how many numbers of a word are in the set
-pub word-tally : (s : List ℕ) (k r : ℕ) → WordOf s k r → ones r ≡ tally (in_word s k) 64
-word-tally s k r w = sym (tally-ones 64 r w.fits) ∙ tally-same (bit r) (in_word s k) 64 w.bits
+pub word_tally : (s : List ℕ) (k r : ℕ) → WordOf s k r → ones r ≡ tally (in_word s k) 64
+word_tally s k r w = sym (tally_ones 64 r w.fits) ∙ tally-same (bit r) (in_word s k) 64 w.bits
 
 -- one word more
-pub tally-word : (s : List ℕ) (k : ℕ) → tally (mem s) (64 * (k + 1)) ≡ tally (in_word s k) 64 + tally (mem s) (64 * k)
-tally-word s k = ap (tally (mem s)) (omega arith) ∙ tally-add (mem s) (64 * k) 64
+pub tally_word : (s : List ℕ) (k : ℕ) → tally (mem s) (64 * (k + 1)) ≡ tally (in_word s k) 64 + tally (mem s) (64 * k)
+tally_word s k = ap (tally (mem s)) (omega arith) ∙ tally-add (mem s) (64 * k) 64
 
 -- with the last word all are counted
 tally-all : (s : List ℕ) → tally (mem s) (64 * (length s / 8 + 1)) ≡ population s
@@ -83,7 +83,7 @@ tally-all s =
     let e : 64 * (length s / 8 + 1) ≡ 8 * length s + more = omega arith in
     ap (tally (mem s)) e
     ∙ tally-add (mem s) (8 * length s) more
-    ∙ ap (λ (n : ℕ). n + population s) (tally-none (λ i. mem s (8 * length s + i)) more (λ i l. mem-past s (8 * length s + i) (omega arith)))
+    ∙ ap (λ (n : ℕ). n + population s) (tally_none (λ i. mem s (8 * length s + i)) more (λ i l. mem-past s (8 * length s + i) (omega arith)))
     ∙ zero-add (population s)
 
 pub counted : (s : List ℕ) (r : ℕ) → r ≡ tally (mem s) (64 * (length s / 8 + 1)) % 2 ^ 64 → Counted s r

@@ -1,6 +1,6 @@
 -- Bytes as one number, the first byte lowest.
 use Rattle.std.specs.Prelude.{ℕ, ◌+◌, ◌*◌, List, [], ◌∷◌}
 
-unfoldable pub littleEndian : List ℕ → ℕ
-littleEndian [] = 0
-littleEndian (b ∷ s) = b + 256 * littleEndian s
+unfoldable pub little_endian : List ℕ → ℕ
+little_endian [] = 0
+little_endian (b ∷ s) = b + 256 * little_endian s

@@ -3,7 +3,7 @@ ghost use Rattle.std.specs.Prelude.{◌≡◌, ◌≤◌, length, replicate};
 ghost use Rattle.bits.specs.Member.{mem, PutIn};
 ghost use Rattle.bits.specs.Words.{in_word, WordOf};
 ghost use Rattle.bits.specs.Counting.{tally, Counted};
-ghost use Rattle.bits.specs.LittleEndian.{littleEndian};
+ghost use Rattle.bits.specs.LittleEndian.{little_endian};
 
 // Is i in the set? Nothing is past the end.
 pub fn test(s: &[u8], i: usize) -> bool
@@ -29,7 +29,7 @@ pub fn put(s: &mut [u8], i: usize)
 // At most eight bytes as one number, the first lowest.
 fn little_endian(b: &[u8]) -> u64
     requires { length b.now ≤ 8 }
-    ensures { result ≡ littleEndian b.now }
+    ensures { result ≡ little_endian b.now }
 {
     let mut x: u64 = 0;
     let mut i = b.len();

@@ -1,9 +1,9 @@
 // The library's functions by the numbers of a batch's calls.
 ghost use Rattle.std.specs.Prelude.{◌≡◌, ◌<◌};
-ghost use Rattle.model.specs.Numbers.{readingValues};
+ghost use Rattle.model.specs.Numbers.{reading_values};
 ghost use Rattle.numbers.specs.Told.{told};
-ghost use Rattle.batch.specs.Batch.{sumFrom};
-ghost use Rattle.batch.specs.Parts.{tableNumbers, recordingNumbers, witnessNumbers};
+ghost use Rattle.batch.specs.Batch.{sum_from};
+ghost use Rattle.batch.specs.Parts.{table_numbers, recording_numbers, witness_numbers};
 
 use batch::parts::{recording_parts, table_parts, witness_parts};
 use batch::sums::{sum_recording, sum_table, sum_witness};
@@ -130,7 +130,7 @@ fn write<'a>(
 }
 
 fn table_outcome(reading: TableReading) -> Outcome
-    ensures { (told result.numbers ≡ readingValues reading.answer) × (result.sum ≡ sumFrom 1 (tableNumbers reading.parts)) × (result.sum < 1000003) }
+    ensures { (told result.numbers ≡ reading_values reading.answer) × (result.sum ≡ sum_from 1 (table_numbers reading.parts)) × (result.sum < 1000003) }
 {
     let answer = reading.answer;
     let parts = reading.parts;
@@ -143,7 +143,7 @@ fn table_outcome(reading: TableReading) -> Outcome
 }
 
 fn recording_outcome(reading: RecordingReading) -> Outcome
-    ensures { (told result.numbers ≡ readingValues reading.answer) × (result.sum ≡ sumFrom 1 (recordingNumbers reading.parts)) × (result.sum < 1000003) }
+    ensures { (told result.numbers ≡ reading_values reading.answer) × (result.sum ≡ sum_from 1 (recording_numbers reading.parts)) × (result.sum < 1000003) }
 {
     let answer = reading.answer;
     let parts = reading.parts;
@@ -156,7 +156,7 @@ fn recording_outcome(reading: RecordingReading) -> Outcome
 }
 
 fn witness_outcome(reading: WitnessReading) -> Outcome
-    ensures { (told result.numbers ≡ readingValues reading.answer) × (result.sum ≡ sumFrom 1 (witnessNumbers reading.parts)) × (result.sum < 1000003) }
+    ensures { (told result.numbers ≡ reading_values reading.answer) × (result.sum ≡ sum_from 1 (witness_numbers reading.parts)) × (result.sum < 1000003) }
 {
     let answer = reading.answer;
     let parts = reading.parts;

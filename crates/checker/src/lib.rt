@@ -1,6 +1,6 @@
 // The witness checker: what is read before the rows, and then the rows, under a rule (R-7) or under none.
 ghost use Rattle.std.specs.Prelude.{◌≡◌};
-ghost use Rattle.model.specs.Rules.{checkAnswerUnder};
+ghost use Rattle.model.specs.Rules.{check_answer_under};
 ghost use Rattle.checker.specs.Claim.{Checks, ChecksUnder};
 
 use account::check_rows;
@@ -18,7 +18,7 @@ fn checked<'a>(
     recording: &'a [u8],
     witness: &[u8],
 ) -> Checking
-    ensures { result ≡ checkAnswerUnder rule edition table.now recording.now witness.now }
+    ensures { result ≡ check_answer_under rule edition table.now recording.now witness.now }
 {
     let reading = read_under(rule, table, recording);
     let read = reading.answer;

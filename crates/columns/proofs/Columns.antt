@@ -19,9 +19,9 @@ use Rattle.wire.proofs.Room.{placed-behind}
 use Rattle.columns.specs.Filled.{filled}
 
 -- one more place of a column
-pub column-more : (f : ℕ → ℕ) (room : List ℕ) (i : ℕ) → i < length room → set (tab f i ++ drop i room) i (f i) ≡ tab f (i + 1) ++ drop (i + 1) room
+pub column_more : (f : ℕ → ℕ) (room : List ℕ) (i : ℕ) → i < length room → set (tab f i ++ drop i room) i (f i) ≡ tab f (i + 1) ++ drop (i + 1) room
 unfolding tab
-column-more f room i h =
+column_more f room i h =
     ap (λ (l : List ℕ). set (tab f i ++ l) i (f i)) (drop-cons room i 0 h)
     ∙ set_at (tab f i) _ (drop (suc i) room) (f i) i (length-tab f i)
     ∙ sym (append_assoc (tab f i) (f i ∷ []) (drop (suc i) room))
@@ -30,13 +30,13 @@ column-more f room i h =
 abbrev zeros : ℕ → List ℕ
 zeros n = replicate n 0
 
-pub drop-zeros : (k n : ℕ) → drop k (zeros n) ≡ zeros (n - k)
-drop-zeros zero n = rw sub-zero
-drop-zeros (suc k) zero = ap zeros (none k)
+pub drop_zeros : (k n : ℕ) → drop k (zeros n) ≡ zeros (n - k)
+drop_zeros zero n = rw sub-zero
+drop_zeros (suc k) zero = ap zeros (none k)
   where
     none : (j : ℕ) → 0 ≡ 0 - suc j
     none j = omega arith
-drop-zeros (suc k) (suc n) = drop-zeros k n ∙ ap zeros (less k n)
+drop_zeros (suc k) (suc n) = drop_zeros k n ∙ ap zeros (less k n)
   where
     less : (j m : ℕ) → m - j ≡ suc m - suc j
     less j m = omega arith
@@ -44,23 +44,23 @@ drop-zeros (suc k) (suc n) = drop-zeros k n ∙ ap zeros (less k n)
 -- zeros with a list written over their start
 pub padded-over : (size : ℕ) (l : List ℕ) → over l (zeros size) ≡ padded size l
 unfolding padded
-padded-over size l = ap (λ (z : List ℕ). l ++ z) (drop-zeros (length l) size)
+padded-over size l = ap (λ (z : List ℕ). l ++ z) (drop_zeros (length l) size)
 
-pub column-padded : (f : ℕ → ℕ) (n size : ℕ) → tab f n ++ drop n (zeros size) ≡ padded size (tab f n)
-column-padded f n size = ap (λ k. tab f n ++ drop k (zeros size)) (sym (length-tab f n)) ∙ padded-over size (tab f n)
+pub column_padded : (f : ℕ → ℕ) (n size : ℕ) → tab f n ++ drop n (zeros size) ≡ padded size (tab f n)
+column_padded f n size = ap (λ k. tab f n ++ drop k (zeros size)) (sym (length-tab f n)) ∙ padded-over size (tab f n)
 
-pub step-bound : (step i : ℕ) → step < 256 → i < 4294967296 → step * i ≤ 1095216660225
-step-bound step i h k = omega (arith, mul-le-mul {n₂ = 255} {m₂ = 4294967295} (below step 255 h) (below i 4294967295 k))
+pub step_bound : (step i : ℕ) → step < 256 → i < 4294967296 → step * i ≤ 1095216660225
+step_bound step i h k = omega (arith, mul-le-mul {n₂ = 255} {m₂ = 4294967295} (below step 255 h) (below i 4294967295 k))
   where
     below : (n m : ℕ) → n < m + 1 → n ≤ m
     below n m h = omega arith
 
 -- a column over an array of zeros is padded
-pub filled-zeros : (f : ℕ → ℕ) (n size : ℕ) (room : List ℕ) → n ≤ size → room ≡ zeros size → filled f n room ≡ padded size (tab f n)
+pub filled_zeros : (f : ℕ → ℕ) (n size : ℕ) (room : List ℕ) → n ≤ size → room ≡ zeros size → filled f n room ≡ padded size (tab f n)
 unfolding filled
-filled-zeros f n size room h e =
+filled_zeros f n size room h e =
     let all : min n (length room) ≡ n = omega (arith, ap length e, length-replicate {A = ℕ} size 0) in
-    ap (λ m. tab f m ++ drop m room) all ∙ ap (λ (l : List ℕ). tab f n ++ drop n l) e ∙ column-padded f n size
+    ap (λ m. tab f m ++ drop m room) all ∙ ap (λ (l : List ℕ). tab f n ++ drop n l) e ∙ column_padded f n size
 
 pub joined-long : (f : ℕ → List ℕ) (w n : ℕ) → ((j : ℕ) → j < n → length (f j) ≡ w) → length (joined f n) ≡ w * n
 unfolding joined
@@ -73,19 +73,19 @@ pub padded-long : (size : ℕ) (l : List ℕ) → length l ≤ size → length (
 unfolding padded
 padded-long size l h = length-append l (zeros (size - length l)) ∙ omega (arith, length-replicate {A = ℕ} (size - length l) 0)
 
-joined-zeros : (size w : ℕ) (d x : List ℕ) (r : ℕ) → size - length (d ++ x) ≡ (w - length x) + r → size - length (d ++ padded w x) ≡ r → padded size (d ++ x) ≡ padded size (d ++ padded w x)
+joined_zeros : (size w : ℕ) (d x : List ℕ) (r : ℕ) → size - length (d ++ x) ≡ (w - length x) + r → size - length (d ++ padded w x) ≡ r → padded size (d ++ x) ≡ padded size (d ++ padded w x)
 unfolding padded
-joined-zeros size w d x r e q =
+joined_zeros size w d x r e q =
     rw (e, q, ← replicate-append-replicate {A = ℕ} (w - length x) r 0) (simp append_assoc)
 
 -- a part that is padded itself, at the end of what is padded
-pub padded-part : (size w : ℕ) (d x : List ℕ) → length d + w ≤ size → length x ≤ w → padded size (d ++ x) ≡ padded size (d ++ padded w x)
-padded-part size w d x h k =
+pub padded_part : (size w : ℕ) (d x : List ℕ) → length d + w ≤ size → length x ≤ w → padded size (d ++ x) ≡ padded size (d ++ padded w x)
+padded_part size w d x h k =
     let inner : length (padded w x) ≡ w = padded-long w x k in
     let outer : length (d ++ padded w x) ≡ length d + w = length-append d (padded w x) ∙ omega arith in
     let short : length (d ++ x) ≡ length d + length x = length-append d x in
     let count : size - length (d ++ x) ≡ (w - length x) + (size - length (d ++ padded w x)) = omega arith in
-    joined-zeros size w d x (size - length (d ++ padded w x)) count refl
+    joined_zeros size w d x (size - length (d ++ padded w x)) count refl
 
 -- one more guard in its places
 pub place-more : (size w : ℕ) (f : ℕ → List ℕ) (x : List ℕ) (i : ℕ) → w * i + w ≤ size → length x ≤ w → length (joined f i) ≡ w * i → f i ≡ padded w x
@@ -95,7 +95,7 @@ place-more size w f x i h k e g =
     ap (placed x (w * i)) (sym (padded-over size (joined f i)))
     ∙ placed-behind (joined f i) x (zeros size) (w * i) e (omega (arith, length-replicate {A = ℕ} size 0))
     ∙ padded-over size (joined f i ++ x)
-    ∙ padded-part size w (joined f i) x (omega arith) k
+    ∙ padded_part size w (joined f i) x (omega arith) k
     ∙ rw (add-one, g)
 
 pub joined-most : (f : ℕ → List ℕ) (w n : ℕ) → ((j : ℕ) → length (f j) ≤ w) → length (joined f n) ≤ w * n

@@ -3,15 +3,15 @@ use Prim.Native.Nat.{ℕ}
 use mathlib.Core.Path.{◌≡◌, ap₂, ◌∙◌}
 use mathlib.Core.List.{List}
 use lib.ListN.{length}
-use Rattle.model.specs.Desk.{deskScratch, deskRoom, linesFor, inText}
+use Rattle.model.specs.Desk.{desk_scratch, desk_room, lines_for, in_text}
 use Rattle.lines.specs.Written.{Lines}
 use Rattle.desk.specs.Program.{Printed}
 
-pub own-lines : (input scratch room text scratchLeft room_left textLeft : List ℕ) (bytes : ℕ) → length scratch ≡ deskScratch → length room ≡ deskRoom
-    → Lines input scratch room text scratchLeft room_left textLeft bytes → Printed input text textLeft bytes
-own-lines input scratch room text scratchLeft room_left textLeft bytes s r l =
+pub own_lines : (input scratch room text scratch_left room_left text_left : List ℕ) (bytes : ℕ) → length scratch ≡ desk_scratch → length room ≡ desk_room
+    → Lines input scratch room text scratch_left room_left text_left bytes → Printed input text text_left bytes
+own_lines input scratch room text scratch_left room_left text_left bytes s r l =
     record {
-      count = l.count ∙ ap₂ (λ (m n : ℕ). length (linesFor m n input)) s r;
+      count = l.count ∙ ap₂ (λ (m n : ℕ). length (lines_for m n input)) s r;
       short = l.short;
-      text-after = l.text-after ∙ ap₂ (λ (m n : ℕ). inText (linesFor m n input) text) s r;
+      text-after = l.text-after ∙ ap₂ (λ (m n : ℕ). in_text (lines_for m n input) text) s r;
     }

@@ -1,6 +1,6 @@
 -- The program of document 01: what reading its input comes to, and the lines that it prints.
 use Rattle.std.specs.Prelude.{ℕ, ◌≤◌, ◌≡◌, List, length}
-use Rattle.model.specs.Desk.{deskLines, inText}
+use Rattle.model.specs.Desk.{desk_lines, in_text}
 use Rattle.desk.specs.declared.Input.{Input}
 use Rattle.desk.specs.declared.Input.TheVariants.{Whole, Failed}
 
@@ -10,7 +10,7 @@ Within (Whole bytes) buffer = bytes ≤ length buffer
 Within Failed buffer = Unit {0}
 
 -- the lines for an input, as far as they fit the text, and how many bytes they are: never more than 400,000
-pub record Printed (input text textLeft : List ℕ) (bytes : ℕ) : Type 0 where
-  pub count : bytes ≡ length (deskLines input)
+pub record Printed (input text text_left : List ℕ) (bytes : ℕ) : Type 0 where
+  pub count : bytes ≡ length (desk_lines input)
   pub short : bytes ≤ 400000
-  pub text-after : textLeft ≡ inText (deskLines input) text
+  pub text-after : text_left ≡ in_text (desk_lines input) text

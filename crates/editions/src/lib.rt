@@ -1,6 +1,6 @@
 // The numbers in which the editions of a witness differ. A table and a recording have the frame of edition 1.
 ghost use Rattle.std.specs.Prelude.{◌≡◌, ◌≤◌, ◌<◌};
-ghost use Rattle.model.specs.Edition.{size_width, size_at, versionOf, countPlace, rowsPlace, mostRows, latestTime};
+ghost use Rattle.model.specs.Edition.{size_width, size_at, version_of, count_place, rows_place, most_rows, latest_time};
 
 use model::Edition;
 use wire::{long, word};
@@ -26,7 +26,7 @@ pub fn size_at(edition: Edition, b: &[u8], at: usize) -> u32
 }
 
 pub fn version_of(edition: Edition) -> u8
-    ensures { result ≡ versionOf edition }
+    ensures { result ≡ version_of edition }
 {
     match edition {
         Edition::One => 1,
@@ -36,21 +36,21 @@ pub fn version_of(edition: Edition) -> u8
 
 // Where the count stands.
 pub fn count_place(edition: Edition) -> usize
-    ensures { (result ≡ countPlace edition) × (result ≤ 5) }
+    ensures { (result ≡ count_place edition) × (result ≤ 5) }
 {
     size_width(edition) + 1
 }
 
 // Where the rows start.
 pub fn rows_place(edition: Edition) -> usize
-    ensures { (result ≡ rowsPlace edition) × (result ≤ 9) }
+    ensures { (result ≡ rows_place edition) × (result ≤ 9) }
 {
     count_place(edition) + size_width(edition)
 }
 
 // The most rows.
 pub fn most_rows(edition: Edition) -> u32
-    ensures { result ≡ mostRows edition }
+    ensures { result ≡ most_rows edition }
 {
     match edition {
         Edition::One => 4608,
@@ -60,7 +60,7 @@ pub fn most_rows(edition: Edition) -> u32
 
 // The latest time of a row.
 pub fn latest_time(edition: Edition) -> u16
-    ensures { result ≡ latestTime edition }
+    ensures { result ≡ latest_time edition }
 {
     match edition {
         Edition::One => 4096,

@@ -1,8 +1,8 @@
 // Judging a sound recording: forward through the sets, and where a situation is left, back and along the least moves.
 ghost use Rattle.std.specs.Prelude.{◌+◌, ◌*◌, ◌≤◌, ◌≡◌, length, replicate};
-ghost use Rattle.monitor.specs.From.{offsetsOf};
+ghost use Rattle.monitor.specs.From.{offsets_of};
 ghost use Rattle.images.specs.Buffers.{Sized, Kept};
-ghost use Rattle.measures.specs.Setting.{monitorBy};
+ghost use Rattle.measures.specs.Setting.{monitor_by};
 ghost use Rattle.measures.specs.Working.{Working, Preparing};
 ghost use Rattle.engine.specs.Rooms.{Rooms};
 ghost use Rattle.engine.specs.Judging.{Judging, Ending, Concluded, Settled};
@@ -38,7 +38,7 @@ fn conclude<'a>(
     outcome: Outcome,
 ) -> Verdict
     requires { Ending edition table.now offsets.now recording.now scratch.old room.old g budget outcome × (g.row * (g.last + 1) ≤ length scratch.old) × Working table.now offsets.now g marks.now planes.now × Sized g.words sets.old one.old two.old × (length next.old ≡ g.words) × (length row.old ≡ g.words) }
-    ensures { Concluded edition (monitorBy g table.now) recording.now budget scratch.old room.old scratch.new room.new result }
+    ensures { Concluded edition (monitor_by g table.now) recording.now budget scratch.old room.old scratch.new room.new result }
 {
     match outcome {
         Outcome::Spent { instant } => Verdict::Exhausted { budget, instant },
@@ -86,8 +86,8 @@ fn pass<'a>(
     two: &mut [u64],
     memo: &mut [u64],
 ) -> Verdict
-    requires { Judging edition table.now recording.now scratch.old room.old g × (offsets.now ≡ offsetsOf table.now) × (scratch.old ≡ replicate (length scratch.old) 0) × Working table.now offsets.now g marks.now planes.now × Sized g.words sets.old one.old two.old × (length cur.old ≡ g.words) × (length row.old ≡ g.words) }
-    ensures { Concluded edition (monitorBy g table.now) recording.now budget scratch.old room.old scratch.new room.new result }
+    requires { Judging edition table.now recording.now scratch.old room.old g × (offsets.now ≡ offsets_of table.now) × (scratch.old ≡ replicate (length scratch.old) 0) × Working table.now offsets.now g marks.now planes.now × Sized g.words sets.old one.old two.old × (length cur.old ≡ g.words) × (length row.old ≡ g.words) }
+    ensures { Concluded edition (monitor_by g table.now) recording.now budget scratch.old room.old scratch.new room.new result }
 {
     let outcome = forward(
         table, offsets, recording, g, marks, planes, budget, scratch, cur, sets, one, two, memo,
@@ -145,7 +145,7 @@ fn judge_in<'a>(
     memo: &mut [u64],
 ) -> Verdict
     requires { Judging edition table.now recording.now scratch.old room.old g × Rooms g.words planes.old marks.old cur.old row.old sets.old one.old two.old }
-    ensures { Settled edition (monitorBy g table.now) recording.now budget scratch.old room.old scratch.new room.new result }
+    ensures { Settled edition (monitor_by g table.now) recording.now budget scratch.old room.old scratch.new room.new result }
 {
     let found = offsets(table);
     prepare(table, &found, g, marks, planes, one, two);
@@ -169,7 +169,7 @@ fn judge_small<'a>(
     room: &mut [u8],
 ) -> Verdict
     requires { Judging edition table.now recording.now scratch.old room.old g × (g.words ≤ 16) }
-    ensures { Settled edition (monitorBy g table.now) recording.now budget scratch.old room.old scratch.new room.new result }
+    ensures { Settled edition (monitor_by g table.now) recording.now budget scratch.old room.old scratch.new room.new result }
 {
     let n = g.words;
     let four = 4 * n;
@@ -211,7 +211,7 @@ fn judge_wide<'a>(
     room: &mut [u8],
 ) -> Verdict
     requires { Judging edition table.now recording.now scratch.old room.old g × (g.words ≤ 1024) }
-    ensures { Settled edition (monitorBy g table.now) recording.now budget scratch.old room.old scratch.new room.new result }
+    ensures { Settled edition (monitor_by g table.now) recording.now budget scratch.old room.old scratch.new room.new result }
 {
     let n = g.words;
     let four = 4 * n;
@@ -252,7 +252,7 @@ pub(crate) fn judge<'a>(
     room: &mut [u8],
 ) -> Verdict
     requires { Judging edition table.now recording.now scratch.old room.old g }
-    ensures { Settled edition (monitorBy g table.now) recording.now budget scratch.old room.old scratch.new room.new result }
+    ensures { Settled edition (monitor_by g table.now) recording.now budget scratch.old room.old scratch.new room.new result }
 {
     if g.words <= 16 {
         return judge_small(edition, table, recording, g, budget, scratch, room);

@@ -2,7 +2,7 @@
 mod judge;
 
 ghost use Rattle.std.specs.Prelude.{◌≡◌};
-ghost use Rattle.model.specs.Ruled.{monitorUnder, ruledAnswer};
+ghost use Rattle.model.specs.Ruled.{monitor_under, ruled_answer};
 ghost use Rattle.model.specs.Validation as Validation;
 ghost use Rattle.engine.specs.Validates.{Answered, Validates, ValidatesUnder};
 
@@ -25,7 +25,7 @@ fn judged<'a>(
     scratch: &mut [u8],
     room: &mut [u8],
 ) -> Verdict
-    ensures { Answered (ruledAnswer rule table.now recording.now) edition (monitorUnder rule table.now) recording.now budget scratch.old room.old scratch.new room.new result }
+    ensures { Answered (ruled_answer rule table.now recording.now) edition (monitor_under rule table.now) recording.now budget scratch.old room.old scratch.new room.new result }
 {
     let reading = read_under(rule, table, recording);
     let answer = reading.answer;

@@ -5,9 +5,9 @@ use mathlib.Core.Path.{◌≡◌, refl}
 use mathlib.Core.List.{List, [], ◌∷◌}
 use mathlib.Core.Bool.{cond}
 use lib.Dec.{eqb}
-use Rattle.model.specs.Recording.{packetsAt}
-use Rattle.model.specs.Table.{monitorAt}
-use Rattle.model.specs.Witness.{Row, kept, removed, noTransition, inForm}
+use Rattle.model.specs.Recording.{packets_at}
+use Rattle.model.specs.Table.{monitor_at}
+use Rattle.model.specs.Witness.{Row, kept, removed, no_transition, in_form}
 use Rattle.model.specs.Rules.{sends, removes, keeps, adds, account, broken, Permits}
 use Rattle.model.specs.Validation.{preferred}
 use Rattle.model.specs.declared.Edition.{Edition}
@@ -31,32 +31,32 @@ recording = 0 ∷ 12 ∷ 1 ∷ 0 ∷ 3 ∷ 0 ∷ 1 ∷ 0 ∷ 0 ∷ 2 ∷ 1 ∷ 0
 row : (mark time kind transition : ℕ) → Row
 row m t k j = record { mark = m; time = t; kind = k; transition = j }
 
-pub keepsFirst : List Row
+pub keeps_first : List Row
 unfolding row
-keepsFirst = row kept 1 0 0 ∷ row removed 2 1 noTransition ∷ row removed 3 1 noTransition ∷ []
+keeps_first = row kept 1 0 0 ∷ row removed 2 1 no_transition ∷ row removed 3 1 no_transition ∷ []
 
-pub keepsMost : List Row
+pub keeps_most : List Row
 unfolding row
-keepsMost = row removed 1 0 noTransition ∷ row kept 2 1 1 ∷ row kept 3 1 1 ∷ []
+keeps_most = row removed 1 0 no_transition ∷ row kept 2 1 1 ∷ row kept 3 1 1 ∷ []
 
-pub keptRows : List Row → ℕ
-keptRows [] = 0
-keptRows (r ∷ rs) = cond (eqb r.mark kept) 1 0 + keptRows rs
+pub kept_rows : List Row → ℕ
+kept_rows [] = 0
+kept_rows (r ∷ rs) = cond (eqb r.mark kept) 1 0 + kept_rows rs
 
 pub record NotTheMost : Type 0 where
-  pub first : preferred (monitorAt table) (packetsAt recording) ≡ keepsFirst
-  pub other : (edition : Edition) → Permits edition (monitorAt table) (packetsAt recording) keepsMost
-  pub fewer : keptRows keepsFirst < keptRows keepsMost
+  pub first : preferred (monitor_at table) (packets_at recording) ≡ keeps_first
+  pub other : (edition : Edition) → Permits edition (monitor_at table) (packets_at recording) keeps_most
+  pub fewer : kept_rows keeps_first < kept_rows keeps_most
 
-pub not-the-most : NotTheMost
-unfolding table recording keepsFirst keepsMost keptRows run_of row sends removes keeps adds account broken inForm
-not-the-most =
+pub not_the_most : NotTheMost
+unfolding table recording keeps_first keeps_most kept_rows run_of row sends removes keeps adds account broken in_form
+not_the_most =
     record {
       first = refl;
       other = permitted;
       fewer = omega arith;
     }
   where
-    permitted : (edition : Edition) → Permits edition (monitorAt table) (packetsAt recording) keepsMost
+    permitted : (edition : Edition) → Permits edition (monitor_at table) (packets_at recording) keeps_most
     permitted One = record { fits = omega arith; unbroken = refl }
     permitted Two = record { fits = omega arith; unbroken = refl }

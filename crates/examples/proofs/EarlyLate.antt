@@ -30,29 +30,29 @@ guards =
     ∷ []
 
 -- DATA at 1, and RETRY, which transition 2 wants 4 to 6 ticks behind it, at 3: too early
-pub tooEarly : List ℕ
+pub too_early : List ℕ
 unfolding two
-tooEarly = two 1 0 3 1
+too_early = two 1 0 3 1
 
 -- DATA at 1, ACK at 5 and 6, and RETRY at 8: too late. The unit did not take the ACKs, and they leave no time for another DATA
-pub tooLate : List ℕ
-tooLate = 0 ∷ 15 ∷ 1 ∷ 0 ∷ 4 ∷ 0 ∷ 1 ∷ 0 ∷ 0 ∷ 5 ∷ 2 ∷ 0 ∷ 6 ∷ 2 ∷ 0 ∷ 8 ∷ 1 ∷ []
+pub too_late : List ℕ
+too_late = 0 ∷ 15 ∷ 1 ∷ 0 ∷ 4 ∷ 0 ∷ 1 ∷ 0 ∷ 0 ∷ 5 ∷ 2 ∷ 0 ∷ 6 ∷ 2 ∷ 0 ∷ 8 ∷ 1 ∷ []
 
 -- DATA at 1, ACK at 5, and RETRY at 8: too late behind that DATA, too early behind one at 6
 pub both : List ℕ
 both = 0 ∷ 12 ∷ 1 ∷ 0 ∷ 3 ∷ 0 ∷ 1 ∷ 0 ∷ 0 ∷ 5 ∷ 2 ∷ 0 ∷ 8 ∷ 1 ∷ []
 
 -- rejected 16 8 0 1, a line
-pub tooLateOutput : List ℕ
-tooLateOutput = 114 ∷ 101 ∷ 106 ∷ 101 ∷ 99 ∷ 116 ∷ 101 ∷ 100 ∷ 32 ∷ 49 ∷ 54 ∷ 32 ∷ 56 ∷ 32 ∷ 48 ∷ 32 ∷ 49 ∷ 10 ∷ []
+pub too_late_output : List ℕ
+too_late_output = 114 ∷ 101 ∷ 106 ∷ 101 ∷ 99 ∷ 116 ∷ 101 ∷ 100 ∷ 32 ∷ 49 ∷ 54 ∷ 32 ∷ 56 ∷ 32 ∷ 48 ∷ 32 ∷ 49 ∷ 10 ∷ []
 
 pub record EarlyLate : Type 0 where
   pub guards-answer : map (λ g. readiness g.0 g.1 g.2) guards ≡ map (λ g. g.3) guards
-  pub early : run One table tooEarly 10000 ≡ rejected (values 1 3 3) (counts 1 0) 24
-  pub late : run One table tooLate 10000 ≡ rejected (values 1 16 8) (counts 0 1) 54
+  pub early : run One table too_early 10000 ≡ rejected (values 1 3 3) (counts 1 0) 24
+  pub late : run One table too_late 10000 ≡ rejected (values 1 16 8) (counts 0 1) 54
   pub either : run One table both 10000 ≡ rejected (values 1 20 8) (counts 1 1) 54
-  pub late-output : printed (table ++ tooLate ++ (0 ∷ 0 ∷ 39 ∷ 16 ∷ [])) ≡ tooLateOutput
+  pub late_output : printed (table ++ too_late ++ (0 ∷ 0 ∷ 39 ∷ 16 ∷ [])) ≡ too_late_output
 
 pub early-late : EarlyLate
-unfolding guards tooEarly tooLate both tooLateOutput run_of rejected printed table
-early-late = record { guards-answer = refl; early = refl; late = refl; either = refl; late-output = refl }
+unfolding guards too_early too_late both too_late_output run_of rejected printed table
+early-late = record { guards-answer = refl; early = refl; late = refl; either = refl; late_output = refl }

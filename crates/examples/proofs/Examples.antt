@@ -6,24 +6,24 @@ use mathlib.Core.List.{List, [], ◌∷◌, ◌++◌, map}
 use mathlib.Core.Option.{bind}
 use lib.ListN.{length, drop, replicate}
 use Rattle.model.specs.Bytes.{tab, joined, padded}
-use Rattle.model.specs.Frame.{framed, framedRows}
-use Rattle.model.specs.Guard.{holds, largest, leafAt, guardAt}
-use Rattle.model.specs.Readiness.{greatestBound, comesBy, readiness}
-use Rattle.model.specs.Rule.{windowBehind, setBits, allows}
-use Rattle.model.specs.Monitor.{Monitor, changed, reset, fires, withinRule, tried}
-use Rattle.model.specs.Size.{largestIn, greatest, cap, tableSize, size}
-use Rattle.model.specs.Reach.{among, targets, reachedIn, is_reached, lowestMissing, statesAnswer}
-use Rattle.model.specs.Kinds.{impliedDevice, deviceAt, deviceFits, kindRecord}
-use Rattle.model.specs.Table.{guardIn, transitionIn, monitorOf, countsOf, kindRecords, apart, transitionFields, guardRecord, transitionRecord, transitionRecords, transitionAt, guardPlace, table_parts, scanWith, tableScan, wholeAnswer, answerWith, tableAnswer, monitorAt}
-use Rattle.model.specs.Recording.{clearOfBefore, recordedRow, recordedRows, recordingFrame, recordingScan, recordingAnswer, recordingParts, packetsOf, packetsAt, end_of}
-use Rattle.model.specs.Ruled.{ruleAnswer, ruledAnswer}
-use Rattle.model.specs.Situation.{capped, sent, missed, moved, stepBy, recordedAt, move_of, number, situationOf, stepNumber}
-use Rattle.model.specs.Layers.{count, firstFrom, spread, image, layer, total, lastInstant, cost, passing, leads, live, walk, leastMoves}
-use Rattle.model.specs.Pairs.{howMany, pairs, answer_in}
-use Rattle.model.specs.Numbers.{Values, values, verdictValues, Counts, counts, verdictCounts}
-use Rattle.model.specs.Witness.{rowsBytes, witnessBytes}
-use Rattle.model.specs.Validation.{rows_by, rows_of, preferred, pairsAt, verdict, scratchWanted, refusalOf, validationOf, validation, scratchBy, roomBy, scratchLeft, room_left, scratchAfter, roomAfter, possibleAfter}
-use Rattle.model.specs.Desk.{digits, row_lines, verdictLines, judgedLines, tableLength, linesFor, deskLines}
+use Rattle.model.specs.Frame.{framed, framed_rows}
+use Rattle.model.specs.Guard.{holds, largest, leaf_at, guard_at}
+use Rattle.model.specs.Readiness.{greatest_bound, comes_by, readiness}
+use Rattle.model.specs.Rule.{window_behind, set_bits, allows}
+use Rattle.model.specs.Monitor.{Monitor, changed, reset, fires, within_rule, tried}
+use Rattle.model.specs.Size.{largest_in, greatest, cap, table_size, size}
+use Rattle.model.specs.Reach.{among, targets, reached_in, is_reached, lowest_missing, states_answer}
+use Rattle.model.specs.Kinds.{implied_device, device_at, device_fits, kind_record}
+use Rattle.model.specs.Table.{guard_in, transition_in, monitor_of, counts_of, kind_records, apart, transition_fields, guard_record, transition_record, transition_records, transition_at, guard_place, table_parts, scan_with, table_scan, whole_answer, answer_with, table_answer, monitor_at}
+use Rattle.model.specs.Recording.{clear_of_before, recorded_row, recorded_rows, recording_frame, recording_scan, recording_answer, recording_parts, packets_of, packets_at, end_of}
+use Rattle.model.specs.Ruled.{rule_answer, ruled_answer}
+use Rattle.model.specs.Situation.{capped, sent, missed, moved, step_by, recorded_at, move_of, number, situation_of, step_number}
+use Rattle.model.specs.Layers.{count, first_from, spread, image, layer, total, last_instant, cost, passing, leads, live, walk, least_moves}
+use Rattle.model.specs.Pairs.{how_many, pairs, answer_in}
+use Rattle.model.specs.Numbers.{Values, values, verdict_values, Counts, counts, verdict_counts}
+use Rattle.model.specs.Witness.{rows_bytes, witness_bytes}
+use Rattle.model.specs.Validation.{rows_by, rows_of, preferred, pairs_at, verdict, scratch_wanted, refusal_of, validation_of, validation, scratch_by, room_by, scratch_left, room_left, scratch_after, room_after, possible_after}
+use Rattle.model.specs.Desk.{digits, row_lines, verdict_lines, judged_lines, table_length, lines_for, desk_lines}
 use Rattle.model.specs.declared.Edition.{Edition}
 use Rattle.model.specs.declared.Reading.{Reading}
 use Rattle.model.specs.declared.Verdict.{Verdict}
@@ -36,56 +36,56 @@ pub record Run : Type 0 where
   pub scratch : List ℕ
   pub room : List ℕ
 
-pub dirtyScratch : List ℕ
-dirtyScratch = replicate 100 7
+pub dirty_scratch : List ℕ
+dirty_scratch = replicate 100 7
 
-pub dirtyRoom : List ℕ
-dirtyRoom = replicate 90 9
+pub dirty_room : List ℕ
+dirty_room = replicate 90 9
 
 -- a run as the definitions give it
 abbrev pub defined : Edition → (table recording : List ℕ) → ℕ → Run
 defined edition table recording budget =
     record {
-      answer = verdictValues (validation edition table recording budget (length dirtyScratch) (length dirtyRoom));
-      counts = verdictCounts (validation edition table recording budget (length dirtyScratch) (length dirtyRoom));
-      scratch = scratchAfter edition table recording budget dirtyScratch dirtyRoom;
-      room = roomAfter edition table recording budget dirtyScratch dirtyRoom;
+      answer = verdict_values (validation edition table recording budget (length dirty_scratch) (length dirty_room));
+      counts = verdict_counts (validation edition table recording budget (length dirty_scratch) (length dirty_room));
+      scratch = scratch_after edition table recording budget dirty_scratch dirty_room;
+      room = room_after edition table recording budget dirty_scratch dirty_room;
     }
 
 -- the same, with the verdict worked out once; given: the answer on table, recording and rule
 unfoldable pub run_of : Reading → Edition → Monitor → (recording : List ℕ) → ℕ → Run
-unfolding dirtyScratch dirtyRoom tab joined padded holds largest leafAt guardAt changed reset fires largestIn greatest cap tableSize size among targets reachedIn is_reached lowestMissing statesAnswer wholeAnswer ruleAnswer ruledAnswer guardIn transitionIn monitorOf framed framedRows countsOf impliedDevice deviceAt deviceFits kindRecord kindRecords apart transitionFields guardRecord transitionRecord transitionRecords transitionAt guardPlace table_parts scanWith tableScan answerWith tableAnswer clearOfBefore recordedRow recordedRows recordingFrame recordingScan recordingAnswer recordingParts packetsOf end_of capped windowBehind setBits allows withinRule sent missed moved stepBy recordedAt move_of number situationOf stepNumber count firstFrom spread image layer total lastInstant cost passing leads live walk leastMoves rows_by rows_of preferred greatestBound comesBy readiness tried howMany pairs answer_in pairsAt verdict refusalOf validationOf bind rowsBytes witnessBytes
+unfolding dirty_scratch dirty_room tab joined padded holds largest leaf_at guard_at changed reset fires largest_in greatest cap table_size size among targets reached_in is_reached lowest_missing states_answer whole_answer rule_answer ruled_answer guard_in transition_in monitor_of framed framed_rows counts_of implied_device device_at device_fits kind_record kind_records apart transition_fields guard_record transition_record transition_records transition_at guard_place table_parts scan_with table_scan answer_with table_answer clear_of_before recorded_row recorded_rows recording_frame recording_scan recording_answer recording_parts packets_of end_of capped window_behind set_bits allows within_rule sent missed moved step_by recorded_at move_of number situation_of step_number count first_from spread image layer total last_instant cost passing leads live walk least_moves rows_by rows_of preferred greatest_bound comes_by readiness tried how_many pairs answer_in pairs_at verdict refusal_of validation_of bind rows_bytes witness_bytes
 run_of given edition m recording budget =
-    let v : Verdict = validationOf given edition m (packetsAt recording) budget (length dirtyScratch) (length dirtyRoom) in
+    let v : Verdict = validation_of given edition m (packets_at recording) budget (length dirty_scratch) (length dirty_room) in
     record {
-      answer = verdictValues v;
-      counts = verdictCounts v;
-      scratch = scratchBy v (scratchWanted m (packetsAt recording)) dirtyScratch;
-      room = roomBy v (witnessBytes edition (preferred m (packetsAt recording))) dirtyRoom;
+      answer = verdict_values v;
+      counts = verdict_counts v;
+      scratch = scratch_by v (scratch_wanted m (packets_at recording)) dirty_scratch;
+      room = room_by v (witness_bytes edition (preferred m (packets_at recording))) dirty_room;
     }
 
 abbrev pub run : Edition → (table recording : List ℕ) → ℕ → Run
-run edition table recording = run_of (recordingAnswer table recording) edition (monitorAt table) recording
+run edition table recording = run_of (recording_answer table recording) edition (monitor_at table) recording
 
 -- a run that answers 0, 1 or 2: so many bytes of the scratch are zero, and these stand at the start of the room
-judgedWith : Counts → Values → ℕ → List ℕ → Run
-unfolding dirtyScratch dirtyRoom
-judgedWith both answer zeros witness =
-    record { answer = answer; counts = both; scratch = replicate zeros 0 ++ drop zeros dirtyScratch; room = witness ++ drop (length witness) dirtyRoom }
+judged_with : Counts → Values → ℕ → List ℕ → Run
+unfolding dirty_scratch dirty_room
+judged_with both answer zeros witness =
+    record { answer = answer; counts = both; scratch = replicate zeros 0 ++ drop zeros dirty_scratch; room = witness ++ drop (length witness) dirty_room }
 
 -- where no pair is counted: so P3 and P9, which are rejected (R-10), and all that are not
 judged : Values → ℕ → List ℕ → Run
-unfolding judgedWith
-judged = judgedWith (counts 0 0)
+unfolding judged_with
+judged = judged_with (counts 0 0)
 
 -- a rejection with its two counts, the room untouched
 unfoldable pub rejected : Values → Counts → ℕ → Run
-unfolding judgedWith
-rejected answer both zeros = judgedWith both answer zeros []
+unfolding judged_with
+rejected answer both zeros = judged_with both answer zeros []
 
 unfoldable pub refused : Values → Run
-unfolding dirtyScratch dirtyRoom
-refused answer = record { answer = answer; counts = counts 0 0; scratch = dirtyScratch; room = dirtyRoom }
+unfolding dirty_scratch dirty_room
+refused answer = record { answer = answer; counts = counts 0 0; scratch = dirty_scratch; room = dirty_room }
 
 unfoldable pub table : List ℕ
 table =
@@ -125,19 +125,19 @@ runs edition table =
     ∷ run edition table (two 1 0 5 2) 10000
     ∷ []
 
-p5Witness : List ℕ
-p5Witness = 0 ∷ 18 ∷ 1 ∷ 0 ∷ 3 ∷ 0 ∷ 0 ∷ 1 ∷ 0 ∷ 0 ∷ 1 ∷ 0 ∷ 3 ∷ 2 ∷ 255 ∷ 0 ∷ 0 ∷ 6 ∷ 1 ∷ 2 ∷ []
+p5_witness : List ℕ
+p5_witness = 0 ∷ 18 ∷ 1 ∷ 0 ∷ 3 ∷ 0 ∷ 0 ∷ 1 ∷ 0 ∷ 0 ∷ 1 ∷ 0 ∷ 3 ∷ 2 ∷ 255 ∷ 0 ∷ 0 ∷ 6 ∷ 1 ∷ 2 ∷ []
 
 -- P1 to P12 in order. P6 has two budgets and P12 two recordings. The page's witnesses have edition 1; form: what they are in the room
 unfoldable pub expected : (form : List ℕ → List ℕ) → List Run
-unfolding judged refused p5Witness
+unfolding judged refused p5_witness
 expected form =
     judged (values 0 0 0) 6 (form (0x00 ∷ 0x03 ∷ 0x01 ∷ 0x00 ∷ 0x00 ∷ []))
     ∷ judged (values 0 1 1) 12 (form (0x00 ∷ 0x08 ∷ 0x01 ∷ 0x00 ∷ 0x01 ∷ 0x00 ∷ 0x00 ∷ 0x01 ∷ 0x00 ∷ 0x00 ∷ []))
     ∷ judged (values 1 1 1) 12 []
     ∷ judged (values 0 1 1) 12 (form (0 ∷ 8 ∷ 1 ∷ 0 ∷ 1 ∷ 1 ∷ 0 ∷ 1 ∷ 2 ∷ 255 ∷ []))
-    ∷ judged (values 0 13 3) 42 (form p5Witness)
-    ∷ judged (values 0 13 3) 42 (form p5Witness)
+    ∷ judged (values 0 13 3) 42 (form p5_witness)
+    ∷ judged (values 0 13 3) 42 (form p5_witness)
     ∷ judged (values 2 12 6) 42 []
     ∷ judged (values 2 7 5) 42 []
     ∷ judged (values 0 100 3) 78 (form (0 ∷ 18 ∷ 1 ∷ 0 ∷ 3 ∷ 0 ∷ 0 ∷ 1 ∷ 0 ∷ 0 ∷ 2 ∷ 0 ∷ 7 ∷ 1 ∷ 2 ∷ 0 ∷ 0 ∷ 12 ∷ 0 ∷ 4 ∷ []))
@@ -149,21 +149,21 @@ expected form =
     ∷ []
 
 -- P5's input to the program: table, recording, four-byte budget
-pub p5Input : List ℕ
+pub p5_input : List ℕ
 unfolding table p5
-p5Input = table ++ p5 ++ (0 ∷ 0 ∷ 39 ∷ 16 ∷ [])
+p5_input = table ++ p5 ++ (0 ∷ 0 ∷ 39 ∷ 16 ∷ [])
 
 pub works : (table recording : List ℕ) → ℕ → List ℕ
 unfolding run_of
-works table recording n = tab (λ t. count (possibleAfter (monitorAt table) (packetsAt recording) t)) n
+works table recording n = tab (λ t. count (possible_after (monitor_at table) (packets_at recording) t)) n
 
 unfoldable pub printed : List ℕ → List ℕ
-unfolding run_of digits row_lines verdictLines judgedLines tableLength linesFor
-printed s = deskLines s
+unfolding run_of digits row_lines verdict_lines judged_lines table_length lines_for
+printed s = desk_lines s
 
 -- accepted 13 3, kept 1 0 0, removed 3 2 255, kept 6 1 2: a line each
-pub p5Output : List ℕ
-p5Output =
+pub p5_output : List ℕ
+p5_output =
     97 ∷ 99 ∷ 99 ∷ 101 ∷ 112 ∷ 116 ∷ 101 ∷ 100 ∷ 32 ∷ 49 ∷ 51 ∷ 32 ∷ 51 ∷ 10
     ∷ 107 ∷ 101 ∷ 112 ∷ 116 ∷ 32 ∷ 49 ∷ 32 ∷ 48 ∷ 32 ∷ 48 ∷ 10
     ∷ 114 ∷ 101 ∷ 109 ∷ 111 ∷ 118 ∷ 101 ∷ 100 ∷ 32 ∷ 51 ∷ 32 ∷ 50 ∷ 32 ∷ 50 ∷ 53 ∷ 53 ∷ 10
@@ -172,18 +172,18 @@ p5Output =
 
 -- what document 01 says of P1 to P12
 pub record Page : Type 0 where
-  pub runs-defined : (edition : Edition) (table recording : List ℕ) (budget : ℕ) → run edition table recording budget ≡ defined edition table recording budget
-  pub runs-right : runs One table ≡ expected (λ witness. witness)
-  pub p5-works : works table p5 6 ≡ 1 ∷ 1 ∷ 1 ∷ 2 ∷ 3 ∷ 5 ∷ []
-  pub p5-output : printed p5Input ≡ p5Output
+  pub runs_defined : (edition : Edition) (table recording : List ℕ) (budget : ℕ) → run edition table recording budget ≡ defined edition table recording budget
+  pub runs_right : runs One table ≡ expected (λ witness. witness)
+  pub p5_works : works table p5 6 ≡ 1 ∷ 1 ∷ 1 ∷ 2 ∷ 3 ∷ 5 ∷ []
+  pub p5_output_lem : printed p5_input ≡ p5_output
 
-run-defined : (edition : Edition) (table recording : List ℕ) (budget : ℕ) → run edition table recording budget ≡ defined edition table recording budget
-unfolding run_of scratchLeft room_left
-run-defined edition table recording budget = refl
+run_defined : (edition : Edition) (table recording : List ℕ) (budget : ℕ) → run edition table recording budget ≡ defined edition table recording budget
+unfolding run_of scratch_left room_left
+run_defined edition table recording budget = refl
 
 pub page : Page
-unfolding runs expected works printed table p5 p5Input p5Output
-page = record { runs-defined = run-defined; runs-right = refl; p5-works = refl; p5-output = refl }
+unfolding runs expected works printed table p5 p5_input p5_output
+page = record { runs_defined = run_defined; runs_right = refl; p5_works = refl; p5_output_lem = refl }
 
 -- a recording that ends with DATA at this time, given by its two bytes
 unfoldable pub ending : (high low : ℕ) → List ℕ
@@ -191,13 +191,13 @@ ending high low = 0 ∷ 6 ∷ 1 ∷ 0 ∷ 1 ∷ high ∷ low ∷ 0 ∷ []
 
 -- recordings of the small monitor are answered so: T, the edition, the lengths of scratch and room, the answer
 abbrev pub Handed : List (List ℕ × Edition × ℕ × ℕ × Values) → Type 0
-Handed handovers = map (λ c. verdictValues (validation c.1 table c.0 10000 c.2 c.3)) handovers ≡ map (λ c. c.4) handovers
+Handed handovers = map (λ c. verdict_values (validation c.1 table c.0 10000 c.2 c.3)) handovers ≡ map (λ c. c.4) handovers
 
 -- "Edition 1 [..] is written only if T is at most 4,096; otherwise 31 is given with 0" (document 02, R-5): 4,096 with a room too short by a byte, and 4,097 with none
-pub lastOfOne : List (List ℕ × Edition × ℕ × ℕ × Values)
+pub last_of_one : List (List ℕ × Edition × ℕ × ℕ × Values)
 unfolding ending
-lastOfOne = (ending 16 0, One, 24582, 20489, values 31 20490 0) ∷ (ending 16 1, One, 24588, 0, values 31 0 0) ∷ []
+last_of_one = (ending 16 0, One, 24582, 20489, values 31 20490 0) ∷ (ending 16 1, One, 24588, 0, values 31 0 0) ∷ []
 
-pub last-of-one : Handed lastOfOne
-unfolding run_of table ending lastOfOne
-last-of-one = refl
+pub last_of_one_lem : Handed last_of_one
+unfolding run_of table ending last_of_one
+last_of_one_lem = refl

@@ -4,12 +4,12 @@ use Prim.Native.Nat.{ℕ, ◌+◌}
 use mathlib.Core.Path.{◌≡◌, refl}
 use mathlib.Core.List.{List, [], ◌∷◌, map}
 use lib.ListN.{replicate}
-use Rattle.model.specs.Numbers.{Values, values, readingValues, writingValues}
-use Rattle.model.specs.Witness.{inForm, misformed, rowAt, witnessFrame, witnessAnswer, witnessWritable, writeWitness, row_in}
+use Rattle.model.specs.Numbers.{Values, values, reading_values, writing_values}
+use Rattle.model.specs.Witness.{in_form, misformed, row_at, witness_frame, witness_answer, witness_writable, write_witness, row_in}
 use Rattle.model.specs.declared.Edition.{Edition}
 use Rattle.model.specs.declared.Edition.TheVariants.{One, Two}
 use Rattle.model.specs.declared.WitnessParts.{WitnessParts}
-use Rattle.examples.proofs.Examples.{run_of, runs, expected, table, ending, Handed, lastOfOne, last-of-one}
+use Rattle.examples.proofs.Examples.{run_of, runs, expected, table, ending, Handed, last_of_one, last_of_one_lem}
 
 -- a witness of edition 1, of less than 254 bytes, in edition 2; no bytes are no witness
 pub longer : List ℕ → List ℕ
@@ -92,11 +92,11 @@ writings =
 
 pub record Answered : Type 0 where
   pub twelve : runs Two table ≡ expected longer
-  pub edge : Handed lastOfOne
+  pub edge : Handed last_of_one
   pub judged : Handed handovers
-  pub read : map (λ c. readingValues (witnessAnswer c.0 c.1)) witnesses ≡ map (λ c. c.2) witnesses
-  pub wrote : map (λ c. writingValues (writeWitness c.0 c.1 (replicate c.2 7)).answer) writings ≡ map (λ c. c.3) writings
+  pub read : map (λ c. reading_values (witness_answer c.0 c.1)) witnesses ≡ map (λ c. c.2) witnesses
+  pub wrote : map (λ c. writing_values (write_witness c.0 c.1 (replicate c.2 7)).answer) writings ≡ map (λ c. c.3) writings
 
-pub two-editions : Answered
-unfolding run_of runs expected longer table ending handovers short long witnesses empty kept writings inForm misformed rowAt witnessFrame witnessAnswer row_in witnessWritable writeWitness
-two-editions = record { twelve = refl; edge = last-of-one; judged = refl; read = refl; wrote = refl }
+pub two_editions : Answered
+unfolding run_of runs expected longer table ending handovers short long witnesses empty kept writings in_form misformed row_at witness_frame witness_answer row_in witness_writable write_witness
+two_editions = record { twelve = refl; edge = last_of_one_lem; judged = refl; read = refl; wrote = refl }

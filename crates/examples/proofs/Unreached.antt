@@ -4,8 +4,8 @@ use mathlib.Core.Path.{◌≡◌, refl}
 use mathlib.Core.List.{List, [], ◌∷◌, ◌++◌, map}
 use lib.ListN.{length, set}
 use Rattle.model.specs.Bytes.{word_bytes}
-use Rattle.model.specs.Numbers.{Values, values, readingValues}
-use Rattle.model.specs.Table.{tableAnswer}
+use Rattle.model.specs.Numbers.{Values, values, reading_values}
+use Rattle.model.specs.Table.{table_answer}
 use Rattle.model.specs.declared.Edition.TheVariants.{One}
 use Rattle.examples.proofs.Examples.{run_of, run, refused, table, p5}
 
@@ -55,7 +55,7 @@ cases =
 
 pub record Answered : Type 0 where
   pub judged : run One vendor p5 10000 ≡ refused (values 17 3 0)
-  pub read : map (λ c. readingValues (tableAnswer c.0)) cases ≡ map (λ c. c.1) cases
+  pub read : map (λ c. reading_values (table_answer c.0)) cases ≡ map (λ c. c.1) cases
 
 pub unreached : Answered
 unfolding run_of refused vendor table p5 cases

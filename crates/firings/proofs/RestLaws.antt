@@ -10,14 +10,14 @@ use mathlib.Core.Bool.{Bool, false, cond, ◌&&◌, ◌||◌, and_self, or-false
 use mathlib.Core.Option.{Option, none, some}
 use lib.Dec.{ltb, leb}
 use borrow.Author.Tests.{ltb-true, lt-ltb, le-ltb, le-leb, lt-leb}
-use Rattle.model.specs.Monitor.{Monitor, toUnit, airtime}
+use Rattle.model.specs.Monitor.{Monitor, to_unit, airtime}
 use Rattle.model.specs.Size as Size
 use Rattle.words.specs.Words.{mem, up, below, meet}
 use Rattle.instants.specs.Grid.{free}
 use Rattle.instants.specs.Forward.{rests}
-use Rattle.instants.specs.Backward.{restsBack}
-use Rattle.instants.proofs.TestLaws.{both-are, either_is, up-some, below-some}
-use Rattle.firings.specs.Rested.{ranged, rested, restedBack}
+use Rattle.instants.specs.Backward.{rests_back}
+use Rattle.instants.proofs.TestLaws.{both_are, either_is, up-some, below-some}
+use Rattle.firings.specs.Rested.{ranged, rested, rested_back}
 use Rattle.firings.specs.declared.Plan.{Plan}
 use Rattle.firings.proofs.SameLaws.{Within, below-same, up_same}
 use Rattle.firings.proofs.PlanLaws.{air-below}
@@ -29,9 +29,9 @@ module _ (src : List ℕ) where
       up_same (below length (meet src s src s)) (below length (λ x. mem src (s + x))) d i
       (λ k e. below-same (meet src s src s) (λ x. mem src (s + x)) length k (λ l. and_self (mem src (s + k))))
 
-  ranged-down : (s length i : ℕ) → ranged src 0 s length i ≡ (ltb i length && mem src (s + i))
+  ranged_down : (s length i : ℕ) → ranged src 0 s length i ≡ (ltb i length && mem src (s + i))
   unfolding up below
-  ranged-down s length i =
+  ranged_down s length i =
       let same : i - 0 ≡ i = omega arith in
       ranged-is 0 s length i ∙ rw (le-leb 0 i (omega arith), same)
 
@@ -54,11 +54,11 @@ module _ (m : Monitor) (src : List ℕ) where
     rested-is p e none i =
         ap (λ (f : ℕ). ranged src 0 f (size - f) i || ranged src 0 0 f i) e
         ∙ ap₂ (λ (a b : Bool). a || b)
-        (ranged-down src (free m) (size - free m) i ∙ cut-none (free m) i)
-        (ranged-down src 0 (free m) i ∙ ap (λ (x : ℕ). ltb i (free m) && mem src x) (zero-add i))
+        (ranged_down src (free m) (size - free m) i ∙ cut-none (free m) i)
+        (ranged_down src 0 (free m) i ∙ ap (λ (x : ℕ). ltb i (free m) && mem src x) (zero-add i))
     rested-is p e (some k) i =
-        ap (λ (f : ℕ). toUnit m k && ranged src (f * airtime m k) 0 f i) e
-        ∙ ap (λ (b : Bool). toUnit m k && b)
+        ap (λ (f : ℕ). to_unit m k && ranged src (f * airtime m k) 0 f i) e
+        ∙ ap (λ (b : Bool). to_unit m k && b)
         (ranged-is src (free m * airtime m k) 0 (free m) i
         ∙ up_same (below (free m) (λ x. mem src (0 + x))) (below (free m) (mem src)) (free m * airtime m k) i
         (λ x q. below-same (λ y. mem src (0 + y)) (mem src) (free m) x (λ l. ap (mem src) (zero-add x))))
@@ -68,22 +68,22 @@ module _ (m : Monitor) (src : List ℕ) where
   unfolding rests
   rests-within none h y e =
       ⊎_elim (λ q. omega (arith, h (y + free m) q))
-      (λ q. let (l, b) = both-are (ltb y (free m)) (mem src y) q in omega (arith, air-below m 0 y (ltb-true y (free m) l)))
+      (λ q. let (l, b) = both_are (ltb y (free m)) (mem src y) q in omega (arith, air-below m 0 y (ltb-true y (free m) l)))
       (either_is (mem src (y + free m)) (ltb y (free m) && mem src y) e)
   rests-within (some k) h y e =
-      let (a, b) = both-are (toUnit m k) (up (free m * airtime m k) (below (free m) (mem src)) y) e in
+      let (a, b) = both_are (to_unit m k) (up (free m * airtime m k) (below (free m) (mem src)) y) e in
       let (x, there, q) = up-some (below (free m) (mem src)) (free m * airtime m k) y b in
       let (l, c) = below-some (mem src) (free m) x q in
       omega (arith, air-below m k x l)
 
   -- .. and back, for a situation's number
   pub rested-back : (p : Plan) → p.free ≡ free m → (size : ℕ) (recorded : Option ℕ) (i : ℕ) → i < size
-      → restedBack p m recorded size src i ≡ restsBack m recorded (mem src) i
-  unfolding restedBack restsBack
+      → rested_back p m recorded size src i ≡ rests_back m recorded (mem src) i
+  unfolding rested_back rests_back
   rested-back p e size none i l =
       ap (λ (f : ℕ). ranged src 0 0 f i || ranged src f 0 (size - f) i) e
       ∙ ap₂ (λ (a b : Bool). a || b)
-      (ranged-down src 0 (free m) i ∙ ap (λ (x : ℕ). ltb i (free m) && mem src x) (zero-add i))
+      (ranged_down src 0 (free m) i ∙ ap (λ (x : ℕ). ltb i (free m) && mem src x) (zero-add i))
       (ranged-up src (free m) (size - free m) i)
       ∙ by (dec_lt i (free m))
     where
@@ -94,6 +94,6 @@ module _ (m : Monitor) (src : List ℕ) where
       by (yes h) = simp (lt-ltb i f h, lt-leb f i h, or-false)
       by (no h) = simp (le-ltb i f (omega arith), le-leb f i (omega arith), lt-ltb (i - f) (size - f) (omega arith))
   rested-back p e size (some k) i l =
-      ap (λ (f : ℕ). toUnit m k && ranged src 0 (f * airtime m k) f i) e
-      ∙ ap (λ (b : Bool). toUnit m k && b)
-      (ranged-down src (free m * airtime m k) (free m) i ∙ ap (λ (x : ℕ). ltb i (free m) && mem src x) (add_comm (free m * airtime m k) i))
+      ap (λ (f : ℕ). to_unit m k && ranged src 0 (f * airtime m k) f i) e
+      ∙ ap (λ (b : Bool). to_unit m k && b)
+      (ranged_down src (free m * airtime m k) (free m) i ∙ ap (λ (x : ℕ). ltb i (free m) && mem src x) (add_comm (free m * airtime m k) i))

@@ -6,41 +6,41 @@ use Rattle.model.specs.Size
 use Rattle.model.specs.Rule.{masks}
 use Rattle.model.specs.Monitor.{Monitor, Transition}
 use Rattle.model.specs.Sane.{Sane}
-use Rattle.monitor.specs.From.{transitionCount}
+use Rattle.monitor.specs.From.{transition_count}
 use Rattle.words.specs.Words.{bit, mem}
 use Rattle.situation.specs.Numbering.{Fits}
-use Rattle.situation.specs.Ruled.{ruledFrom}
+use Rattle.situation.specs.Ruled.{ruled_from}
 use Rattle.situation.specs.declared.Shape.{Shape}
-use Rattle.instants.specs.Digit.{isLowest, isHighest}
-use Rattle.instants.specs.Grid.{firsts, seconds, plane, assignments, planeAt, free}
-use Rattle.instants.specs.Firing.{holdsAt}
+use Rattle.instants.specs.Digit.{is_lowest, is_highest}
+use Rattle.instants.specs.Grid.{firsts, seconds, plane, assignments, plane_at, free}
+use Rattle.instants.specs.Firing.{holds_at}
 use Rattle.instants.specs.Sourced.{Sourced}
 use Rattle.firings.specs.declared.Plan.{Plan}
 
 -- how many bits the planes of one transition's guard take, in whole words
-abbrev pub apartBy : Monitor → ℕ
-apartBy m = 64 * ((plane m * assignments m + 63) / 64)
+abbrev pub apart_by : Monitor → ℕ
+apart_by m = 64 * ((plane m * assignments m + 63) / 64)
 
 -- the lowest and the highest values of each clock are marked, in four sets of n words
 pub record Marked (m : Monitor) (n : ℕ) (marks : List ℕ) : Type 0 where
-  pub low_first : (i : ℕ) → i < 64 * n → mem marks i ≡ isLowest 1 (firsts m) i
-  pub highFirst : (i : ℕ) → i < 64 * n → mem marks (64 * n + i) ≡ isHighest 1 (firsts m) i
-  pub lowSecond : (i : ℕ) → i < 64 * n → mem marks (64 * n * 2 + i) ≡ isLowest (firsts m) (seconds m) i
-  pub highSecond : (i : ℕ) → i < 64 * n → mem marks (64 * n * 3 + i) ≡ isHighest (firsts m) (seconds m) i
+  pub low_first : (i : ℕ) → i < 64 * n → mem marks i ≡ is_lowest 1 (firsts m) i
+  pub high_first : (i : ℕ) → i < 64 * n → mem marks (64 * n + i) ≡ is_highest 1 (firsts m) i
+  pub low_second : (i : ℕ) → i < 64 * n → mem marks (64 * n * 2 + i) ≡ is_lowest (firsts m) (seconds m) i
+  pub high_second : (i : ℕ) → i < 64 * n → mem marks (64 * n * 3 + i) ≡ is_highest (firsts m) (seconds m) i
 
 -- each transition's guard, at each variables and place
 abbrev pub Guarded : Monitor → List ℕ → Type 0
 Guarded m planes =
     (j : ℕ) (t : Transition) → get_elem? m.transitions j ≡ some t
-    → (v x : ℕ) → v < assignments m → x < plane m → mem planes (apartBy m * j + (plane m * v + x)) ≡ holdsAt m t v x
+    → (v x : ℕ) → v < assignments m → x < plane m → mem planes (apart_by m * j + (plane m * v + x)) ≡ holds_at m t v x
 
 -- m is the monitor of the table, h numbers its situations, and sets of n words have room for them
 pub record Ready (m : Monitor) (table offsets : List ℕ) (h : Shape) (size n : ℕ) : Type 0 where
   pub sane : Sane m
   pub sourced : Sourced m
   pub fits : Fits h m
-  pub described : ruledFrom h table offsets ≡ m
-  pub counted : transitionCount table ≡ length m.transitions
+  pub described : ruled_from h table offsets ≡ m
+  pub counted : transition_count table ≡ length m.transitions
   pub whole : size ≡ Size.size m
   pub wide : size ≤ 64 * n
   pub narrow : size ≤ 65536
@@ -52,10 +52,10 @@ pub record Planned (m : Monitor) (h : Shape) (n : ℕ) (p : Plan) : Type 0 where
   pub plane : p.plane ≡ plane m
   pub free : p.free ≡ free m
   pub gap : p.gap ≡ 64 * n
-  pub apart : p.apart ≡ apartBy m
+  pub apart : p.apart ≡ apart_by m
 
 -- a state that is not live has nothing in a set
 abbrev pub Live : Monitor → (live : ℕ) → (ℕ → Bool) → Type 0
 Live m live s =
     (state w v x : ℕ) → bit live state ≡ false → state < m.states → w < masks m.rule → v < assignments m → x < plane m
-    → s (planeAt m v state w + x) ≡ false
+    → s (plane_at m v state w + x) ≡ false

@@ -2,12 +2,12 @@
 ghost use Rattle.std.specs.Prelude.{◌≡◌, true, ◌||◌, List, ℕ, ◌+◌, ◌*◌, ◌%◌, ◌^◌, ◌<◌, length};
 ghost use Rattle.model.specs.Monitor.{airtime, changed};
 ghost use Rattle.words.specs.Words.{bit, Joined};
-ghost use Rattle.monitor.specs.From.{transitionFrom, transitionCount};
-ghost use Rattle.situation.specs.Rows.{heardOf};
-ghost use Rattle.situation.specs.Ruled.{ruledFrom};
+ghost use Rattle.monitor.specs.From.{transition_from, transition_count};
+ghost use Rattle.situation.specs.Rows.{heard_of};
+ghost use Rattle.situation.specs.Ruled.{ruled_from};
 ghost use Rattle.instants.specs.Firing as Firing;
-ghost use Rattle.firings.specs.Fired.{placeBy, carried, carriedEach, firedFrom, firedBy, firedOne, fired};
-ghost use Rattle.firings.specs.Used.{usesIn, usedBy};
+ghost use Rattle.firings.specs.Fired.{place_by, carried, carried_each, fired_from, fired_by, fired_one, fired};
+ghost use Rattle.firings.specs.Used.{uses_in, used_by};
 
 use monitor::{airtime_of, device_of, transitions, variables_after};
 use ranges::or_range;
@@ -30,7 +30,7 @@ pub struct Plan {
 }
 
 fn place(p: Plan, v: u8, state: u8, w: u8) -> usize
-    ensures { (result ≡ placeBy p v state w) × (result < 2 ^ 58) }
+    ensures { (result ≡ place_by p v state w) × (result < 2 ^ 58) }
 {
     let h = p.shape;
     p.plane as usize
@@ -40,7 +40,7 @@ fn place(p: Plan, v: u8, state: u8, w: u8) -> usize
 // The part of the place after a firing that all planes share: the set for what the transition resets, and the air that its packet takes.
 fn base(p: Plan, table: &[u8], at: usize) -> usize
     requires { at < 65536 }
-    ensures { ((offsets : List ℕ) → result ≡ p.gap * ((transitionFrom table.now at).resets % 4) + p.free * airtime (ruledFrom p.shape table.now offsets) (transitionFrom table.now at).trigger) × (result < 2 ^ 42) }
+    ensures { ((offsets : List ℕ) → result ≡ p.gap * ((transition_from table.now at).resets % 4) + p.free * airtime (ruled_from p.shape table.now offsets) (transition_from table.now at).trigger) × (result < 2 ^ 42) }
 {
     let resets = byte(table, at + 5);
     let air = airtime_of(table, byte(table, at + 2));
@@ -50,7 +50,7 @@ fn base(p: Plan, table: &[u8], at: usize) -> usize
 // Where the planes after a firing start: that of variables 0, behind which the others follow.
 fn there(p: Plan, table: &[u8], at: usize, shared: usize, window: u8) -> usize
     requires { (at < 65536) × (shared < 2 ^ 42) }
-    ensures { (result ≡ shared + placeBy p 0 (transitionFrom table.now at).target window) × (result < 2 ^ 59) }
+    ensures { (result ≡ shared + place_by p 0 (transition_from table.now at).target window) × (result < 2 ^ 59) }
 {
     shared + place(p, 0, byte(table, at + 1), window)
 }
@@ -106,7 +106,7 @@ fn carry_each(
     dst: &mut [u64],
 )
     requires { (here < 2 ^ 58) × (to < 2 ^ 59) × (guard < 2 ^ 58) }
-    ensures { Joined (carriedEach p src.now planes.now variables sets clears here to guard p.shape.masks) dst.old dst.new }
+    ensures { Joined (carried_each p src.now planes.now variables sets clears here to guard p.shape.masks) dst.old dst.new }
 {
     let masks = p.shape.masks;
     let plane = p.plane as usize;
@@ -140,8 +140,8 @@ fn fire_from(
     src: &[u64],
     dst: &mut [u64],
 )
-    requires { (at < 65536) × (guard < 2 ^ 58) × (shared < 2 ^ 42) × ((offsets : List ℕ) → shared ≡ p.gap * ((transitionFrom table.now at).resets % 4) + p.free * airtime (ruledFrom p.shape table.now offsets) (transitionFrom table.now at).trigger) }
-    ensures { (offsets : List ℕ) → Joined (firedFrom p (ruledFrom p.shape table.now offsets) src.now planes.now guess (transitionFrom table.now at) guard w) dst.old dst.new }
+    requires { (at < 65536) × (guard < 2 ^ 58) × (shared < 2 ^ 42) × ((offsets : List ℕ) → shared ≡ p.gap * ((transition_from table.now at).resets % 4) + p.free * airtime (ruled_from p.shape table.now offsets) (transition_from table.now at).trigger) }
+    ensures { (offsets : List ℕ) → Joined (fired_from p (ruled_from p.shape table.now offsets) src.now planes.now guess (transition_from table.now at) guard w) dst.old dst.new }
 {
     let source = byte(table, at);
     let masks = p.shape.masks;
@@ -172,7 +172,7 @@ fn fire_windows(
     dst: &mut [u64],
 )
     requires { (at < 65536) × (guard < 2 ^ 58) }
-    ensures { (offsets : List ℕ) → Joined (firedBy p (ruledFrom p.shape table.now offsets) src.now planes.now guess (transitionFrom table.now at) guard p.shape.windows) dst.old dst.new }
+    ensures { (offsets : List ℕ) → Joined (fired_by p (ruled_from p.shape table.now offsets) src.now planes.now guess (transition_from table.now at) guard p.shape.windows) dst.old dst.new }
 {
     let shared = base(p, table, at);
     let windows = p.shape.windows;
@@ -198,7 +198,7 @@ fn is_live(live: u64, state: u8) -> bool
 // Only transitions on what is recorded fire; where nothing is, each may.
 fn is_fit(heard: Heard, table: &[u8], at: usize) -> bool
     requires { at < 65536 }
-    ensures { result ≡ Firing.fits (heardOf heard) (transitionFrom table.now at) }
+    ensures { result ≡ Firing.fits (heard_of heard) (transition_from table.now at) }
 {
     match heard {
         Heard::Nothing => true,
@@ -209,7 +209,7 @@ fn is_fit(heard: Heard, table: &[u8], at: usize) -> bool
 // A recorded row is no guess; an added one is, if it is from the rule's device.
 fn is_guess(p: Plan, table: &[u8], at: usize) -> bool
     requires { at < 65536 }
-    ensures { (offsets : List ℕ) → result ≡ Firing.guessed (ruledFrom p.shape table.now offsets) (heardOf p.heard) (transitionFrom table.now at) }
+    ensures { (offsets : List ℕ) → result ≡ Firing.guessed (ruled_from p.shape table.now offsets) (heard_of p.heard) (transition_from table.now at) }
 {
     let heard = p.heard;
     match heard {
@@ -229,7 +229,7 @@ fn fire_one(
     dst: &mut [u64],
 )
     requires { j < 64 }
-    ensures { Joined (firedOne p table.now offsets.now src.now planes.now j) dst.old dst.new }
+    ensures { Joined (fired_one p table.now offsets.now src.now planes.now j) dst.old dst.new }
 {
     let at = short(offsets, j) as usize;
     if !is_live(p.live, byte(table, at)) {
@@ -245,7 +245,7 @@ fn fire_one(
 
 // Every transition from every window: puts the planes of src that are carried over into dst.
 pub fn fire(p: Plan, table: &[u8], offsets: &[u16], planes: &[u64], src: &[u64], dst: &mut [u64])
-    ensures { Joined (fired p table.now offsets.now src.now planes.now (transitionCount table.now)) dst.old dst.new }
+    ensures { Joined (fired p table.now offsets.now src.now planes.now (transition_count table.now)) dst.old dst.new }
 {
     let count = transitions(table);
     let mut j = 0;
@@ -257,7 +257,7 @@ pub fn fire(p: Plan, table: &[u8], offsets: &[u16], planes: &[u64], src: &[u64],
 
 // With what transition j resets, where it is worth firing.
 fn with_used(p: Plan, table: &[u8], offsets: &[u16], j: usize, found: u64) -> u64
-    ensures { (r : ℕ) → bit result r ≡ (bit found r || usesIn p table.now offsets.now r j) }
+    ensures { (r : ℕ) → bit result r ≡ (bit found r || uses_in p table.now offsets.now r j) }
 {
     let at = short(offsets, j) as usize;
     if !is_live(p.live, byte(table, at)) {
@@ -272,7 +272,7 @@ fn with_used(p: Plan, table: &[u8], offsets: &[u16], j: usize, found: u64) -> u6
 
 // Which choices of clocks the transitions that are worth firing reset, as a mask.
 pub fn used(p: Plan, table: &[u8], offsets: &[u16]) -> u64
-    ensures { (r : ℕ) → bit result r ≡ usedBy p table.now offsets.now (transitionCount table.now) r }
+    ensures { (r : ℕ) → bit result r ≡ used_by p table.now offsets.now (transition_count table.now) r }
 {
     let count = transitions(table);
     let mut found: u64 = 0;

@@ -8,8 +8,8 @@ use Rattle.model.specs.declared.Verdict.TheVariants.{Accepted}
 use Rattle.fixed_witness.specs.Tells.{Tells}
 
 module _ (v : Verdict) (c n cost rows : ℕ) (is : v ≡ Accepted c n) where
-  rows-by : c ≡ cost → n ≡ rows → v ≡ Accepted cost rows
-  rows-by p q = cc
+  rows_by_lem : c ≡ cost → n ≡ rows → v ≡ Accepted cost rows
+  rows_by_lem p q = cc
 
   same_rows : v ≡ Accepted cost rows → n ≡ rows
   same_rows h = cc
@@ -17,8 +17,8 @@ module _ (v : Verdict) (c n cost rows : ℕ) (is : v ≡ Accepted c n) where
   same-cost : v ≡ Accepted cost rows → c ≡ cost
   same-cost h = cc
 
-  pub cost-met : c ≡ cost → Tells v cost rows (eqb n rows)
-  cost-met p = ((λ t. rows-by p (eqb-true n rows t)), λ h. eq-eqb n rows (same_rows h))
+  pub cost_met : c ≡ cost → Tells v cost rows (eqb n rows)
+  cost_met p = ((λ t. rows_by_lem p (eqb-true n rows t)), λ h. eq-eqb n rows (same_rows h))
 
   pub cost-missed : (c ≡ cost → ⊥) → Tells v cost rows (eqb c cost)
   cost-missed other = ((λ t. absurd (other (eqb-true c cost t))), λ h. eq-eqb c cost (same-cost h))

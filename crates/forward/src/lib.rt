@@ -1,12 +1,12 @@
 // The forward pass: the situations possible after each instant, each set in its row of the scratch, and what they cost.
 ghost use Rattle.std.specs.Prelude.{◌≡◌, List, length, ℕ, ◌+◌, ◌<◌, ◌≤◌};
-ghost use Rattle.model.specs.Recording.{packetsAt};
-ghost use Rattle.model.specs.Validation.{possibleAfter};
+ghost use Rattle.model.specs.Recording.{packets_at};
+ghost use Rattle.model.specs.Validation.{possible_after};
 ghost use Rattle.images.specs.Buffers.{Sized, Kept};
 ghost use Rattle.measures.specs.Roomy.{Roomy};
-ghost use Rattle.measures.specs.Setting.{monitorBy, Setting};
+ghost use Rattle.measures.specs.Setting.{monitor_by, Setting};
 ghost use Rattle.measures.specs.Working.{Working, Holds};
-ghost use Rattle.forward.specs.Forwarding.{Filled, Turn, Turned, Carrying, Emptying, emptiedAt, Forwarding, Ended};
+ghost use Rattle.forward.specs.Forwarding.{Filled, Turn, Turned, Carrying, Emptying, emptied_at, Forwarding, Ended};
 
 use bits::{count, put};
 use measures::{Measures, is_roomy};
@@ -51,7 +51,7 @@ fn instant<'a>(
     i: usize,
 ) -> u64
     requires { Roomy g (length scratch.old) × (t < g.last) }
-    ensures { Kept scratch.old scratch.new × Kept cur.old cur.new × Kept sets.old sets.new × Kept one.old one.new × Kept two.old two.new × Kept memo.old memo.new × (result ≤ 65536) × (Turn table.now offsets.now recording.now scratch.old g t i → Working table.now offsets.now g marks.now planes.now → Carrying (monitorBy g table.now) recording.now g.words t cur.old sets.old one.old two.old memo.old → Turned (monitorBy g table.now) recording.now scratch.new g.row t i result × Carrying (monitorBy g table.now) recording.now g.words (t + 1) cur.new sets.new one.new two.new memo.new) }
+    ensures { Kept scratch.old scratch.new × Kept cur.old cur.new × Kept sets.old sets.new × Kept one.old one.new × Kept two.old two.new × Kept memo.old memo.new × (result ≤ 65536) × (Turn table.now offsets.now recording.now scratch.old g t i → Working table.now offsets.now g marks.now planes.now → Carrying (monitor_by g table.now) recording.now g.words t cur.old sets.old one.old two.old memo.old → Turned (monitor_by g table.now) recording.now scratch.new g.row t i result × Carrying (monitor_by g table.now) recording.now g.words (t + 1) cur.new sets.new one.new two.new memo.new) }
 {
     let heard = heard_at(recording, i, t as u64 + 1);
     advance(
@@ -75,7 +75,7 @@ fn emptied<'a>(
     i: usize,
 ) -> Outcome
     requires { (g.row ≤ 8192) × (t < 65536) }
-    ensures { Emptying table.now offsets.now recording.now scratch.now g t i → result ≡ emptiedAt (monitorBy g table.now) recording.now cost t }
+    ensures { Emptying table.now offsets.now recording.now scratch.now g t i → result ≡ emptied_at (monitor_by g table.now) recording.now cost t }
 {
     let h = g.shape;
     let next = t as u64 + 1;
@@ -96,7 +96,7 @@ fn emptied<'a>(
 // Puts the first situation into the row of instant 0 of a zeroed scratch, and that row into cur.
 fn start(g: Measures, scratch: &mut [u8], cur: &mut [u64])
     requires { g.row ≤ length scratch.old }
-    ensures { Kept scratch.old scratch.new × Kept cur.old cur.new × ((table offsets recording : List ℕ) → Forwarding table offsets recording scratch.old g → length cur.old ≡ g.words → Filled (monitorBy g table) recording scratch.new g.row 0 0 × Holds g.words cur.new (possibleAfter (monitorBy g table) (packetsAt recording) 0)) }
+    ensures { Kept scratch.old scratch.new × Kept cur.old cur.new × ((table offsets recording : List ℕ) → Forwarding table offsets recording scratch.old g → length cur.old ≡ g.words → Filled (monitor_by g table) recording scratch.new g.row 0 0 × Holds g.words cur.new (possible_after (monitor_by g table) (packets_at recording) 0)) }
 {
     put(scratch, g.first as usize);
     let row = g.row;
@@ -120,7 +120,7 @@ fn fill<'a>(
     memo: &mut [u64],
 ) -> Outcome
     requires { Roomy g (length scratch.old) }
-    ensures { Kept scratch.old scratch.new × Kept cur.old cur.new × Kept sets.old sets.new × Kept one.old one.new × Kept two.old two.new × Kept memo.old memo.new × (Setting table.now offsets.now recording.now g → Filled (monitorBy g table.now) recording.now scratch.old g.row 0 0 → Working table.now offsets.now g marks.now planes.now → Carrying (monitorBy g table.now) recording.now g.words 0 cur.old sets.old one.old two.old memo.old → Ended (monitorBy g table.now) recording.now scratch.new budget g.row g.last result) }
+    ensures { Kept scratch.old scratch.new × Kept cur.old cur.new × Kept sets.old sets.new × Kept one.old one.new × Kept two.old two.new × Kept memo.old memo.new × (Setting table.now offsets.now recording.now g → Filled (monitor_by g table.now) recording.now scratch.old g.row 0 0 → Working table.now offsets.now g marks.now planes.now → Carrying (monitor_by g table.now) recording.now g.words 0 cur.old sets.old one.old two.old memo.old → Ended (monitor_by g table.now) recording.now scratch.new budget g.row g.last result) }
 {
     let mut cost: u64 = 0;
     let mut work: u64 = 1;
@@ -161,7 +161,7 @@ pub fn forward<'a>(
     two: &mut [u64],
     memo: &mut [u64],
 ) -> Outcome
-    ensures { Kept scratch.old scratch.new × Kept cur.old cur.new × Kept sets.old sets.new × Kept one.old one.new × Kept two.old two.new × Kept memo.old memo.new × (Forwarding table.now offsets.now recording.now scratch.old g → Working table.now offsets.now g marks.now planes.now → Sized g.words sets.old one.old two.old → length cur.old ≡ g.words → Ended (monitorBy g table.now) recording.now scratch.new budget g.row g.last result) }
+    ensures { Kept scratch.old scratch.new × Kept cur.old cur.new × Kept sets.old sets.new × Kept one.old one.new × Kept two.old two.new × Kept memo.old memo.new × (Forwarding table.now offsets.now recording.now scratch.old g → Working table.now offsets.now g marks.now planes.now → Sized g.words sets.old one.old two.old → length cur.old ≡ g.words → Ended (monitor_by g table.now) recording.now scratch.new budget g.row g.last result) }
 {
     // Lengths that do not fit each other: nothing is done.
     if !is_roomy(g, scratch.len()) {

@@ -2,27 +2,27 @@
 use mathlib.Core.Path.{◌≡◌, refl, sym, ap, ◌∙◌}
 use mathlib.Core.Bool.{Bool, true, false, not, false≢true}
 use borrow.Author.Tests.{not-true, not-false}
-use Rattle.model.specs.First.{and_then, isSound}
+use Rattle.model.specs.First.{and_then, is_sound}
 use Rattle.model.specs.declared.Reading.{Reading}
 use Rattle.model.specs.declared.Reading.TheVariants.{Sound, Unsound}
 
 -- a refusal ends the row, a sound answer goes on
-pub stops : (x y : Reading) → isSound x ≡ false → and_then x y ≡ x
+pub stops : (x y : Reading) → is_sound x ≡ false → and_then x y ≡ x
 stops Sound y e = absurd (false≢true (sym e))
 stops (Unsound r) y e = refl
 
-pub goes : (x y : Reading) → isSound x ≡ true → and_then x y ≡ y
+pub goes : (x y : Reading) → is_sound x ≡ true → and_then x y ≡ y
 goes Sound y e = refl
 goes (Unsound r) y e = absurd (false≢true e)
 
 -- an answer r that the code has tested, and all that is left to answer: r and then y. s is what the test gave
-module _ (all x y r : Reading) (s : Bool) (whole : all ≡ and_then x y) (is : r ≡ x) (tested : s ≡ isSound r) where
+module _ (all x y r : Reading) (s : Bool) (whole : all ≡ and_then x y) (is : r ≡ x) (tested : s ≡ is_sound r) where
   pub turn-stops : not s ≡ true → r ≡ all
-  turn-stops e = is ∙ sym (whole ∙ stops x y (ap isSound (sym is) ∙ sym tested ∙ not-true s e))
+  turn-stops e = is ∙ sym (whole ∙ stops x y (ap is_sound (sym is) ∙ sym tested ∙ not-true s e))
 
   pub turn-goes : not s ≡ false → all ≡ y
-  turn-goes e = whole ∙ goes x y (ap isSound (sym is) ∙ sym tested ∙ not-false s e)
+  turn-goes e = whole ∙ goes x y (ap is_sound (sym is) ∙ sym tested ∙ not-false s e)
 
-pub sound-is : (x : Reading) → isSound x ≡ true → x ≡ Sound
+pub sound-is : (x : Reading) → is_sound x ≡ true → x ≡ Sound
 sound-is Sound e = refl
 sound-is (Unsound r) e = absurd (false≢true e)

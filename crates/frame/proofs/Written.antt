@@ -11,14 +11,14 @@ use lib.Seq.{take_at, drop_at}
 use borrow.Author.Tests.{le-leb, lt-leb}
 use Rattle.model.specs.Answers.{Writes}
 use Rattle.model.specs.Bytes.{joined}
-use Rattle.model.specs.First.{isSound}
+use Rattle.model.specs.First.{is_sound}
 use Rattle.model.specs.Room.{write, over}
 use Rattle.model.specs.declared.Refusal.{Refusal}
 use Rattle.model.specs.declared.Refusal.TheVariants.{WriteRoom}
 use Rattle.model.specs.declared.Reading.{Reading}
 use Rattle.model.specs.declared.Reading.TheVariants.{Sound, Unsound}
 use Rattle.model.specs.declared.Writing.TheVariants.{Written, Unwritten}
-use Rattle.model.proofs.AnswerLaws.{writes-by}
+use Rattle.model.proofs.AnswerLaws.{writes_by}
 use Rattle.wire.specs.Placed.{placed}
 use Rattle.wire.proofs.Room.{placed-fits, placed-behind}
 
@@ -27,9 +27,9 @@ module _ (head : List ℕ) (row : ℕ → List ℕ) where
   unfolding joined
   joined-more i = append_assoc head (joined row i) (row i) ∙ ap (λ n. head ++ joined row n) (sym (add-one i))
 
-  pub joined-none : head ++ joined row 0 ≡ head
+  pub joined_none : head ++ joined row 0 ≡ head
   unfolding joined
-  joined-none = append-nil head
+  joined_none = append-nil head
 
   -- one more record behind those that are placed
   pub placed_row : (room : List ℕ) (i at : ℕ) → length (head ++ joined row i) ≡ at → at + length (row i) ≤ length room
@@ -52,9 +52,9 @@ placed_first z h x room e k =
 pub taken : (bytes room out : List ℕ) (n : ℕ) → out ≡ over bytes room → length bytes ≡ n → take n out ≡ bytes
 taken bytes room out n e h = ap (take n) e ∙ take_at bytes (drop (length bytes) room) n h
 
-pub write-none : (answer : Reading) (a b room : List ℕ) → isSound answer ≡ false → write answer a room ≡ write answer b room
-write-none Sound a b room e = absurd (false≢true (sym e))
-write-none (Unsound r) a b room e = refl
+pub write_none : (answer : Reading) (a b room : List ℕ) → is_sound answer ≡ false → write answer a room ≡ write answer b room
+write_none Sound a b room e = absurd (false≢true (sym e))
+write_none (Unsound r) a b room e = refl
 
 -- the high byte of a number that has two
 pub high : (n : ℕ) → n < 65536 → n / 256 ≡ n / 256 % 256
@@ -64,11 +64,11 @@ high n h = omega arith
 
 module _ (answer : Reading) (bytes room : List ℕ) where
   pub write-refused : (r : Refusal) → answer ≡ Unsound r → Writes (write answer bytes room) (Unwritten r) room
-  write-refused r e = rw e (writes-by _ _ _ refl refl)
+  write-refused r e = rw e (writes_by _ _ _ refl refl)
 
   module _ (sound : answer ≡ Sound) where
     pub write-short : length room < length bytes → Writes (write answer bytes room) (Unwritten (WriteRoom (length bytes))) room
-    write-short h = rw (sound, lt-leb _ _ h) (writes-by _ _ _ refl refl)
+    write-short h = rw (sound, lt-leb _ _ h) (writes_by _ _ _ refl refl)
 
     pub write-fits : length bytes ≤ length room → (after : List ℕ) → after ≡ placed bytes 0 room → Writes (write answer bytes room) (Written (length bytes)) after
-    write-fits h after e = rw (sound, le-leb _ _ h) (writes-by _ _ _ refl (e ∙ placed-behind [] bytes room 0 refl (omega arith)))
+    write-fits h after e = rw (sound, le-leb _ _ h) (writes_by _ _ _ refl (e ∙ placed-behind [] bytes room 0 refl (omega arith)))

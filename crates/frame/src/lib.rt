@@ -1,8 +1,8 @@
 // What the three kinds of bytes share: length and version in front, and writing into a room what reads as sound.
 ghost use Rattle.std.specs.Prelude.{◌≡◌};
 ghost use Rattle.model.specs.Answers.{Writes};
-ghost use Rattle.model.specs.First.{isSound};
-ghost use Rattle.model.specs.Frame.{isVersion, framed, framedRows, rowsFrame};
+ghost use Rattle.model.specs.First.{is_sound};
+ghost use Rattle.model.specs.Frame.{is_version, framed, framed_rows, rows_frame};
 ghost use Rattle.model.specs.Room.{write};
 ghost use Rattle.wire.specs.Placed.{placed};
 ghost use Rattle.model.specs.declared.Edition.TheVariants.{One, Two};
@@ -12,14 +12,14 @@ use model::{Edition, Reading, Refusal, Writing};
 use wire::{byte, place};
 
 pub fn sound(r: Reading) -> bool
-    ensures { result ≡ isSound r }
+    ensures { result ≡ is_sound r }
 {
     if let Reading::Sound = r { true } else { false }
 }
 
 // One of the versions from the oldest to the latest.
 pub fn is_version(oldest: u8, latest: u8, version: u8) -> bool
-    ensures { result ≡ isVersion oldest latest version }
+    ensures { result ≡ is_version oldest latest version }
 {
     if version < oldest {
         return false;
@@ -63,7 +63,7 @@ pub fn rows_framed(
     version: Refusal,
     count: Refusal,
 ) -> Reading
-    ensures { result ≡ framedRows edition b.now width limit frame version count }
+    ensures { result ≡ framed_rows edition b.now width limit frame version count }
 {
     let own = version_of(edition);
     let first = framed_answer(edition, b, rows_place(edition), own, own, frame, version);
@@ -84,7 +84,7 @@ pub fn rows_framed(
 // What stands before so many rows of one width, in each edition: length and count are given by their lowest bytes.
 
 fn short_frame(width: u8, count: u32) -> [u8; 5]
-    ensures { result ≡ rowsFrame One width count }
+    ensures { result ≡ rows_frame One width count }
 {
     let total = 3 + width as u64 * count as u64;
     [
@@ -97,7 +97,7 @@ fn short_frame(width: u8, count: u32) -> [u8; 5]
 }
 
 fn long_frame(width: u8, count: u32) -> [u8; 9]
-    ensures { result ≡ rowsFrame Two width count }
+    ensures { result ≡ rows_frame Two width count }
 {
     let total = 5 + width as u64 * count as u64;
     [
@@ -115,7 +115,7 @@ fn long_frame(width: u8, count: u32) -> [u8; 9]
 
 // Puts that at the start of a room, where it fits.
 pub fn put_frame(edition: Edition, width: u8, count: u32, room: &mut [u8])
-    ensures { room.new ≡ placed (rowsFrame edition width count) 0 room.old }
+    ensures { room.new ≡ placed (rows_frame edition width count) 0 room.old }
 {
     match edition {
         Edition::One => {

@@ -2,10 +2,10 @@
 // It ends since the bytes that remain grow fewer; depth is the limit that the definition sets, which a guard within its length never meets.
 
 ghost use Rattle.std.specs.Prelude.{◌≡◌, ◌&&◌, cond, ◌+◌, ◌<◌, max, leb, ltb, eqb};
-ghost use Rattle.model.specs.Limits.{guardLimit};
-ghost use Rattle.model.specs.Bytes.{byte_at, hasBit};
-ghost use Rattle.model.specs.Guard.{largest, leafAt, guardAt, ends_at, guard_of};
-ghost use Rattle.guard.specs.Guards.{seen, clockLeaf, opposite, both};
+ghost use Rattle.model.specs.Limits.{guard_limit};
+ghost use Rattle.model.specs.Bytes.{byte_at, has_bit};
+ghost use Rattle.model.specs.Guard.{largest, leaf_at, guard_at, ends_at, guard_of};
+ghost use Rattle.guard.specs.Guards.{seen, clock_leaf, opposite, both};
 ghost use Rattle.guard.specs.Evaluated.{Evaluated};
 
 use model::{GUARD_LIMIT, Readiness};
@@ -36,7 +36,7 @@ pub enum Seen {
 }
 
 fn has_bit(mask: u8, i: u8) -> bool
-    ensures { result ≡ hasBit mask i }
+    ensures { result ≡ has_bit mask i }
 {
     if i < 8 { (mask >> i) % 2 == 1 } else { false }
 }
@@ -129,7 +129,7 @@ fn joined(value: bool, later: Waits, bound: u8, second: Seen) -> Seen
 
 // A comparison of clock n, by its code, with bound t.
 fn clock_seen(code: u8, n: u8, t: u8, next: usize, q: Question, c: &[u16]) -> Seen
-    ensures { result ≡ seen q.clock q.mask c.now (clockLeaf code n t next) }
+    ensures { result ≡ seen q.clock q.mask c.now (clock_leaf code n t next) }
 {
     let reads = short(c, n as usize);
     let bound = bound_of(n, t, q.clock);
@@ -155,7 +155,7 @@ fn clock_seen(code: u8, n: u8, t: u8, next: usize, q: Question, c: &[u16]) -> Se
 // The forms without a guard inside.
 fn leaf_seen<'a>(b: &'a [u8], at: usize, end: usize, q: Question, c: &'a [u16]) -> Seen
     requires { at < end }
-    ensures { result ≡ seen q.clock q.mask c.now (leafAt q.variables q.clocks b.now at end) }
+    ensures { result ≡ seen q.clock q.mask c.now (leaf_at q.variables q.clocks b.now at end) }
 {
     let code = byte(b, at);
     if code == 0 {
@@ -193,7 +193,7 @@ pub fn guard_seen<'a>(
     q: Question,
     c: &'a [u16],
 ) -> Seen
-    ensures { result ≡ seen q.clock q.mask c.now (guardAt depth q.variables q.clocks b.now at end) }
+    ensures { result ≡ seen q.clock q.mask c.now (guard_at depth q.variables q.clocks b.now at end) }
 {
     if depth == 0 {
         return Seen::Malformed;
@@ -228,7 +228,7 @@ pub fn guard_seen<'a>(
 
 // There is one guard from at to end, no byte missing and none extra.
 pub fn guard_fills(b: &[u8], at: usize, end: usize, variables: u8, clocks: u8) -> bool
-    ensures { result ≡ ends_at (guardAt guardLimit variables clocks b.now at end) end }
+    ensures { result ≡ ends_at (guard_at guard_limit variables clocks b.now at end) end }
 {
     let still = [0u16; 2];
     let q = Question {
@@ -260,7 +260,7 @@ pub fn guard_answer<'a>(
     mask: u8,
     c: &'a [u16],
 ) -> Readiness
-    ensures { Evaluated (guard_of (guardAt guardLimit variables clocks b.now at end)) mask c.now result }
+    ensures { Evaluated (guard_of (guard_at guard_limit variables clocks b.now at end)) mask c.now result }
 {
     let q = Question {
         variables,
@@ -289,7 +289,7 @@ pub fn guard_answer<'a>(
 
 // The largest T compared with a clock in the guard.
 pub fn guard_bound(b: &[u8], at: usize, end: usize, variables: u8, clocks: u8, clock: usize) -> u8
-    ensures { result ≡ largest clock (guard_of (guardAt guardLimit variables clocks b.now at end)) }
+    ensures { result ≡ largest clock (guard_of (guard_at guard_limit variables clocks b.now at end)) }
 {
     let still = [0u16; 2];
     let q = Question {

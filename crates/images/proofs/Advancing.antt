@@ -7,26 +7,26 @@ use native.Mathlib.Omega.{arith}
 use lib.Dec.{ltb}
 use lib.ListN.{length}
 use Rattle.model.specs.Monitor.{Monitor}
-use Rattle.monitor.specs.From.{transitionCount}
+use Rattle.monitor.specs.From.{transition_count}
 use Rattle.words.specs.Words.{bit, mem, Is}
 use Rattle.shifts.specs.Shifted.{shifted}
-use Rattle.situation.specs.Rows.{heardOf}
-use Rattle.situation.specs.Ruled.{ruledFrom}
+use Rattle.situation.specs.Rows.{heard_of}
+use Rattle.situation.specs.Ruled.{ruled_from}
 use Rattle.situation.specs.declared.Shape.{Shape}
 use Rattle.situation.specs.declared.Heard.{Heard}
 use Rattle.instants.specs.Forward.{forward}
 use Rattle.firings.specs.Fired.{fired}
 use Rattle.firings.specs.Rested.{rested}
-use Rattle.firings.specs.Folded.{resetSets}
+use Rattle.firings.specs.Folded.{reset_sets}
 use Rattle.firings.specs.Ready.{Live}
 use Rattle.firings.specs.declared.Plan.{Plan}
-use Rattle.firings.proofs.ForwardAgrees.{forward-agrees}
+use Rattle.firings.proofs.ForwardAgrees.{forward_agrees}
 use Rattle.images.specs.Advanced.{Given, Within, AdvancedTo}
 use Rattle.images.specs.Buffers.{Lengths, Sized}
-use Rattle.images.specs.Living.{isLive}
+use Rattle.images.specs.Living.{is_live}
 use Rattle.images.specs.Planning.{PlanOf}
 use Rattle.images.proofs.Plans.{planned, living}
-use Rattle.images.proofs.Marking.{part_of, low_first, high-first, low_second, high-second}
+use Rattle.images.proofs.Marking.{part_of, low_first, high_first_lem, low_second, high_second_lem}
 
 -- what a test that is passed ensures, and that it is passed where it ensures so
 pub passed : {A : Type 0} (b : Bool) → not b ≡ false → (b ≡ true → A) → A
@@ -38,10 +38,10 @@ failed true e f x = false≢true e
 failed false e f x = false≢true (f x)
 
 -- where a table is sound and buffers have their lengths, these fit
-pub lengths-fit : {m : Monitor} {table offsets : List ℕ} {h : Shape} {size n : ℕ} {marks planes s b one two : List ℕ}
+pub lengths_fit : {m : Monitor} {table offsets : List ℕ} {h : Shape} {size n : ℕ} {marks planes s b one two : List ℕ}
     → Given m table offsets h size n marks planes → Within size n s → Sized n b one two
     → Lengths (length s) size (length marks) (length b) (length one) (length two) h
-lengths-fit given within sized =
+lengths_fit given within sized =
     record {
       few = omega (arith, within.words, sized.few);
       narrow = given.ready.narrow;
@@ -55,7 +55,7 @@ lengths-fit given within sized =
 
 -- a mask of the states that have a situation in a set
 abbrev pub Alive : Shape → List ℕ → (live : ℕ) → Type 0
-Alive h s live = (q : ℕ) → q < 64 → bit live q ≡ (ltb q h.states && isLive h s q)
+Alive h s live = (q : ℕ) → q < 64 → bit live q ≡ (ltb q h.states && is_live h s q)
 
 module _ {m : Monitor} {table offsets : List ℕ} {h : Shape} {size n : ℕ} {marks planes : List ℕ} (given : Given m table offsets h size n marks planes)
     {heard : Heard} {live : ℕ} {back : Bool} {p : Plan} (plan : PlanOf h heard live n back p) (s : List ℕ) (alive : Alive h s live) where
@@ -66,28 +66,28 @@ module _ {m : Monitor} {table offsets : List ℕ} {h : Shape} {size n : ℕ} {ma
 module _ (table offsets : List ℕ) (h : Shape) (size n : ℕ) (marks planes : List ℕ) (heard : Heard) (live : ℕ) (p : Plan) (plan : PlanOf h heard live n false p)
     (src : List ℕ) (alive : Alive h src live) (r1 r2 : ℕ) (e1 : r1 ≡ h.first) (e2 : r2 ≡ h.second)
     (acc0 acc acc' one0 one cur : List ℕ) (four : length acc0 ≡ 4 * n) (single : length one0 ≡ n) (same : length src ≡ n)
-    (gathered : Is (λ i. rested p (ruledFrom p.shape table offsets) (heardOf p.heard) size src i || fired p table offsets src planes (transitionCount table) i) acc0 acc)
-    (reset : (i : ℕ) → i < 64 * n → mem acc' i ≡ resetSets r1 r2 n (part_of marks 0 n) (part_of marks (2 * n) (3 * n)) acc i)
+    (gathered : Is (λ i. rested p (ruled_from p.shape table offsets) (heard_of p.heard) size src i || fired p table offsets src planes (transition_count table) i) acc0 acc)
+    (reset : (i : ℕ) → i < 64 * n → mem acc' i ≡ reset_sets r1 r2 n (part_of marks 0 n) (part_of marks (2 * n) (3 * n)) acc i)
     (first : Is (shifted acc' 1 (part_of marks n (2 * n)) (part_of marks 0 n)) one0 one)
     (second : Is (shifted one h.first (part_of marks (3 * n) (4 * n)) (part_of marks (2 * n) (3 * n))) src cur) where
-  at_once : (m : Monitor) → Given m table offsets h size n marks planes → ((i : ℕ) → size ≤ i → mem src i ≡ false) → AdvancedTo m (heardOf heard) n src cur
+  at_once : (m : Monitor) → Given m table offsets h size n marks planes → ((i : ℕ) → size ≤ i → mem src i ≡ false) → AdvancedTo m (heard_of heard) n src cur
   unfolding shifted
   at_once m given none i l =
-      forward-agrees given.ready (planned given.ready plan) planes given.guarded plan.back src none (live_in given plan src alive)
+      forward_agrees given.ready (planned given.ready plan) planes given.guarded plan.back src none (live_in given plan src alive)
       (part_of marks 0 n) (part_of marks n (2 * n)) (part_of marks (2 * n) (3 * n)) (part_of marks (3 * n) (4 * n))
-      (low_first given.marked) (high-first given.marked) (low_second given.marked) (high-second given.marked) acc
+      (low_first given.marked) (high_first_lem given.marked) (low_second given.marked) (high_second_lem given.marked) acc
       (λ y k.
       gathered.all y (omega arith)
-      ∙ ap (λ (x : Shape). rested p (ruledFrom x table offsets) (heardOf p.heard) size src y || fired p table offsets src planes (transitionCount table) y) plan.shape)
+      ∙ ap (λ (x : Shape). rested p (ruled_from x table offsets) (heard_of p.heard) size src y || fired p table offsets src planes (transition_count table) y) plan.shape)
       acc' one cur
-      (λ y k. reset y k ∙ ap₂ (λ (a b : ℕ). resetSets a b n (part_of marks 0 n) (part_of marks (2 * n) (3 * n)) acc y) e1 e2)
+      (λ y k. reset y k ∙ ap₂ (λ (a b : ℕ). reset_sets a b n (part_of marks 0 n) (part_of marks (2 * n) (3 * n)) acc y) e1 e2)
       (λ y k. first.all y (omega arith))
       (λ y k. second.all y (omega arith))
       i l
-      ∙ ap (λ (x : Heard). forward m (heardOf x) (mem src) i) plan.heard
+      ∙ ap (λ (x : Heard). forward m (heard_of x) (mem src) i) plan.heard
 
   -- .. whose number is told once more
-  pub advanced : (m : Monitor) (k : ℕ) → Given m table offsets h size k marks planes → Within size k src → AdvancedTo m (heardOf heard) k src cur
+  pub advanced : (m : Monitor) (k : ℕ) → Given m table offsets h size k marks planes → Within size k src → AdvancedTo m (heard_of heard) k src cur
   advanced m k given within i l =
       let e : k ≡ n = sym within.words ∙ same in
       at_once m (subst (λ (x : ℕ). Given m table offsets h size x marks planes) e given) within.past i (omega arith)

@@ -11,21 +11,21 @@ use lib.Dec.{eqb, ltb}
 use lib.ListN.{length}
 use Rattle.words.specs.Words.{Is, Joined, mem, up, below, meet}
 use Rattle.model.specs.Monitor.{Monitor}
-use Rattle.instants.specs.Digit.{digit, isLowest, isHighest}
+use Rattle.instants.specs.Digit.{digit, is_lowest, is_highest}
 use Rattle.instants.specs.Grid.{firsts, seconds}
 use Rattle.firings.specs.Ready.{Marked}
 use Rattle.images.proofs.SetLaws.{put_whole, up-here, up-before, up-past}
 
 -- a digit is lowest if it is below 1, and highest if it is not below its last value
-lowest-is : (d : ℕ) → ltb d 1 ≡ eqb d 0
-lowest-is d = by (ℕ_discrete d 0)
+lowest_is : (d : ℕ) → ltb d 1 ≡ eqb d 0
+lowest_is d = by (ℕ_discrete d 0)
   where
     by : Dec (d ≡ 0) → ltb d 1 ≡ eqb d 0
     by (yes e) = simp (lt-ltb d 1 (omega arith), eq-eqb d 0 e)
     by (no e) = simp (le-ltb d 1 (omega arith), ne_eqb d 0 e)
 
-highest-is : (d r : ℕ) → d < r → not (ltb d (r - 1)) ≡ eqb (d + 1) r
-highest-is d r l = by (ℕ_discrete (d + 1) r)
+highest_is : (d r : ℕ) → d < r → not (ltb d (r - 1)) ≡ eqb (d + 1) r
+highest_is d r l = by (ℕ_discrete (d + 1) r)
   where
     by : Dec (d + 1 ≡ r) → not (ltb d (r - 1)) ≡ eqb (d + 1) r
     by (yes e) = simp (le-ltb d (r - 1) (omega arith), eq-eqb (d + 1) r e)
@@ -33,18 +33,18 @@ highest-is d r l = by (ℕ_discrete (d + 1) r)
 
 -- they are put where a set starts
 module _ (d n w r : ℕ) (s t a b : List ℕ) (k : length s ≡ n) where
-  pub lowest-moved : Is (λ x. ltb (x / w % r) 1) s t → Joined (up d (below (64 * n) (meet t 0 t 0))) a b
-      → Joined (up d (below (64 * n) (isLowest w r))) a b
-  lowest-moved e = put_whole d (64 * n) (isLowest w r) t a b (λ x l. e.all x (omega arith) ∙ lowest-is (digit w r x))
+  pub lowest_moved : Is (λ x. ltb (x / w % r) 1) s t → Joined (up d (below (64 * n) (meet t 0 t 0))) a b
+      → Joined (up d (below (64 * n) (is_lowest w r))) a b
+  lowest_moved e = put_whole d (64 * n) (is_lowest w r) t a b (λ x l. e.all x (omega arith) ∙ lowest_is (digit w r x))
 
-  pub highest-moved : (c : List ℕ) → 0 < r → Is (λ x. ltb (x / w % r) (r - 1)) s c → Is (λ x. not (mem c x)) c t
-      → Joined (up d (below (64 * n) (meet t 0 t 0))) a b → Joined (up d (below (64 * n) (isHighest w r))) a b
-  highest-moved c z e f =
-      put_whole d (64 * n) (isHighest w r) t a b
+  pub highest_moved : (c : List ℕ) → 0 < r → Is (λ x. ltb (x / w % r) (r - 1)) s c → Is (λ x. not (mem c x)) c t
+      → Joined (up d (below (64 * n) (meet t 0 t 0))) a b → Joined (up d (below (64 * n) (is_highest w r))) a b
+  highest_moved c z e f =
+      put_whole d (64 * n) (is_highest w r) t a b
       (λ x l.
       f.all x (omega (arith, e.size))
       ∙ ap not (e.all x (omega arith))
-      ∙ highest-is (digit w r x) r (mod-lt (x / w) z))
+      ∙ highest_is (digit w r x) r (mod-lt (x / w) z))
 
 -- four sets of n words in one buffer, one after the other
 module _ (n : ℕ) (p q r s f : ℕ → Bool)
@@ -53,26 +53,26 @@ module _ (n : ℕ) (p q r s f : ℕ → Bool)
     ≡ ((((false || up (64 * n * 0) (below (64 * n) p) x) || up (64 * n * (0 + 1)) (below (64 * n) q) x) || up (64 * n * 2) (below (64 * n) r) x)
     || up (64 * n * (2 + 1)) (below (64 * n) s) x))
     (i : ℕ) (l : i < 64 * n) where
-  pub set-0 : f i ≡ p i
-  set-0 =
+  pub set_0 : f i ≡ p i
+  set_0 =
       e i (omega arith)
       ∙ (simp (up-before (64 * n * (0 + 1)) (64 * n) q i (omega arith), up-before (64 * n * 2) (64 * n) r i (omega arith), up-before (64 * n * (2 + 1)) (64 * n) s i (omega arith), or-false))
       ∙ up-here (64 * n * 0) (64 * n) p i i (omega arith) l
 
-  pub set-1 : f (64 * n + i) ≡ q i
-  set-1 =
+  pub set_1 : f (64 * n + i) ≡ q i
+  set_1 =
       e (64 * n + i) (omega arith)
       ∙ (simp (up-past (64 * n * 0) (64 * n) p (64 * n + i) (omega arith), up-before (64 * n * 2) (64 * n) r (64 * n + i) (omega arith), up-before (64 * n * (2 + 1)) (64 * n) s (64 * n + i) (omega arith), or-false))
       ∙ up-here (64 * n * (0 + 1)) (64 * n) q (64 * n + i) i (omega arith) l
 
-  pub set-2 : f (64 * n * 2 + i) ≡ r i
-  set-2 =
+  pub set_2 : f (64 * n * 2 + i) ≡ r i
+  set_2 =
       e (64 * n * 2 + i) (omega arith)
       ∙ (simp (up-past (64 * n * 0) (64 * n) p (64 * n * 2 + i) (omega arith), up-past (64 * n * (0 + 1)) (64 * n) q (64 * n * 2 + i) (omega arith), up-before (64 * n * (2 + 1)) (64 * n) s (64 * n * 2 + i) (omega arith), or-false))
       ∙ up-here (64 * n * 2) (64 * n) r (64 * n * 2 + i) i (omega arith) l
 
-  pub set-3 : f (64 * n * 3 + i) ≡ s i
-  set-3 =
+  pub set_3 : f (64 * n * 3 + i) ≡ s i
+  set_3 =
       e (64 * n * 3 + i) (omega arith)
       ∙ (simp (up-past (64 * n * 0) (64 * n) p (64 * n * 3 + i) (omega arith), up-past (64 * n * (0 + 1)) (64 * n) q (64 * n * 3 + i) (omega arith), up-past (64 * n * 2) (64 * n) r (64 * n * 3 + i) (omega arith)))
       ∙ up-here (64 * n * (2 + 1)) (64 * n) s (64 * n * 3 + i) i (omega arith) l
@@ -81,22 +81,22 @@ module _ (n : ℕ) (p q r s f : ℕ → Bool)
 abbrev pub AddedMarks : (n r w values : ℕ) → (before after : List ℕ) → Type 0
 AddedMarks n r w values before after =
     (i : ℕ) → i < 64 * length before
-    → mem after i ≡ ((mem before i || up (64 * n * r) (below (64 * n) (isLowest w values)) i) || up (64 * n * (r + 1)) (below (64 * n) (isHighest w values)) i)
+    → mem after i ≡ ((mem before i || up (64 * n * r) (below (64 * n) (is_lowest w values)) i) || up (64 * n * (r + 1)) (below (64 * n) (is_highest w values)) i)
 
 module _ (m : Monitor) (n w first w2 second : ℕ) (a : w ≡ 1) (b : first ≡ firsts m) (c : w2 ≡ firsts m) (d : second ≡ seconds m) where
   marked_by : (s : List ℕ)
       → ((x : ℕ) → x < 64 * (4 * n)
       → mem s x
-      ≡ ((((false || up (64 * n * 0) (below (64 * n) (isLowest w first)) x) || up (64 * n * (0 + 1)) (below (64 * n) (isHighest w first)) x)
-      || up (64 * n * 2) (below (64 * n) (isLowest w2 second)) x)
-      || up (64 * n * (2 + 1)) (below (64 * n) (isHighest w2 second)) x))
+      ≡ ((((false || up (64 * n * 0) (below (64 * n) (is_lowest w first)) x) || up (64 * n * (0 + 1)) (below (64 * n) (is_highest w first)) x)
+      || up (64 * n * 2) (below (64 * n) (is_lowest w2 second)) x)
+      || up (64 * n * (2 + 1)) (below (64 * n) (is_highest w2 second)) x))
       → Marked m n s
   marked_by s e =
       record {
-        low_first = λ i l. set-0 n (isLowest w first) (isHighest w first) (isLowest w2 second) (isHighest w2 second) (mem s) e i l ∙ one (λ x y. isLowest x y i);
-        highFirst = λ i l. set-1 n (isLowest w first) (isHighest w first) (isLowest w2 second) (isHighest w2 second) (mem s) e i l ∙ one (λ x y. isHighest x y i);
-        lowSecond = λ i l. set-2 n (isLowest w first) (isHighest w first) (isLowest w2 second) (isHighest w2 second) (mem s) e i l ∙ two (λ x y. isLowest x y i);
-        highSecond = λ i l. set-3 n (isLowest w first) (isHighest w first) (isLowest w2 second) (isHighest w2 second) (mem s) e i l ∙ two (λ x y. isHighest x y i);
+        low_first = λ i l. set_0 n (is_lowest w first) (is_highest w first) (is_lowest w2 second) (is_highest w2 second) (mem s) e i l ∙ one (λ x y. is_lowest x y i);
+        high_first = λ i l. set_1 n (is_lowest w first) (is_highest w first) (is_lowest w2 second) (is_highest w2 second) (mem s) e i l ∙ one (λ x y. is_highest x y i);
+        low_second = λ i l. set_2 n (is_lowest w first) (is_highest w first) (is_lowest w2 second) (is_highest w2 second) (mem s) e i l ∙ two (λ x y. is_lowest x y i);
+        high_second = λ i l. set_3 n (is_lowest w first) (is_highest w first) (is_lowest w2 second) (is_highest w2 second) (mem s) e i l ∙ two (λ x y. is_highest x y i);
       }
     where
       one : (f : ℕ → ℕ → Bool) → f w first ≡ f 1 (firsts m)
@@ -111,7 +111,7 @@ module _ (m : Monitor) (n w first w2 second : ℕ) (a : w ≡ 1) (b : first ≡ 
       marked_by v
       (λ i l.
       y i (omega (arith, clear.size))
-      ∙ ap (λ (z : Bool). (z || up (64 * n * 2) (below (64 * n) (isLowest w2 second)) i) || up (64 * n * (2 + 1)) (below (64 * n) (isHighest w2 second)) i)
+      ∙ ap (λ (z : Bool). (z || up (64 * n * 2) (below (64 * n) (is_lowest w2 second)) i) || up (64 * n * (2 + 1)) (below (64 * n) (is_highest w2 second)) i)
       (x i (omega (arith, clear.size))
-      ∙ ap (λ (z : Bool). (z || up (64 * n * 0) (below (64 * n) (isLowest w first)) i) || up (64 * n * (0 + 1)) (below (64 * n) (isHighest w first)) i)
+      ∙ ap (λ (z : Bool). (z || up (64 * n * 0) (below (64 * n) (is_lowest w first)) i) || up (64 * n * (0 + 1)) (below (64 * n) (is_highest w first)) i)
       (clear.all i (omega arith))))

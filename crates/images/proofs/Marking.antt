@@ -6,8 +6,8 @@ use native.Mathlib.Omega.{arith}
 use lib.ListN.{take, drop}
 use Rattle.model.specs.Monitor.{Monitor}
 use Rattle.words.specs.Words.{mem}
-use Rattle.strides.proofs.Parts.{mem-part}
-use Rattle.instants.specs.Digit.{isLowest, isHighest}
+use Rattle.strides.proofs.Parts.{mem_part}
+use Rattle.instants.specs.Digit.{is_lowest, is_highest}
 use Rattle.instants.specs.Grid.{firsts, seconds}
 use Rattle.firings.specs.Ready.{Marked}
 
@@ -16,20 +16,20 @@ abbrev pub part_of : List ℕ → (a e : ℕ) → List ℕ
 part_of s a e = take (e - a) (drop a s)
 
 module _ {m : Monitor} {n : ℕ} {marks : List ℕ} (marked : Marked m n marks) (i : ℕ) (l : i < 64 * n) where
-  pub low-first : mem (part_of marks 0 n) i ≡ isLowest 1 (firsts m) i
-  low-first =
+  pub low_first_lem : mem (part_of marks 0 n) i ≡ is_lowest 1 (firsts m) i
+  low_first_lem =
       let at : 64 * 0 + i ≡ i = omega arith in
-      mem-part marks 0 (n - 0) i (omega arith) ∙ ap (mem marks) at ∙ marked.lowFirst i l
+      mem_part marks 0 (n - 0) i (omega arith) ∙ ap (mem marks) at ∙ marked.low_first i l
 
-  pub high-first : mem (part_of marks n (2 * n)) i ≡ isHighest 1 (firsts m) i
-  high-first = mem-part marks n (2 * n - n) i (omega arith) ∙ marked.highFirst i l
+  pub high_first_lem : mem (part_of marks n (2 * n)) i ≡ is_highest 1 (firsts m) i
+  high_first_lem = mem_part marks n (2 * n - n) i (omega arith) ∙ marked.high_first i l
 
-  pub low_second : mem (part_of marks (2 * n) (3 * n)) i ≡ isLowest (firsts m) (seconds m) i
-  low_second =
+  pub low_second_lem : mem (part_of marks (2 * n) (3 * n)) i ≡ is_lowest (firsts m) (seconds m) i
+  low_second_lem =
       let at : 64 * (2 * n) + i ≡ 64 * n * 2 + i = omega arith in
-      mem-part marks (2 * n) (3 * n - 2 * n) i (omega arith) ∙ ap (mem marks) at ∙ marked.lowSecond i l
+      mem_part marks (2 * n) (3 * n - 2 * n) i (omega arith) ∙ ap (mem marks) at ∙ marked.low_second i l
 
-  pub high-second : mem (part_of marks (3 * n) (4 * n)) i ≡ isHighest (firsts m) (seconds m) i
-  high-second =
+  pub high_second_lem : mem (part_of marks (3 * n) (4 * n)) i ≡ is_highest (firsts m) (seconds m) i
+  high_second_lem =
       let at : 64 * (3 * n) + i ≡ 64 * n * 3 + i = omega arith in
-      mem-part marks (3 * n) (4 * n - 3 * n) i (omega arith) ∙ ap (mem marks) at ∙ marked.highSecond i l
+      mem_part marks (3 * n) (4 * n - 3 * n) i (omega arith) ∙ ap (mem marks) at ∙ marked.high_second i l

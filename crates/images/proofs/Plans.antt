@@ -11,16 +11,16 @@ use borrow.Author.Tests.{lt-ltb}
 use Rattle.model.specs.Rule.{masks}
 use Rattle.model.specs.Monitor.{Monitor}
 use Rattle.model.specs.Size as Size
-use Rattle.model.proofs.Numbering.{pos-masks}
-use Rattle.words.specs.Words.{bit, mem, anyBelow}
+use Rattle.model.proofs.Numbering.{pos_masks}
+use Rattle.words.specs.Words.{bit, mem, any_below}
 use Rattle.situation.specs.declared.Shape.{Shape}
 use Rattle.situation.specs.declared.Heard.{Heard}
-use Rattle.instants.specs.Grid.{plane, assignments, planeAt, free}
+use Rattle.instants.specs.Grid.{plane, assignments, plane_at, free}
 use Rattle.firings.specs.Ready.{Ready, Planned, Live}
 use Rattle.firings.specs.declared.Plan.{Plan}
 use Rattle.firings.proofs.PlanLaws.{air-below}
 use Rattle.images.specs.Planning.{PlanOf}
-use Rattle.images.specs.Living.{numbersOf, isLive}
+use Rattle.images.specs.Living.{numbers_of, is_live}
 use Rattle.images.proofs.LiveLaws.{none_is}
 
 -- the situations of which the air is free are some of all
@@ -38,13 +38,13 @@ module _ {m : Monitor} {table offsets : List ℕ} {h : Shape} {size n : ℕ} (re
       by : {a b c d : ℕ} → a ≡ b → c ≡ d → a * c ≡ b * d
       by e f = cc
 
-  pub numbers-is : numbersOf h ≡ plane m * assignments m
+  pub numbers-is : numbers_of h ≡ plane m * assignments m
   numbers-is = by plane-is ready.fits.masks
     where
       by : {a b c d : ℕ} → a ≡ b → c ≡ d → a * c ≡ b * d
       by e f = cc
 
-  free-is : numbersOf h * (h.states * h.windows) ≡ free m
+  free-is : numbers_of h * (h.states * h.windows) ≡ free m
   unfolding free
   free-is = by numbers-is ready.fits.states ready.fits.windows ∙ again (plane m) (assignments m) m.states (masks m.rule)
     where
@@ -57,7 +57,7 @@ module _ {m : Monitor} {table offsets : List ℕ} {h : Shape} {size n : ℕ} (re
   -- states and windows are not none, so that one state's numbers in a window are no more than all
   some-rows : 1 ≤ m.states * masks m.rule
   some-rows =
-      omega (arith, ready.sane.states, pos-masks m.rule, mul-le-mul_left {m = 1} {n = masks m.rule} m.states (pos-masks m.rule))
+      omega (arith, ready.sane.states, pos_masks m.rule, mul-le-mul_left {m = 1} {n = masks m.rule} m.states (pos_masks m.rule))
 
   pub numbers-within : plane m * assignments m ≤ size
   unfolding free
@@ -82,16 +82,16 @@ module _ {m : Monitor} {table offsets : List ℕ} {h : Shape} {size n : ℕ} (re
         apart = q.apart ∙ ap (λ (k : ℕ). 64 * ((k + 63) / 64) % 2 ^ 32) numbers-is ∙ mod-eq_of_lt (omega (arith, ready.narrow, numbers-within));
       }
 
-  pub living : (live : ℕ) (s : List ℕ) → h.states ≤ 64 → ((q : ℕ) → q < 64 → bit live q ≡ (ltb q h.states && isLive h s q)) → Live m live (mem s)
-  unfolding isLive planeAt
+  pub living : (live : ℕ) (s : List ℕ) → h.states ≤ 64 → ((q : ℕ) → q < 64 → bit live q ≡ (ltb q h.states && is_live h s q)) → Live m live (mem s)
+  unfolding is_live plane_at
   living live s few told state w v x dead a b c d =
       let l : state < h.states = omega (arith, ready.fits.states) in
-      let none : isLive h s state ≡ false = sym (ap (λ (t : Bool). t && isLive h s state) (lt-ltb state h.states l)) ∙ sym (told state (omega arith)) ∙ dead in
+      let none : is_live h s state ≡ false = sym (ap (λ (t : Bool). t && is_live h s state) (lt-ltb state h.states l)) ∙ sym (told state (omega arith)) ∙ dead in
       let i : ℕ = plane m * v + x in
-      let row : anyBelow (λ k. mem s (numbersOf h * (state + h.states * w) + k)) (numbersOf h) ≡ false =
-      none_is (λ y. anyBelow (λ k. mem s (numbersOf h * (state + h.states * y) + k)) (numbersOf h)) h.windows w none (omega (arith, ready.fits.windows)) in
-      let near : i < numbersOf h = omega (arith, numbers-is, mul-le-mul_left {m = v + 1} {n = assignments m} (plane m) (omega arith), by (plane m) v) in
-      ap (mem s) (place (numbersOf h) h.states numbers-is ready.fits.states) ∙ none_is (λ k. mem s (numbersOf h * (state + h.states * w) + k)) (numbersOf h) i row near
+      let row : any_below (λ k. mem s (numbers_of h * (state + h.states * w) + k)) (numbers_of h) ≡ false =
+      none_is (λ y. any_below (λ k. mem s (numbers_of h * (state + h.states * y) + k)) (numbers_of h)) h.windows w none (omega (arith, ready.fits.windows)) in
+      let near : i < numbers_of h = omega (arith, numbers-is, mul-le-mul_left {m = v + 1} {n = assignments m} (plane m) (omega arith), by (plane m) v) in
+      ap (mem s) (place (numbers_of h) h.states numbers-is ready.fits.states) ∙ none_is (λ k. mem s (numbers_of h * (state + h.states * w) + k)) (numbers_of h) i row near
     where
       by : (a v : ℕ) → a * (v + 1) ≡ a * v + a
       by a v = omega arith

@@ -9,11 +9,11 @@ use native.Mathlib.Omega.{arith}
 use borrow.Author.Tests.{lt-ltb, le-ltb, le-leb, lt-leb}
 use lib.Dec.{leb, ltb}
 use lib.ListN.{length}
-use Rattle.words.specs.Words.{mem, Is, Joined, up, below, meet, anyBelow}
-use Rattle.words.proofs.Sets.{mem-past, join-none, join-join}
+use Rattle.words.specs.Words.{mem, Is, Joined, up, below, meet, any_below}
+use Rattle.words.proofs.Sets.{mem-past, join_none, join_join}
 use Rattle.words.proofs.AnyBelow.{any_none}
 use Rattle.firings.proofs.Bounds.{product}
-use Rattle.firings.specs.Folded.{set_at, foldedBy, spreadBy, resetSets}
+use Rattle.firings.specs.Folded.{set_at, folded_by, spread_by, reset_sets}
 use Rattle.images.proofs.LiveLaws.{none_is}
 
 -- sets that agree below k, cut there
@@ -62,8 +62,8 @@ module _ (d k : ℕ) (p : ℕ → Bool) where
   up-past x l = simp (le-ltb (x - d) k (omega arith), and-false)
 
 -- places of sets are far from the end of numbers
-pub set-near : (n r : ℕ) → n ≤ 1024 → r < 4 → 64 * n * r < 262148
-set-near n r h l = product 65537 4 (64 * n) r (omega arith) l
+pub set_near : (n r : ℕ) → n ≤ 1024 → r < 4 → 64 * n * r < 262148
+set_near n r h l = product 65537 4 (64 * n) r (omega arith) l
 
 -- a range and its mask from places on
 pub both-same : (a : Bool) → (a && a) ≡ a
@@ -132,31 +132,31 @@ put_whole d k p s a b e = joined_same d k (meet s 0 s 0) p a b (λ y l. meet-sta
 
 -- the definitions ask of a set only what is below its end
 module _ (w r n : ℕ) (low : List ℕ) (s t : ℕ → Bool) (e : (y : ℕ) → y < 64 * n → s y ≡ t y) (i : ℕ) where
-  pub folded-same : foldedBy w r n low s i ≡ foldedBy w r n low t i
-  unfolding foldedBy
-  folded-same = ap (λ (f : ℕ → Bool). anyBelow (λ d. f (i + w * d)) r && mem low i) (below-same (64 * n) s t e)
+  pub folded_same : folded_by w r n low s i ≡ folded_by w r n low t i
+  unfolding folded_by
+  folded_same = ap (λ (f : ℕ → Bool). any_below (λ d. f (i + w * d)) r && mem low i) (below-same (64 * n) s t e)
 
-  pub spread_same : spreadBy w r n low s i ≡ spreadBy w r n low t i
-  unfolding spreadBy
+  pub spread_same : spread_by w r n low s i ≡ spread_by w r n low t i
+  unfolding spread_by
   spread_same =
-      ap (λ (f : ℕ → Bool). anyBelow (λ d. up (w * d) f i) r)
+      ap (λ (f : ℕ → Bool). any_below (λ d. up (w * d) f i) r)
       (below-same (64 * n) (λ y. s y && mem low y) (λ y. t y && mem low y) (λ y l. ap (λ (b : Bool). b && mem low y) (e y l)))
 
-pub folded-at : (w r n : ℕ) (low : List ℕ) (s : ℕ → Bool) (i : ℕ) → foldedBy w r n low s i ≡ (anyBelow (λ d. below (64 * n) s (i + w * d)) r && mem low i)
-unfolding foldedBy
-folded-at w r n low s i = refl
+pub folded_at : (w r n : ℕ) (low : List ℕ) (s : ℕ → Bool) (i : ℕ) → folded_by w r n low s i ≡ (any_below (λ d. below (64 * n) s (i + w * d)) r && mem low i)
+unfolding folded_by
+folded_at w r n low s i = refl
 
 -- a buffer in which no number is found
-none_in : (s : List ℕ) → anyBelow (mem s) (64 * length s) ≡ false → (i : ℕ) → mem s i ≡ false
+none_in : (s : List ℕ) → any_below (mem s) (64 * length s) ≡ false → (i : ℕ) → mem s i ≡ false
 none_in s e i = by (dec_lt i (64 * length s))
   where
     by : Dec (i < 64 * length s) → mem s i ≡ false
     by (yes l) = none_is (mem s) (64 * length s) i e l
     by (no l) = mem-past s i (omega arith)
 
-pub up-false : (d k i : ℕ) → up d (below k (λ y. false)) i ≡ false
+pub up_false : (d k i : ℕ) → up d (below k (λ y. false)) i ≡ false
 unfolding up below
-up-false d k i = simp and-false
+up_false d k i = simp and-false
 
 up-empty : (d : ℕ) (p : ℕ → Bool) → ((y : ℕ) → p y ≡ false) → (i : ℕ) → up d p i ≡ false
 unfolding up
@@ -176,87 +176,87 @@ module _ (n from : ℕ) (b one one1 one2 : List ℕ) (h : length one ≡ n) (cle
           ∙ meet_self b n from y
 
   -- .. folded
-  pub fold-some : (w r to : ℕ) (low one3 b' : List ℕ) → Is (λ i. anyBelow (λ d. mem one2 (i + w * d)) r) one2 one3
+  pub fold_some : (w r to : ℕ) (low one3 b' : List ℕ) → Is (λ i. any_below (λ d. mem one2 (i + w * d)) r) one2 one3
       → Joined (up (64 * n * to) (below (64 * n) (meet one3 0 low 0))) b b'
-      → Joined (up (64 * n * to) (below (64 * n) (foldedBy w r n low (set_at b n from)))) b b'
-  fold-some w r to low one3 b' down put = joined_same (64 * n * to) (64 * n) (meet one3 0 low 0) (foldedBy w r n low (set_at b n from)) b b' on put
+      → Joined (up (64 * n * to) (below (64 * n) (folded_by w r n low (set_at b n from)))) b b'
+  fold_some w r to low one3 b' down put = joined_same (64 * n * to) (64 * n) (meet one3 0 low 0) (folded_by w r n low (set_at b n from)) b b' on put
     where
-      on : (y : ℕ) → y < 64 * n → meet one3 0 low 0 y ≡ foldedBy w r n low (set_at b n from) y
+      on : (y : ℕ) → y < 64 * n → meet one3 0 low 0 y ≡ folded_by w r n low (set_at b n from) y
       on y l =
           meet-start one3 low y
           ∙ ap (λ (x : Bool). x && mem low y)
           (down.all y (omega (arith, range.size, clear.size))
-          ∙ ap (λ (f : ℕ → Bool). anyBelow (λ d. f (y + w * d)) r) alone)
-          ∙ sym (folded-at w r n low (set_at b n from) y)
+          ∙ ap (λ (f : ℕ → Bool). any_below (λ d. f (y + w * d)) r) alone)
+          ∙ sym (folded_at w r n low (set_at b n from) y)
 
 -- where set `from` is empty, nothing goes over
-set-none : (b : List ℕ) (n r : ℕ) (found : Bool) → found ≡ anyBelow (λ i. mem b (64 * n * r + i)) (64 * n) → found ≡ false
+set_none : (b : List ℕ) (n r : ℕ) (found : Bool) → found ≡ any_below (λ i. mem b (64 * n * r + i)) (64 * n) → found ≡ false
     → (y : ℕ) → y < 64 * n → set_at b n r y ≡ false
 unfolding set_at
-set-none b n r found e f y l = none_is (λ i. mem b (64 * n * r + i)) (64 * n) y (sym e ∙ f) l
+set_none b n r found e f y l = none_is (λ i. mem b (64 * n * r + i)) (64 * n) y (sym e ∙ f) l
 
-folded-none : (w r n : ℕ) (low : List ℕ) (i : ℕ) → foldedBy w r n low (λ y. false) i ≡ false
-unfolding foldedBy below
-folded-none w r n low i =
+folded_none : (w r n : ℕ) (low : List ℕ) (i : ℕ) → folded_by w r n low (λ y. false) i ≡ false
+unfolding folded_by below
+folded_none w r n low i =
     ap (λ (x : Bool). x && mem low i) (any_none (λ d. ltb (i + w * d) (64 * n) && false) r (λ d k. and-false (ltb (i + w * d) (64 * n))))
 
-pub fold-none : (n from : ℕ) (b : List ℕ) (w r to : ℕ) (low : List ℕ) (found : Bool)
-    → found ≡ anyBelow (λ i. mem b (64 * n * from + i)) (64 * n) → found ≡ false
-    → Joined (up (64 * n * to) (below (64 * n) (foldedBy w r n low (set_at b n from)))) b b
-fold-none n from b w r to low found e f =
-    joined_same (64 * n * to) (64 * n) (λ y. false) (foldedBy w r n low (set_at b n from)) b b
-    (λ y l. sym (folded-same w r n low (set_at b n from) (λ y. false) (set-none b n from found e f) y ∙ folded-none w r n low y))
-    (join-none (up (64 * n * to) (below (64 * n) (λ y. false))) b (λ i l. up-false (64 * n * to) (64 * n) i))
+pub fold_none : (n from : ℕ) (b : List ℕ) (w r to : ℕ) (low : List ℕ) (found : Bool)
+    → found ≡ any_below (λ i. mem b (64 * n * from + i)) (64 * n) → found ≡ false
+    → Joined (up (64 * n * to) (below (64 * n) (folded_by w r n low (set_at b n from)))) b b
+fold_none n from b w r to low found e f =
+    joined_same (64 * n * to) (64 * n) (λ y. false) (folded_by w r n low (set_at b n from)) b b
+    (λ y l. sym (folded_same w r n low (set_at b n from) (λ y. false) (set_none b n from found e f) y ∙ folded_none w r n low y))
+    (join_none (up (64 * n * to) (below (64 * n) (λ y. false))) b (λ i l. up_false (64 * n * to) (64 * n) i))
 
 -- three folds, one after the other
 module _ (n first second : ℕ) (low1 low2 b b1 b2 b3 : List ℕ) (four : length b ≡ 4 * n)
-    (both : Joined (up (64 * n * 1) (below (64 * n) (foldedBy first second n low2 (set_at b n 3)))) b b1)
-    (one : Joined (up (64 * n * 0) (below (64 * n) (foldedBy 1 first n low1 (set_at b1 n 1)))) b1 b2)
-    (other : Joined (up (64 * n * 0) (below (64 * n) (foldedBy first second n low2 (set_at b2 n 2)))) b2 b3) where
-  pub reset-sets : (i : ℕ) → i < 64 * n → mem b3 i ≡ resetSets first second n low1 low2 b i
-  unfolding resetSets
+    (both : Joined (up (64 * n * 1) (below (64 * n) (folded_by first second n low2 (set_at b n 3)))) b b1)
+    (one : Joined (up (64 * n * 0) (below (64 * n) (folded_by 1 first n low1 (set_at b1 n 1)))) b1 b2)
+    (other : Joined (up (64 * n * 0) (below (64 * n) (folded_by first second n low2 (set_at b2 n 2)))) b2 b3) where
+  pub reset-sets : (i : ℕ) → i < 64 * n → mem b3 i ≡ reset_sets first second n low1 low2 b i
+  unfolding reset_sets
   reset-sets i l =
       let four1 : length b1 ≡ 4 * n = both.size ∙ four in
       let four2 : length b2 ≡ 4 * n = one.size ∙ four1 in
       sym (set_first b3 n i)
-      ∙ set_here n 0 (foldedBy first second n low2 (set_at b2 n 2)) b2 b3 four2 other i l (omega arith)
+      ∙ set_here n 0 (folded_by first second n low2 (set_at b2 n 2)) b2 b3 four2 other i l (omega arith)
       ∙ ap₂ (λ (x y : Bool). x || y)
-      (set_here n 0 (foldedBy 1 first n low1 (set_at b1 n 1)) b1 b2 four1 one i l (omega arith)
+      (set_here n 0 (folded_by 1 first n low1 (set_at b1 n 1)) b1 b2 four1 one i l (omega arith)
       ∙ ap₂ (λ (x y : Bool). x || y)
-      (set_before n 1 (foldedBy first second n low2 (set_at b n 3)) b b1 four both i l 0 (omega arith) (omega arith))
-      (folded-same 1 first n low1 (set_at b1 n 1) (λ y. set_at b n 1 y || foldedBy first second n low2 (set_at b n 3) y)
-      (λ y k. set_here n 1 (foldedBy first second n low2 (set_at b n 3)) b b1 four both y k (omega arith)) i))
-      (folded-same first second n low2 (set_at b2 n 2) (set_at b n 2)
+      (set_before n 1 (folded_by first second n low2 (set_at b n 3)) b b1 four both i l 0 (omega arith) (omega arith))
+      (folded_same 1 first n low1 (set_at b1 n 1) (λ y. set_at b n 1 y || folded_by first second n low2 (set_at b n 3) y)
+      (λ y k. set_here n 1 (folded_by first second n low2 (set_at b n 3)) b b1 four both y k (omega arith)) i))
+      (folded_same first second n low2 (set_at b2 n 2) (set_at b n 2)
       (λ y k.
-      set_after n 0 (foldedBy 1 first n low1 (set_at b1 n 1)) b1 b2 four1 one y k 2 (omega arith) (omega arith)
-      ∙ set_after n 1 (foldedBy first second n low2 (set_at b n 3)) b b1 four both y k 2 (omega arith) (omega arith))
+      set_after n 0 (folded_by 1 first n low1 (set_at b1 n 1)) b1 b2 four1 one y k 2 (omega arith) (omega arith)
+      ∙ set_after n 1 (folded_by first second n low2 (set_at b n 3)) b b1 four both y k 2 (omega arith) (omega arith))
       i)
 
 -- .. with the clocks' weights told by equations
 pub reset_by : (n w1 w2 first second : ℕ) (low1 low2 b b1 b2 b3 : List ℕ) → length b ≡ 4 * n → w1 ≡ 1 → w2 ≡ first
-    → Joined (up (64 * n * 1) (below (64 * n) (foldedBy w2 second n low2 (set_at b n 3)))) b b1
-    → Joined (up (64 * n * 0) (below (64 * n) (foldedBy w1 first n low1 (set_at b1 n 1)))) b1 b2
-    → Joined (up (64 * n * 0) (below (64 * n) (foldedBy w2 second n low2 (set_at b2 n 2)))) b2 b3
-    → (i : ℕ) → i < 64 * n → mem b3 i ≡ resetSets first second n low1 low2 b i
+    → Joined (up (64 * n * 1) (below (64 * n) (folded_by w2 second n low2 (set_at b n 3)))) b b1
+    → Joined (up (64 * n * 0) (below (64 * n) (folded_by w1 first n low1 (set_at b1 n 1)))) b1 b2
+    → Joined (up (64 * n * 0) (below (64 * n) (folded_by w2 second n low2 (set_at b2 n 2)))) b2 b3
+    → (i : ℕ) → i < 64 * n → mem b3 i ≡ reset_sets first second n low1 low2 b i
 reset_by n w1 w2 first second low1 low2 b b1 b2 b3 four e f x y z =
     reset-sets n first second low1 low2 b b1 b2 b3 four
-    (subst (λ (w : ℕ). Joined (up (64 * n * 1) (below (64 * n) (foldedBy w second n low2 (set_at b n 3)))) b b1) f x)
-    (subst (λ (w : ℕ). Joined (up (64 * n * 0) (below (64 * n) (foldedBy w first n low1 (set_at b1 n 1)))) b1 b2) e y)
-    (subst (λ (w : ℕ). Joined (up (64 * n * 0) (below (64 * n) (foldedBy w second n low2 (set_at b2 n 2)))) b2 b3) f z)
+    (subst (λ (w : ℕ). Joined (up (64 * n * 1) (below (64 * n) (folded_by w second n low2 (set_at b n 3)))) b b1) f x)
+    (subst (λ (w : ℕ). Joined (up (64 * n * 0) (below (64 * n) (folded_by w first n low1 (set_at b1 n 1)))) b1 b2) e y)
+    (subst (λ (w : ℕ). Joined (up (64 * n * 0) (below (64 * n) (folded_by w second n low2 (set_at b2 n 2)))) b2 b3) f z)
 
 -- a set of n words is cut to what is at the lowest
 module _ (w r n : ℕ) (low one2 : List ℕ) (s : ℕ → Bool) (h : length one2 ≡ n) (cut : (y : ℕ) → y < 64 * n → mem one2 y ≡ (s y && mem low y)) where
-  cut_at : (i : ℕ) → anyBelow (λ d. up (w * d) (mem one2) i) r ≡ spreadBy w r n low s i
-  unfolding spreadBy
-  cut_at i = ap (λ (f : ℕ → Bool). anyBelow (λ d. up (w * d) f i) r) (mem_is n one2 (λ y. s y && mem low y) h cut)
+  cut_at : (i : ℕ) → any_below (λ d. up (w * d) (mem one2) i) r ≡ spread_by w r n low s i
+  unfolding spread_by
+  cut_at i = ap (λ (f : ℕ → Bool). any_below (λ d. up (w * d) f i) r) (mem_is n one2 (λ y. s y && mem low y) h cut)
 
   -- and spread
-  pub spread-is : (one one3 : List ℕ) → length one ≡ n → Is (λ i. anyBelow (λ d. up (w * d) (mem one2) i) r) one2 one3 → Is (spreadBy w r n low s) one one3
+  pub spread-is : (one one3 : List ℕ) → length one ≡ n → Is (λ i. any_below (λ d. up (w * d) (mem one2) i) r) one2 one3 → Is (spread_by w r n low s) one one3
   spread-is one one3 k spread = record { size = spread.size ∙ h ∙ sym k; all = λ i l. spread.all i (omega arith) ∙ cut_at i }
 
   -- or empty, and left
-  pub none-is-spread : (one : List ℕ) (found : Bool) → length one ≡ n → found ≡ anyBelow (mem one2) (64 * length one2) → found ≡ false → Is (spreadBy w r n low s) one one2
-  none-is-spread one found k e f =
+  pub none_is_spread : (one : List ℕ) (found : Bool) → length one ≡ n → found ≡ any_below (mem one2) (64 * length one2) → found ≡ false → Is (spread_by w r n low s) one one2
+  none_is_spread one found k e f =
       record {
         size = h ∙ sym k;
         all = λ i l. none i ∙ sym (any_none (λ d. up (w * d) (mem one2) i) r (λ d q. up-empty (w * d) (mem one2) none i)) ∙ cut_at i;
@@ -268,47 +268,47 @@ module _ (w r n : ℕ) (low one2 : List ℕ) (s : ℕ → Bool) (h : length one2
 -- .. of set 0
 module _ (w r n : ℕ) (low b one one1 one2 : List ℕ) (h : length one ≡ n) (clear : Is (λ i. false) one one1)
     (range : Joined (up 0 (below (64 * n) (meet b 0 low 0))) one1 one2) where
-  first-cut : (y : ℕ) → y < 64 * n → mem one2 y ≡ (set_at b n 0 y && mem low y)
-  first-cut y l =
+  first_cut : (y : ℕ) → y < 64 * n → mem one2 y ≡ (set_at b n 0 y && mem low y)
+  first_cut y l =
       (filled _ one one1 one2 clear range).all y (omega arith)
       ∙ up_none (below (64 * n) (meet b 0 low 0)) y
       ∙ below_in (64 * n) (meet b 0 low 0) y l
       ∙ meet-start b low y
       ∙ ap (λ (x : Bool). x && mem low y) (sym (set_first b n y))
 
-  pub spread-first : (one3 : List ℕ) → Is (λ i. anyBelow (λ d. up (w * d) (mem one2) i) r) one2 one3 → Is (spreadBy w r n low (set_at b n 0)) one one3
-  spread-first one3 spread = spread-is w r n low one2 (set_at b n 0) (range.size ∙ clear.size ∙ h) first-cut one one3 h spread
+  pub spread-first : (one3 : List ℕ) → Is (λ i. any_below (λ d. up (w * d) (mem one2) i) r) one2 one3 → Is (spread_by w r n low (set_at b n 0)) one one3
+  spread-first one3 spread = spread-is w r n low one2 (set_at b n 0) (range.size ∙ clear.size ∙ h) first_cut one one3 h spread
 
-  pub spread_none : (found : Bool) → found ≡ anyBelow (mem one2) (64 * length one2) → found ≡ false → Is (spreadBy w r n low (set_at b n 0)) one one2
-  spread_none found e f = none-is-spread w r n low one2 (set_at b n 0) (range.size ∙ clear.size ∙ h) first-cut one found h e f
+  pub spread_none : (found : Bool) → found ≡ any_below (mem one2) (64 * length one2) → found ≡ false → Is (spread_by w r n low (set_at b n 0)) one one2
+  spread_none found e f = none_is_spread w r n low one2 (set_at b n 0) (range.size ∙ clear.size ∙ h) first_cut one found h e f
 
 -- .. of one that stands alone
 pub spread-again : (w r n : ℕ) (low one one1 one2 : List ℕ) → length one ≡ n → Is (λ i. mem one i && mem low i) one one1
-    → Is (λ i. anyBelow (λ d. up (w * d) (mem one1) i) r) one1 one2 → Is (spreadBy w r n low (mem one)) one one2
+    → Is (λ i. any_below (λ d. up (w * d) (mem one1) i) r) one1 one2 → Is (spread_by w r n low (mem one)) one one2
 spread-again w r n low one one1 one2 h cut spread =
     spread-is w r n low one1 (mem one) (cut.size ∙ h) (λ y l. cut.all y (omega arith)) one one2 h spread
 
 -- a single set goes into set r
-pub put-set : (n r : ℕ) (p : ℕ → Bool) (before one b b' : List ℕ) → length before ≡ n → Is p before one
+pub put_set : (n r : ℕ) (p : ℕ → Bool) (before one b b' : List ℕ) → length before ≡ n → Is p before one
     → Joined (up (64 * n * r) (below (64 * n) (meet one 0 one 0))) b b' → Joined (up (64 * n * r) (below (64 * n) p)) b b'
-put-set n r p before one b b' h is put =
+put_set n r p before one b b' h is put =
     put_whole (64 * n * r) (64 * n) p one b b' (λ y l. is.all y (omega arith)) put
 
 -- spread over one clock, and then over the other
-pub spread-both : (w r w2 r2 n : ℕ) (low1 low2 b one one1 one2 : List ℕ) → length one ≡ n → Is (spreadBy w2 r2 n low2 (set_at b n 0)) one one1
-    → Is (spreadBy w r n low1 (mem one1)) one1 one2 → Is (spreadBy w r n low1 (spreadBy w2 r2 n low2 (set_at b n 0))) one one2
+pub spread-both : (w r w2 r2 n : ℕ) (low1 low2 b one one1 one2 : List ℕ) → length one ≡ n → Is (spread_by w2 r2 n low2 (set_at b n 0)) one one1
+    → Is (spread_by w r n low1 (mem one1)) one1 one2 → Is (spread_by w r n low1 (spread_by w2 r2 n low2 (set_at b n 0))) one one2
 spread-both w r w2 r2 n low1 low2 b one one1 one2 h first again =
     record {
       size = again.size ∙ first.size;
       all =
           λ i l.
           again.all i (omega (arith, first.size))
-          ∙ spread_same w r n low1 (mem one1) (spreadBy w2 r2 n low2 (set_at b n 0)) (λ y k. first.all y (omega arith)) i;
+          ∙ spread_same w r n low1 (mem one1) (spread_by w2 r2 n low2 (set_at b n 0)) (λ y k. first.all y (omega arith)) i;
     }
 
 -- two things are put into an empty set
-pub filled-two : (p q : ℕ → Bool) (a b c d : List ℕ) → Is (λ i. false) a b → Joined p b c → Joined q c d → Is (λ i. p i || q i) a d
-filled-two p q a b c d e x y = filled (λ i. p i || q i) a b d e (join-join p q b c d x y)
+pub filled_two : (p q : ℕ → Bool) (a b c d : List ℕ) → Is (λ i. false) a b → Joined p b c → Joined q c d → Is (λ i. p i || q i) a d
+filled_two p q a b c d e x y = filled (λ i. p i || q i) a b d e (join_join p q b c d x y)
 
 -- a set's first k numbers are put into an empty one
 pub filled_copy : (k : ℕ) (s a b c : List ℕ) → Is (λ i. false) a b → Joined (up 0 (below k (meet s 0 s 0))) b c → Is (below k (mem s)) a c

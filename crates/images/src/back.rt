@@ -1,14 +1,14 @@
 // From the set after an instant to the situations before it that lead there.
 ghost use Rattle.std.specs.Prelude.{◌≡◌, List, ◌&&◌, ◌||◌, ℕ, ◌*◌, ◌^◌, ◌<◌, length};
 ghost use Rattle.model.specs.Monitor.{Monitor};
-ghost use Rattle.monitor.specs.From.{transitionCount};
+ghost use Rattle.monitor.specs.From.{transition_count};
 ghost use Rattle.words.specs.Words.{Is, Joined, up, below, mem, bit};
-ghost use Rattle.shifts.specs.Shifted.{shiftedDown};
-ghost use Rattle.situation.specs.Rows.{heardOf};
-ghost use Rattle.situation.specs.Ruled.{ruledFrom};
+ghost use Rattle.shifts.specs.Shifted.{shifted_down};
+ghost use Rattle.situation.specs.Rows.{heard_of};
+ghost use Rattle.situation.specs.Ruled.{ruled_from};
 ghost use Rattle.firings.specs.Fired.{fired};
-ghost use Rattle.firings.specs.Folded.{set_at, spreadBy};
-ghost use Rattle.firings.specs.Rested.{restedBack};
+ghost use Rattle.firings.specs.Folded.{set_at, spread_by};
+ghost use Rattle.firings.specs.Rested.{rested_back};
 ghost use Rattle.images.specs.Buffers.{Sized, Kept};
 ghost use Rattle.images.specs.Advanced.{Given, Within, RetreatedTo};
 ghost use Rattle.images.specs.Unset.{Unset};
@@ -35,7 +35,7 @@ fn untick(
     two: &mut [u64],
 )
     requires { Sized n sets.old one.old two.old }
-    ensures { Is (shiftedDown next.now first high_second.now high_second.now) one.old one.new × Is (shiftedDown one.new 1 high_first.now high_first.now) two.old two.new × Is (below (64 * n) (mem two.new)) sets.old sets.new }
+    ensures { Is (shifted_down next.now first high_second.now high_second.now) one.old one.new × Is (shifted_down one.new 1 high_first.now high_first.now) two.old two.new × Is (below (64 * n) (mem two.new)) sets.old sets.new }
 {
     shift_down(one, next, first, high_second, high_second);
     shift_down(two, one, 1, high_first, high_first);
@@ -55,7 +55,7 @@ fn unset_one(
     two: &mut [u64],
 )
     requires { Sized n sets.old one.old two.old × (r < 4) × (0 < clock.values) }
-    ensures { Joined (λ i. worth && up (64 * n * r) (below (64 * n) (spreadBy clock.weight clock.values n low.now (set_at sets.old n 0))) i) sets.old sets.new × Kept one.old one.new × Kept two.old two.new }
+    ensures { Joined (λ i. worth && up (64 * n * r) (below (64 * n) (spread_by clock.weight clock.values n low.now (set_at sets.old n 0))) i) sets.old sets.new × Kept one.old one.new × Kept two.old two.new }
 {
     if worth {
         unreset_one(sets, n, r, clock, low, one, two);
@@ -75,7 +75,7 @@ fn unset_both(
     two: &mut [u64],
 )
     requires { Sized n sets.old one.old two.old × (0 < first.values) × (0 < second.values) }
-    ensures { Joined (λ i. worth && up (64 * n * 3) (below (64 * n) (spreadBy first.weight first.values n low_first.now (spreadBy second.weight second.values n low_second.now (set_at sets.old n 0)))) i) sets.old sets.new × Kept one.old one.new × Kept two.old two.new }
+    ensures { Joined (λ i. worth && up (64 * n * 3) (below (64 * n) (spread_by first.weight first.values n low_first.now (spread_by second.weight second.values n low_second.now (set_at sets.old n 0)))) i) sets.old sets.new × Kept one.old one.new × Kept two.old two.new }
 {
     if worth {
         unreset_both(sets, n, first, second, low_first, low_second, one, two);
@@ -130,7 +130,7 @@ fn lead(
     out: &mut [u64],
 )
     requires { size < 2 ^ 60 }
-    ensures { Is (λ i. restedBack p (ruledFrom p.shape table.now offsets.now) (heardOf p.heard) size sets.now i || fired p table.now offsets.now sets.now planes.now (transitionCount table.now) i) out.old out.new }
+    ensures { Is (λ i. rested_back p (ruled_from p.shape table.now offsets.now) (heard_of p.heard) size sets.now i || fired p table.now offsets.now sets.now planes.now (transition_count table.now) i) out.old out.new }
 {
     clear(out);
     rest_back(p, table, size, sets, out);
@@ -153,7 +153,7 @@ pub fn retreat(
     one: &mut [u64],
     two: &mut [u64],
 )
-    ensures { Kept row.old row.new × Kept sets.old sets.new × Kept one.old one.new × Kept two.old two.new × ((m : Monitor) (n : ℕ) → Given m table.now offsets.now h size n marks.now planes.now → Within size n row.old → Sized n sets.old one.old two.old → RetreatedTo m (heardOf heard) n next.now row.old row.new) }
+    ensures { Kept row.old row.new × Kept sets.old sets.new × Kept one.old one.new × Kept two.old two.new × ((m : Monitor) (n : ℕ) → Given m table.now offsets.now h size n marks.now planes.now → Within size n row.old → Sized n sets.old one.old two.old → RetreatedTo m (heard_of heard) n next.now row.old row.new) }
 {
     let n = row.len();
     if !is_sized(n, size, marks.len(), sets.len(), one.len(), two.len(), h) {

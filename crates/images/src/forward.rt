@@ -1,10 +1,10 @@
 // From the set before an instant to the set after it.
 ghost use Rattle.std.specs.Prelude.{List, ◌||◌, ℕ, ◌*◌, ◌^◌, ◌<◌, length};
 ghost use Rattle.model.specs.Monitor.{Monitor};
-ghost use Rattle.monitor.specs.From.{transitionCount};
+ghost use Rattle.monitor.specs.From.{transition_count};
 ghost use Rattle.words.specs.Words.{Is};
-ghost use Rattle.situation.specs.Rows.{heardOf};
-ghost use Rattle.situation.specs.Ruled.{ruledFrom};
+ghost use Rattle.situation.specs.Rows.{heard_of};
+ghost use Rattle.situation.specs.Ruled.{ruled_from};
 ghost use Rattle.firings.specs.Fired.{fired};
 ghost use Rattle.firings.specs.Rested.{rested};
 ghost use Rattle.images.specs.Buffers.{Sized, Kept};
@@ -30,7 +30,7 @@ fn gather(
     acc: &mut [u64],
 )
     requires { size < 2 ^ 60 }
-    ensures { Is (λ i. rested p (ruledFrom p.shape table.now offsets.now) (heardOf p.heard) size cur.now i || fired p table.now offsets.now cur.now planes.now (transitionCount table.now) i) acc.old acc.new }
+    ensures { Is (λ i. rested p (ruled_from p.shape table.now offsets.now) (heard_of p.heard) size cur.now i || fired p table.now offsets.now cur.now planes.now (transition_count table.now) i) acc.old acc.new }
 {
     clear(acc);
     rest_forward(p, table, size, cur, acc);
@@ -52,7 +52,7 @@ pub fn advance(
     one: &mut [u64],
     two: &mut [u64],
 )
-    ensures { Kept cur.old cur.new × Kept acc.old acc.new × Kept one.old one.new × Kept two.old two.new × ((m : Monitor) (n : ℕ) → Given m table.now offsets.now h size n marks.now planes.now → Within size n cur.old → Sized n acc.old one.old two.old → AdvancedTo m (heardOf heard) n cur.old cur.new) }
+    ensures { Kept cur.old cur.new × Kept acc.old acc.new × Kept one.old one.new × Kept two.old two.new × ((m : Monitor) (n : ℕ) → Given m table.now offsets.now h size n marks.now planes.now → Within size n cur.old → Sized n acc.old one.old two.old → AdvancedTo m (heard_of heard) n cur.old cur.new) }
 {
     let n = cur.len();
     if !is_sized(n, size, marks.len(), acc.len(), one.len(), two.len(), h) {

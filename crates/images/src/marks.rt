@@ -3,7 +3,7 @@ ghost use Rattle.std.specs.Prelude.{◌≡◌, ℕ, ◌+◌, ◌*◌, ◌<◌, l
 ghost use Rattle.model.specs.Monitor.{Monitor};
 ghost use Rattle.words.specs.Words.{Joined, up, below, mem};
 ghost use Rattle.situation.specs.Numbering.{Fits};
-ghost use Rattle.instants.specs.Digit.{isLowest, isHighest};
+ghost use Rattle.instants.specs.Digit.{is_lowest, is_highest};
 ghost use Rattle.firings.specs.Ready.{Marked};
 ghost use Rattle.images.specs.Buffers.{Sized, Kept};
 
@@ -23,7 +23,7 @@ fn mark_lowest(
     two: &mut [u64],
 )
     requires { Sized n marks.old one.old two.old × (r < 4) × (0 < clock.weight) × (0 < clock.values) }
-    ensures { Joined (up (64 * n * r) (below (64 * n) (isLowest clock.weight clock.values))) marks.old marks.new × Kept one.old one.new × Kept two.old two.new }
+    ensures { Joined (up (64 * n * r) (below (64 * n) (is_lowest clock.weight clock.values))) marks.old marks.new × Kept one.old one.new × Kept two.old two.new }
 {
     at_most(one, two, clock.weight, clock.values, 1);
     or_range(marks, 64 * n * r, one, 0, one, 0, 64 * n);
@@ -39,7 +39,7 @@ fn mark_highest(
     two: &mut [u64],
 )
     requires { Sized n marks.old one.old two.old × (r < 4) × (0 < clock.weight) × (0 < clock.values) }
-    ensures { Joined (up (64 * n * r) (below (64 * n) (isHighest clock.weight clock.values))) marks.old marks.new × Kept one.old one.new × Kept two.old two.new }
+    ensures { Joined (up (64 * n * r) (below (64 * n) (is_highest clock.weight clock.values))) marks.old marks.new × Kept one.old one.new × Kept two.old two.new }
 {
     at_most(one, two, clock.weight, clock.values, clock.values - 1);
     complement(one);
@@ -48,7 +48,7 @@ fn mark_highest(
 
 fn mark_clock(marks: &mut [u64], n: usize, r: usize, clock: Clock, one: &mut [u64], two: &mut [u64])
     requires { Sized n marks.old one.old two.old × (r < 3) × (0 < clock.weight) × (0 < clock.values) }
-    ensures { ((i : ℕ) → i < 64 * length marks.old → mem marks.new i ≡ ((mem marks.old i || up (64 * n * r) (below (64 * n) (isLowest clock.weight clock.values)) i) || up (64 * n * (r + 1)) (below (64 * n) (isHighest clock.weight clock.values)) i)) × Kept marks.old marks.new × Kept one.old one.new × Kept two.old two.new }
+    ensures { ((i : ℕ) → i < 64 * length marks.old → mem marks.new i ≡ ((mem marks.old i || up (64 * n * r) (below (64 * n) (is_lowest clock.weight clock.values)) i) || up (64 * n * (r + 1)) (below (64 * n) (is_highest clock.weight clock.values)) i)) × Kept marks.old marks.new × Kept one.old one.new × Kept two.old two.new }
 {
     mark_lowest(marks, n, r, clock, one, two);
     mark_highest(marks, n, r + 1, clock, one, two);

@@ -1,9 +1,9 @@
 // What resting leaves: ranges of a set that go over as they are.
 ghost use Rattle.std.specs.Prelude.{List, ℕ, ◌^◌, ◌<◌};
 ghost use Rattle.words.specs.Words.{Joined};
-ghost use Rattle.situation.specs.Rows.{heardOf};
-ghost use Rattle.situation.specs.Ruled.{ruledFrom};
-ghost use Rattle.firings.specs.Rested.{ranged, rested, restedBack};
+ghost use Rattle.situation.specs.Rows.{heard_of};
+ghost use Rattle.situation.specs.Ruled.{ruled_from};
+ghost use Rattle.firings.specs.Rested.{ranged, rested, rested_back};
 
 use firings::Plan;
 use monitor::{airtime_of, to_unit};
@@ -21,7 +21,7 @@ fn range(dst: &mut [u64], d: usize, src: &[u64], s: usize, length: usize)
 
 pub(crate) fn rest_forward(p: Plan, table: &[u8], size: usize, src: &[u64], dst: &mut [u64])
     requires { size < 2 ^ 60 }
-    ensures { (offsets : List ℕ) → Joined (rested p (ruledFrom p.shape table.now offsets) (heardOf p.heard) size src.now) dst.old dst.new }
+    ensures { (offsets : List ℕ) → Joined (rested p (ruled_from p.shape table.now offsets) (heard_of p.heard) size src.now) dst.old dst.new }
 {
     let free = p.free as usize;
     let heard = p.heard;
@@ -40,7 +40,7 @@ pub(crate) fn rest_forward(p: Plan, table: &[u8], size: usize, src: &[u64], dst:
 
 pub(crate) fn rest_back(p: Plan, table: &[u8], size: usize, src: &[u64], dst: &mut [u64])
     requires { size < 2 ^ 60 }
-    ensures { (offsets : List ℕ) → Joined (restedBack p (ruledFrom p.shape table.now offsets) (heardOf p.heard) size src.now) dst.old dst.new }
+    ensures { (offsets : List ℕ) → Joined (rested_back p (ruled_from p.shape table.now offsets) (heard_of p.heard) size src.now) dst.old dst.new }
 {
     let free = p.free as usize;
     let heard = p.heard;

@@ -1,7 +1,7 @@
 // Four sets of n words in one buffer, one for each choice of clocks that are reset (1 the first, 2 the second, 3 both), and the resets on them.
 ghost use Rattle.std.specs.Prelude.{◌≡◌, true, ℕ, ◌*◌, ◌<◌, length};
 ghost use Rattle.words.specs.Words.{Is, Joined, up, below, mem};
-ghost use Rattle.firings.specs.Folded.{set_at, foldedBy, spreadBy, resetSets};
+ghost use Rattle.firings.specs.Folded.{set_at, folded_by, spread_by, reset_sets};
 ghost use Rattle.images.specs.Buffers.{Lengths, Sized, Kept};
 
 use ranges::{any_in, or_range};
@@ -82,7 +82,7 @@ fn fold(
     two: &mut [u64],
 )
     requires { Sized n b.old one.old two.old × (from < 4) × (to < 4) × (0 < clock.values) }
-    ensures { Joined (up (64 * n * to) (below (64 * n) (foldedBy clock.weight clock.values n low.now (set_at b.old n from)))) b.old b.new × Kept one.old one.new × Kept two.old two.new }
+    ensures { Joined (up (64 * n * to) (below (64 * n) (folded_by clock.weight clock.values n low.now (set_at b.old n from)))) b.old b.new × Kept one.old one.new × Kept two.old two.new }
 {
     if any_in(b, 64 * n * from, 64 * n) {
         clear(one);
@@ -104,7 +104,7 @@ pub(crate) fn reset_all(
     two: &mut [u64],
 )
     requires { Sized n b.old one.old two.old × (first.weight ≡ 1) × (second.weight ≡ first.values) × (0 < first.values) × (0 < second.values) }
-    ensures { Kept b.old b.new × ((i : ℕ) → i < 64 * n → mem b.new i ≡ resetSets first.values second.values n low_first.now low_second.now b.old i) × Kept one.old one.new × Kept two.old two.new }
+    ensures { Kept b.old b.new × ((i : ℕ) → i < 64 * n → mem b.new i ≡ reset_sets first.values second.values n low_first.now low_second.now b.old i) × Kept one.old one.new × Kept two.old two.new }
 {
     fold(b, n, 3, 1, second, low_second, one, two);
     fold(b, n, 1, 0, first, low_first, one, two);
@@ -114,7 +114,7 @@ pub(crate) fn reset_all(
 // What set 0 has where a clock is 0, at all of the clock's values.
 fn spread_first(b: &[u64], n: usize, clock: Clock, low: &[u64], one: &mut [u64], two: &mut [u64])
     requires { Sized n b.now one.old two.old × (0 < clock.values) }
-    ensures { Is (spreadBy clock.weight clock.values n low.now (set_at b.now n 0)) one.old one.new × Kept two.old two.new }
+    ensures { Is (spread_by clock.weight clock.values n low.now (set_at b.now n 0)) one.old one.new × Kept two.old two.new }
 {
     clear(one);
     or_range(one, 0, b, 0, low, 0, 64 * n);
@@ -126,7 +126,7 @@ fn spread_first(b: &[u64], n: usize, clock: Clock, low: &[u64], one: &mut [u64],
 // The same of a set that stands alone.
 fn spread_again(one: &mut [u64], two: &mut [u64], n: usize, clock: Clock, low: &[u64])
     requires { (length one.old ≡ n) × (length two.old ≡ n) × (0 < clock.values) }
-    ensures { Is (spreadBy clock.weight clock.values n low.now (mem one.old)) one.old one.new × Kept two.old two.new }
+    ensures { Is (spread_by clock.weight clock.values n low.now (mem one.old)) one.old one.new × Kept two.old two.new }
 {
     keep_common(one, low);
     spread_up(one, two, clock.weight, clock.values);
@@ -143,7 +143,7 @@ pub(crate) fn unreset_one(
     two: &mut [u64],
 )
     requires { Sized n b.old one.old two.old × (r < 4) × (0 < clock.values) }
-    ensures { Joined (up (64 * n * r) (below (64 * n) (spreadBy clock.weight clock.values n low.now (set_at b.old n 0)))) b.old b.new × Kept one.old one.new × Kept two.old two.new }
+    ensures { Joined (up (64 * n * r) (below (64 * n) (spread_by clock.weight clock.values n low.now (set_at b.old n 0)))) b.old b.new × Kept one.old one.new × Kept two.old two.new }
 {
     spread_first(b, n, clock, low, one, two);
     or_range(b, 64 * n * r, one, 0, one, 0, 64 * n);
@@ -161,7 +161,7 @@ pub(crate) fn unreset_both(
     two: &mut [u64],
 )
     requires { Sized n b.old one.old two.old × (0 < first.values) × (0 < second.values) }
-    ensures { Joined (up (64 * n * 3) (below (64 * n) (spreadBy first.weight first.values n low_first.now (spreadBy second.weight second.values n low_second.now (set_at b.old n 0))))) b.old b.new × Kept one.old one.new × Kept two.old two.new }
+    ensures { Joined (up (64 * n * 3) (below (64 * n) (spread_by first.weight first.values n low_first.now (spread_by second.weight second.values n low_second.now (set_at b.old n 0))))) b.old b.new × Kept one.old one.new × Kept two.old two.new }
 {
     spread_first(b, n, second, low_second, one, two);
     spread_again(one, two, n, first, low_first);

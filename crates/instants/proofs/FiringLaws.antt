@@ -6,11 +6,11 @@ use mathlib.Core.Option.{Option, none, some}
 use lib.ListN.{length, get_elem?}
 use Rattle.model.specs.Rule.{masks, allows}
 use Rattle.model.specs.Monitor.{Monitor, Transition}
-use Rattle.model.proofs.Basics.{getElem-within}
-use Rattle.words.specs.Words.{anyBelow}
+use Rattle.model.proofs.Basics.{get_elem_within}
+use Rattle.words.specs.Words.{any_below}
 use Rattle.instants.specs.Grid.{assignments}
-use Rattle.instants.specs.Firing.{fits, guessed, ofTransition, someFiring}
-use Rattle.instants.proofs.TestLaws.{both-are, both, any_some, some-any}
+use Rattle.instants.specs.Firing.{fits, guessed, of_transition, some_firing}
+use Rattle.instants.proofs.TestLaws.{both_are, both, any_some, some_any}
 
 -- one that passes
 pub record Found (m : Monitor) (recorded : Option ℕ) (f : Transition → (w v : ℕ) → Bool) : Type 0 where
@@ -25,26 +25,26 @@ pub record Found (m : Monitor) (recorded : Option ℕ) (f : Transition → (w v 
   pub variables-below : variables < assignments m
   pub passes : f transition window variables ≡ true
 
-of_some : (g : Transition → Bool) (o : Option Transition) → ofTransition g o ≡ true → (t : Transition) × (o ≡ some t) × (g t ≡ true)
+of_some : (g : Transition → Bool) (o : Option Transition) → of_transition g o ≡ true → (t : Transition) × (o ≡ some t) × (g t ≡ true)
 of_some g none e = absurd (false≢true e)
 of_some g (some t) e = (t, refl, e)
 
 module _ (m : Monitor) (recorded : Option ℕ) (f : Transition → (w v : ℕ) → Bool) where
   -- the test of one transition in one window, and of one window
-  abbrev ofVariables : (w : ℕ) → Transition → Bool
-  ofVariables w t = (fits recorded t && allows m.rule w (guessed m recorded t)) && anyBelow (λ v. f t w v) (assignments m)
+  abbrev of_variables : (w : ℕ) → Transition → Bool
+  of_variables w t = (fits recorded t && allows m.rule w (guessed m recorded t)) && any_below (λ v. f t w v) (assignments m)
 
-  abbrev ofWindow : ℕ → Bool
-  ofWindow w = anyBelow (λ j. ofTransition (ofVariables w) (get_elem? m.transitions j)) (length m.transitions)
+  abbrev of_window : ℕ → Bool
+  of_window w = any_below (λ j. of_transition (of_variables w) (get_elem? m.transitions j)) (length m.transitions)
 
-  pub firing-found : someFiring m recorded f ≡ true → Found m recorded f
-  unfolding someFiring
-  firing-found e =
-      let (w, below, p) = any_some ofWindow (masks m.rule) e in
-      let (j, few, q) = any_some (λ i. ofTransition (ofVariables w) (get_elem? m.transitions i)) (length m.transitions) p in
-      let (t, listed, g) = of_some (ofVariables w) (get_elem? m.transitions j) q in
-      let (h, any) = both-are (fits recorded t && allows m.rule w (guessed m recorded t)) (anyBelow (λ v. f t w v) (assignments m)) g in
-      let (fit, allowed) = both-are (fits recorded t) (allows m.rule w (guessed m recorded t)) h in
+  pub firing_found : some_firing m recorded f ≡ true → Found m recorded f
+  unfolding some_firing
+  firing_found e =
+      let (w, below, p) = any_some of_window (masks m.rule) e in
+      let (j, few, q) = any_some (λ i. of_transition (of_variables w) (get_elem? m.transitions i)) (length m.transitions) p in
+      let (t, listed, g) = of_some (of_variables w) (get_elem? m.transitions j) q in
+      let (h, any) = both_are (fits recorded t && allows m.rule w (guessed m recorded t)) (any_below (λ v. f t w v) (assignments m)) g in
+      let (fit, allowed) = both_are (fits recorded t) (allows m.rule w (guessed m recorded t)) h in
       let (v, small, passes) = any_some (λ v. f t w v) (assignments m) any in
       record {
         index = j;
@@ -59,11 +59,11 @@ module _ (m : Monitor) (recorded : Option ℕ) (f : Transition → (w v : ℕ) �
         passes = passes;
       }
 
-  pub found-firing : Found m recorded f → someFiring m recorded f ≡ true
-  unfolding someFiring
-  found-firing r =
-      some-any ofWindow (masks m.rule) r.window r.window-below
-      (some-any (λ i. ofTransition (ofVariables r.window) (get_elem? m.transitions i)) (length m.transitions) r.index
-      (getElem-within m.transitions r.index r.transition r.listed)
-      (ap (ofTransition (ofVariables r.window)) r.listed
-      ∙ both (both r.fit r.allowed) (some-any (λ v. f r.transition r.window v) (assignments m) r.variables r.variables-below r.passes)))
+  pub found_firing : Found m recorded f → some_firing m recorded f ≡ true
+  unfolding some_firing
+  found_firing r =
+      some_any of_window (masks m.rule) r.window r.window-below
+      (some_any (λ i. of_transition (of_variables r.window) (get_elem? m.transitions i)) (length m.transitions) r.index
+      (get_elem_within m.transitions r.index r.transition r.listed)
+      (ap (of_transition (of_variables r.window)) r.listed
+      ∙ both (both r.fit r.allowed) (some_any (λ v. f r.transition r.window v) (assignments m) r.variables r.variables-below r.passes)))

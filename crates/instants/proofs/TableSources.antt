@@ -5,32 +5,32 @@ use mathlib.Core.Path.{◌≡◌, sym, subst, ◌∙◌}
 use mathlib.Core.List.{List}
 use mathlib.Core.Option.{some}
 use lib.ListN.{length}
-use Rattle.model.specs.Limits.{transitionLimit}
+use Rattle.model.specs.Limits.{transition_limit}
 use Rattle.model.specs.Bytes.{byte_at, tab}
 use Rattle.model.specs.Monitor.{Transition}
-use Rattle.model.specs.Table.{transitionIn, monitorOf, transitionsAt, transitionAt, deviceColumn, table_parts, SoundTable, monitorAt}
-use Rattle.model.specs.Ruled.{monitorUnder, SoundUnder}
+use Rattle.model.specs.Table.{transition_in, monitor_of, transitions_at, transition_at, device_column, table_parts, SoundTable, monitor_at}
+use Rattle.model.specs.Ruled.{monitor_under, SoundUnder}
 use Rattle.model.specs.declared.Rule.{Rule}
-use Rattle.model.proofs.Basics.{length-tab, getElem-tab, getElem-within}
-use Rattle.model.proofs.Places.{getD-column}
-use Rattle.model.proofs.TableForm.{TableFacts, table-facts}
-use Rattle.model.proofs.RecordingForm.{sound-table}
-use Rattle.model.proofs.RuledForm.{recording-sound}
+use Rattle.model.proofs.Basics.{length-tab, get_elem_tab, get_elem_within}
+use Rattle.model.proofs.Places.{get_or_column}
+use Rattle.model.proofs.TableForm.{TableFacts, table_facts}
+use Rattle.model.proofs.RecordingForm.{sound_table}
+use Rattle.model.proofs.RuledForm.{recording_sound}
 use Rattle.instants.specs.Sourced.{Sourced}
 
-source-below : (b : List ℕ) → TableFacts (deviceColumn b) b → (j : ℕ) → j < transitionsAt b → (transitionIn (table_parts b) j).source < (monitorAt b).states
-unfolding transitionIn monitorOf table_parts
-source-below b facts j h = rw (getD-column transitionLimit (λ i. byte_at b (transitionAt b i + 0)) (transitionsAt b) j h, add-zero) (facts.transition j h).source
+source-below : (b : List ℕ) → TableFacts (device_column b) b → (j : ℕ) → j < transitions_at b → (transition_in (table_parts b) j).source < (monitor_at b).states
+unfolding transition_in monitor_of table_parts
+source-below b facts j h = rw (get_or_column transition_limit (λ i. byte_at b (transition_at b i + 0)) (transitions_at b) j h, add-zero) (facts.transition j h).source
 
-pub sourced-table : (b : List ℕ) → SoundTable b → Sourced (monitorAt b)
-unfolding monitorOf table_parts
-sourced-table b s j t e =
-    let n : length (tab (transitionIn (table_parts b)) (transitionsAt b)) ≡ transitionsAt b = length-tab (transitionIn (table_parts b)) (transitionsAt b) in
-    let h : j < transitionsAt b = rw n at (getElem-within (tab (transitionIn (table_parts b)) (transitionsAt b)) j t e) in
-    let f : some (transitionIn (table_parts b) j) ≡ some t = sym (getElem-tab (transitionIn (table_parts b)) (transitionsAt b) j h) ∙ e in
-    let same : transitionIn (table_parts b) j ≡ t = cc in
-    subst (λ (x : Transition). x.source < (monitorAt b).states) same (source-below b (table-facts b s) j h)
+pub sourced_table : (b : List ℕ) → SoundTable b → Sourced (monitor_at b)
+unfolding monitor_of table_parts
+sourced_table b s j t e =
+    let n : length (tab (transition_in (table_parts b)) (transitions_at b)) ≡ transitions_at b = length-tab (transition_in (table_parts b)) (transitions_at b) in
+    let h : j < transitions_at b = rw n at (get_elem_within (tab (transition_in (table_parts b)) (transitions_at b)) j t e) in
+    let f : some (transition_in (table_parts b) j) ≡ some t = sym (get_elem_tab (transition_in (table_parts b)) (transitions_at b) j h) ∙ e in
+    let same : transition_in (table_parts b) j ≡ t = cc in
+    subst (λ (x : Transition). x.source < (monitor_at b).states) same (source-below b (table_facts b s) j h)
 
 -- .. under any rule
-pub sourced-under : (rule : Rule) (table recording : List ℕ) → SoundUnder rule table recording → Sourced (monitorUnder rule table)
-sourced-under rule table recording sound = sourced-table table (sound-table table recording (recording-sound rule table recording sound))
+pub sourced-under : (rule : Rule) (table recording : List ℕ) → SoundUnder rule table recording → Sourced (monitor_under rule table)
+sourced-under rule table recording sound = sourced_table table (sound_table table recording (recording_sound rule table recording sound))

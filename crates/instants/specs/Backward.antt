@@ -1,35 +1,35 @@
 -- An instant backward: the situations' numbers from which some move and then one tick lead into a set.
 use Rattle.std.specs.Prelude.{ℕ, ◌+◌, ◌-◌, ◌*◌, ◌/◌, ◌%◌, Bool, cond, ◌&&◌, ◌||◌, ltb, eqb}
 use Rattle.std.proofs.Math.Option.{Option, none, some}
-use Rattle.model.specs.Monitor.{Monitor, Transition, toUnit, airtime}
+use Rattle.model.specs.Monitor.{Monitor, Transition, to_unit, airtime}
 use Rattle.words.specs.Words.{up, below}
 use Rattle.instants.specs.Digit.{raised, zeroed}
 use Rattle.instants.specs.Grid.{firsts, seconds, plane, free}
-use Rattle.instants.specs.Firing.{guessed, sourceAt, targetAt, holdsAt, someFiring}
+use Rattle.instants.specs.Firing.{guessed, source_at, target_at, holds_at, some_firing}
 
 -- the number once both clocks have ticked
 abbrev pub ticked : Monitor → ℕ → ℕ
 ticked m x = raised (firsts m) (seconds m) (raised 1 (firsts m) x)
 
 -- the number once clocks are reset
-abbrev pub firstReset : Monitor → (r x : ℕ) → ℕ
-firstReset m r x = cond (eqb (r % 2) 1) (zeroed 1 (firsts m) x) x
+abbrev pub first_reset : Monitor → (r x : ℕ) → ℕ
+first_reset m r x = cond (eqb (r % 2) 1) (zeroed 1 (firsts m) x) x
 
-abbrev pub secondReset : Monitor → (r x : ℕ) → ℕ
-secondReset m r x = cond (eqb (r / 2 % 2) 1) (zeroed (firsts m) (seconds m) x) x
+abbrev pub second_reset : Monitor → (r x : ℕ) → ℕ
+second_reset m r x = cond (eqb (r / 2 % 2) 1) (zeroed (firsts m) (seconds m) x) x
 
-abbrev pub resetBy : Monitor → (r x : ℕ) → ℕ
-resetBy m r x = secondReset m r (firstReset m r x)
+abbrev pub reset_by : Monitor → (r x : ℕ) → ℕ
+reset_by m r x = second_reset m r (first_reset m r x)
 
 -- nothing is sent, or a recorded row is removed
-unfoldable pub restsBack : Monitor → Option ℕ → (ℕ → Bool) → ℕ → Bool
-restsBack m none s x = s (cond (ltb x (free m)) x (x - free m))
-restsBack m (some k) s x = toUnit m k && (ltb x (free m) && s (x + free m * airtime m k))
+unfoldable pub rests_back : Monitor → Option ℕ → (ℕ → Bool) → ℕ → Bool
+rests_back m none s x = s (cond (ltb x (free m)) x (x - free m))
+rests_back m (some k) s x = to_unit m k && (ltb x (free m) && s (x + free m * airtime m k))
 
-unfoldable pub sendsBack : Monitor → Option ℕ → (ℕ → Bool) → ℕ → Bool
-sendsBack m recorded s x =
-    someFiring m recorded
-    (λ t w v. up (sourceAt m t w v) (below (plane m) (λ p. s (resetBy m (t.resets % 4) (targetAt m (guessed m recorded t) t w v + p)) && holdsAt m t v p)) x)
+unfoldable pub sends_back : Monitor → Option ℕ → (ℕ → Bool) → ℕ → Bool
+sends_back m recorded s x =
+    some_firing m recorded
+    (λ t w v. up (source_at m t w v) (below (plane m) (λ p. s (reset_by m (t.resets % 4) (target_at m (guessed m recorded t) t w v + p)) && holds_at m t v p)) x)
 
 unfoldable pub backward : Monitor → Option ℕ → (ℕ → Bool) → ℕ → Bool
-backward m recorded s x = restsBack m recorded (λ y. s (ticked m y)) x || sendsBack m recorded (λ y. s (ticked m y)) x
+backward m recorded s x = rests_back m recorded (λ y. s (ticked m y)) x || sends_back m recorded (λ y. s (ticked m y)) x

@@ -20,13 +20,13 @@ abbrev pub assignments : Monitor → ℕ
 assignments m = 2 ^ m.variables
 
 -- where the plane of variables v, a state and a window starts, with the air free
-unfoldable pub planeAt : Monitor → (v state window : ℕ) → ℕ
-planeAt m v state window = plane m * (v + assignments m * (state + m.states * window))
+unfoldable pub plane_at : Monitor → (v state window : ℕ) → ℕ
+plane_at m v state window = plane m * (v + assignments m * (state + m.states * window))
 
 -- how many situations have the air free; so many numbers further the air is taken for one tick more
 unfoldable pub free : Monitor → ℕ
 free m = plane m * (assignments m * (m.states * masks m.rule))
 
 -- the clocks at a place of a plane
-abbrev pub clocksAt : Monitor → ℕ → List ℕ
-clocksAt m p = p % firsts m ∷ p / firsts m ∷ []
+abbrev pub clocks_at : Monitor → ℕ → List ℕ
+clocks_at m p = p % firsts m ∷ p / firsts m ∷ []

@@ -1,12 +1,12 @@
 // The least move from a situation into a set. A set is a row of bits in the scratch.
 ghost use Rattle.std.specs.Prelude.{◌≡◌, List, ℕ, ◌-◌, ◌<◌};
 ghost use Rattle.std.proofs.Math.Option.{some};
-ghost use Rattle.model.specs.Situation.{moveLimit};
-ghost use Rattle.model.specs.Layers.{firstFrom};
-ghost use Rattle.situation.specs.Rows.{heardOf};
-ghost use Rattle.steps.specs.Stepping.{arrivalOf, arriveFrom, stepAt};
+ghost use Rattle.model.specs.Situation.{move_limit};
+ghost use Rattle.model.specs.Layers.{first_from};
+ghost use Rattle.situation.specs.Rows.{heard_of};
+ghost use Rattle.steps.specs.Stepping.{arrival_of, arrive_from, step_at};
 ghost use Rattle.situation.specs.declared.Shape.{Shape};
-ghost use Rattle.layers.specs.Into.{Enough, arrivalIn, in_row, leadsTo, leastInto};
+ghost use Rattle.layers.specs.Into.{Enough, arrival_in, in_row, leads_to, least_into};
 
 use model::{FIRST_ADD, MOVE_LIMIT, REST, Situation};
 use monitor::transitions;
@@ -39,7 +39,7 @@ struct Tries {
 
 // No move leads anywhere but these: a taken air leaves only REST, nothing is kept where no row is recorded, and nothing is added where one is.
 fn worth(table: &[u8], heard: Heard, s: Situation) -> Tries
-    ensures { (o : List ℕ) (h : Shape) → Enough (arriveFrom table.now o h (heardOf heard) s) result.kept result.end }
+    ensures { (o : List ℕ) (h : Shape) → Enough (arrive_from table.now o h (heard_of heard) s) result.kept result.end }
 {
     if 0 < s.air {
         return Tries {
@@ -71,7 +71,7 @@ fn leads<'a>(
     scratch: &'a [u8],
     to: Span,
 ) -> Arrival
-    ensures { arrivalOf result ≡ arrivalIn (in_row scratch.now to.start to.size) (arriveFrom table.now offsets.now h (heardOf heard) s k) }
+    ensures { arrival_of result ≡ arrival_in (in_row scratch.now to.start to.size) (arrive_from table.now offsets.now h (heard_of heard) s k) }
 {
     match arrive(table, offsets, h, heard, s, k) {
         Arrival::Nowhere => Arrival::Nowhere,
@@ -99,7 +99,7 @@ fn first_of<'a>(
     scratch: &'a [u8],
     to: Span,
 ) -> Least
-    ensures { (result.k ≡ firstFrom (leadsTo (arriveFrom table.now offsets.now h (heardOf heard) s) scratch.now to.start to.size) (moves.hi - moves.lo) moves.lo) × (result.k < moves.hi → arriveFrom table.now offsets.now h (heardOf heard) s result.k ≡ some result.to) }
+    ensures { (result.k ≡ first_from (leads_to (arrive_from table.now offsets.now h (heard_of heard) s) scratch.now to.start to.size) (moves.hi - moves.lo) moves.lo) × (result.k < moves.hi → arrive_from table.now offsets.now h (heard_of heard) s result.k ≡ some result.to) }
 {
     let mut k = moves.lo;
     while k < moves.hi {
@@ -121,7 +121,7 @@ pub fn least_into<'a>(
     to: Span,
     n: u64,
 ) -> Least
-    ensures { (result.k ≡ leastInto (stepAt table.now offsets.now h (heardOf heard)) scratch.now to.start to.size n) × (result.k < moveLimit → stepAt table.now offsets.now h (heardOf heard) n result.k ≡ some result.to) }
+    ensures { (result.k ≡ least_into (step_at table.now offsets.now h (heard_of heard)) scratch.now to.start to.size n) × (result.k < move_limit → step_at table.now offsets.now h (heard_of heard) n result.k ≡ some result.to) }
 {
     let s = situation_of(h, n);
     let tries = worth(table, heard, s);

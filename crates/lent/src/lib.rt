@@ -2,7 +2,7 @@
 ghost use Rattle.std.specs.Prelude.{◌≡◌, leb};
 ghost use Rattle.model.specs.First.{unless};
 ghost use Rattle.model.specs.declared.Refusal.TheVariants.{Scratch};
-ghost use Rattle.lent.specs.Lent.{roomLent, lentAnswer};
+ghost use Rattle.lent.specs.Lent.{room_lent, lent_answer};
 
 use editions::latest_time;
 use frame::sound;
@@ -28,7 +28,7 @@ fn scratch_answer(scratch: Loan) -> Reading
 
 // An edition whose times end before the handover does is not written, however large the room.
 fn room_answer(edition: Edition, last: usize, room: Loan) -> Reading
-    ensures { result ≡ roomLent edition last room.wanted room.length }
+    ensures { result ≡ room_lent edition last room.wanted room.length }
 {
     if (latest_time(edition) as usize) < last {
         return Reading::Unsound(Refusal::WitnessRoom { wanted: 0 });
@@ -43,7 +43,7 @@ fn room_answer(edition: Edition, last: usize, room: Loan) -> Reading
 
 // 30, then 31.
 pub fn lent_answer(edition: Edition, last: usize, scratch: Loan, room: Loan) -> Reading
-    ensures { result ≡ lentAnswer edition last scratch.wanted room.wanted scratch.length room.length }
+    ensures { result ≡ lent_answer edition last scratch.wanted room.wanted scratch.length room.length }
 {
     let first = scratch_answer(scratch);
     let second = room_answer(edition, last, room);

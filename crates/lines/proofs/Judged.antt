@@ -6,17 +6,17 @@ use mathlib.Core.List.{List, [], ◌∷◌, ◌++◌, Memᴰ}
 use mathlib.Core.Option.{none, some}
 use lib.ListN.{length, take, drop, get_elem?, get_or-append, length-append}
 use borrow.Author.Tests.{lt-ltb, le-ltb, le-leb, lt-leb}
-use Rattle.model.specs.Edition.{mostRows, latestTime}
+use Rattle.model.specs.Edition.{most_rows, latest_time}
 use Rattle.model.specs.Bytes.{tab}
-use Rattle.model.specs.Numbers.{refusalValues}
+use Rattle.model.specs.Numbers.{refusal_values}
 use Rattle.model.specs.Room.{over}
-use Rattle.model.specs.Table.{monitorAt}
-use Rattle.model.specs.Recording.{packetsAt, recordingAnswer, SoundRecording, end_of}
-use Rattle.model.specs.Witness.{Row, rowAt, rows_at, witnessCountAt, witnessBytes}
+use Rattle.model.specs.Table.{monitor_at}
+use Rattle.model.specs.Recording.{packets_at, recording_answer, SoundRecording, end_of}
+use Rattle.model.specs.Witness.{Row, row_at, rows_at, witness_count_at, witness_bytes}
 use Rattle.model.specs.Order.{Preferred}
 use Rattle.model.specs.Claims.{Judged}
-use Rattle.model.specs.Validation.{preferred, verdict, validationOf, refusal, validation, roomBy, room_left, scratchAfter, roomAfter}
-use Rattle.model.specs.Desk.{filesIn, tableLength, tableIn, recordingIn, budgetIn, line, acceptedWord, exhaustedWord, refusedWord, row_lines, verdictLines, judgedLines, linesFor, scratchFor, room_for}
+use Rattle.model.specs.Validation.{preferred, verdict, validation_of, refusal, validation, room_by, room_left, scratch_after, room_after}
+use Rattle.model.specs.Desk.{files_in, table_length, table_in, recording_in, budget_in, line, accepted_word, exhausted_word, refused_word, row_lines, verdict_lines, judged_lines, lines_for, scratch_for, room_for}
 use Rattle.model.specs.declared.Edition.TheVariants.{One}
 use Rattle.model.specs.declared.Reading.{Reading}
 use Rattle.model.specs.declared.Reading.TheVariants.{Sound, Unsound}
@@ -24,22 +24,22 @@ use Rattle.model.specs.declared.Verdict.{Verdict}
 use Rattle.model.specs.declared.Verdict.TheVariants.{Accepted, Rejected, Exhausted, Refused}
 use Rattle.model.proofs.Basics.{length-tab}
 use Rattle.model.proofs.Places.{tab-same}
-use Rattle.model.proofs.WitnessForm.{witness-back, witness-length}
+use Rattle.model.proofs.WitnessForm.{witness_back_lem, witness_length}
 use Rattle.model.proofs.Judgement.{sound-judged}
 use Rattle.model.proofs.LongRecordings.{unrefused}
-use Rattle.text.specs.Put.{Wrote, rowsStanding}
-use Rattle.text.proofs.Stores.{wrote-front}
+use Rattle.text.specs.Put.{Wrote, rows_standing}
+use Rattle.text.proofs.Stores.{wrote_front}
 use Rattle.text.proofs.Digits.{line-length, rejected-length}
 use Rattle.text.proofs.Rows.{rows-length}
 use Rattle.lines.specs.Written.{FilesJudged, Lines}
 
 -- rows that a witness can hold
 pub record Fitting (rows : List Row) : Type 0 where
-  pub few : length rows ≤ mostRows One
+  pub few : length rows ≤ most_rows One
   pub times : (i : ℕ) (r : Row) → get_elem? rows i ≡ some r → r.time < 65536
 
-row_before : (b rest : List ℕ) (i : ℕ) → 9 + 5 * i < length b → rowAt One (b ++ rest) i ≡ rowAt One b i
-unfolding rowAt
+row_before : (b rest : List ℕ) (i : ℕ) → 9 + 5 * i < length b → row_at One (b ++ rest) i ≡ row_at One b i
+unfolding row_at
 row_before b rest i h j =
     record {
       mark = get_or-append b rest 0 (5 + 5 * i) (omega arith) j;
@@ -49,46 +49,46 @@ row_before b rest i h j =
     }
 
 -- rows written over a room and read back
-pub rows_back : (rows : List Row) (room : List ℕ) → Fitting rows → tab (rowAt One (over (witnessBytes One rows) room)) (length rows) ≡ rows
+pub rows_back : (rows : List Row) (room : List ℕ) → Fitting rows → tab (row_at One (over (witness_bytes One rows) room)) (length rows) ≡ rows
 rows_back rows room fit =
-    let b : List ℕ = witnessBytes One rows in
-    let back : rows_at One b ≡ rows = witness-back One rows fit.few fit.times in
-    let n : witnessCountAt One b ≡ length rows = sym (length-tab (rowAt One b) (witnessCountAt One b)) ∙ ap length back in
-    tab-same (rowAt One (over b room)) (rowAt One b) (length rows) (λ i h. row_before b (drop (length b) room) i (omega (arith, witness-length One rows)))
-    ∙ ap (tab (rowAt One b)) (sym n)
+    let b : List ℕ = witness_bytes One rows in
+    let back : rows_at One b ≡ rows = witness_back_lem One rows fit.few fit.times in
+    let n : witness_count_at One b ≡ length rows = sym (length-tab (row_at One b) (witness_count_at One b)) ∙ ap length back in
+    tab-same (row_at One (over b room)) (row_at One b) (length rows) (λ i h. row_before b (drop (length b) room) i (omega (arith, witness_length One rows)))
+    ∙ ap (tab (row_at One b)) (sym n)
     ∙ back
 
 -- what the lines of a verdict need of its witness
 abbrev pub Holds : Verdict → List Row → Type 0
 Holds (Accepted cost n) rows = (n ≡ length rows) × Fitting rows
-Holds (Rejected cost instant notYet no_more) rows = Unit {0}
+Holds (Rejected cost instant not_yet no_more) rows = Unit {0}
 Holds (Exhausted budget instant) rows = Unit {0}
 Holds (Refused r) rows = Unit {0}
 
-pub lines-back : (v : Verdict) (rows : List Row) (room : List ℕ) → Holds v rows
-    → verdictLines v (rowsStanding v (roomBy v (witnessBytes One rows) room)) ≡ verdictLines v rows
-unfolding verdictLines
-lines-back (Accepted cost n) rows room (e, fit) =
-    let few : n ≤ mostRows One = omega (arith, fit.few) in
-    rw (le-leb _ _ few) (ap (verdictLines (Accepted cost n)) (ap (tab (rowAt One (over (witnessBytes One rows) room))) e ∙ rows_back rows room fit))
-lines-back (Rejected cost instant notYet no_more) rows room h = refl
-lines-back (Exhausted budget instant) rows room h = refl
-lines-back (Refused r) rows room h = refl
+pub lines_back : (v : Verdict) (rows : List Row) (room : List ℕ) → Holds v rows
+    → verdict_lines v (rows_standing v (room_by v (witness_bytes One rows) room)) ≡ verdict_lines v rows
+unfolding verdict_lines
+lines_back (Accepted cost n) rows room (e, fit) =
+    let few : n ≤ most_rows One = omega (arith, fit.few) in
+    rw (le-leb _ _ few) (ap (verdict_lines (Accepted cost n)) (ap (tab (row_at One (over (witness_bytes One rows) room))) e ∙ rows_back rows room fit))
+lines_back (Rejected cost instant not_yet no_more) rows room h = refl
+lines_back (Exhausted budget instant) rows room h = refl
+lines_back (Refused r) rows room h = refl
 
 -- the lines of a verdict fit the program's text
-lines_fit : (v : Verdict) (rows : List Row) → Holds v rows → length (verdictLines v rows) ≤ 400000
-unfolding verdictLines
+lines_fit : (v : Verdict) (rows : List Row) → Holds v rows → length (verdict_lines v rows) ≤ 400000
+unfolding verdict_lines
 lines_fit (Accepted cost n) rows (e, fit) =
     omega (
       arith,
-      length-append (line acceptedWord cost n) (row_lines rows),
-      line-length acceptedWord cost n,
+      length-append (line accepted_word cost n) (row_lines rows),
+      line-length accepted_word cost n,
       rows-length rows,
       fit.few,
     )
-lines_fit (Rejected cost instant notYet no_more) rows h = omega (arith, rejected-length cost instant notYet no_more)
-lines_fit (Exhausted budget instant) rows h = omega (arith, line-length exhaustedWord budget instant)
-lines_fit (Refused r) rows h = omega (arith, line-length refusedWord (refusalValues r).number (refusalValues r).second)
+lines_fit (Rejected cost instant not_yet no_more) rows h = omega (arith, rejected-length cost instant not_yet no_more)
+lines_fit (Exhausted budget instant) rows h = omega (arith, line-length exhausted_word budget instant)
+lines_fit (Refused r) rows h = omega (arith, line-length refused_word (refusal_values r).number (refusal_values r).second)
 
 -- the preferred witness fits
 member : (rows : List Row) (i : ℕ) (r : Row) → get_elem? rows i ≡ some r → Memᴰ r rows
@@ -99,114 +99,114 @@ member [] i r e = absurd (no-some e)
 member (x ∷ rows) zero r e = let h : r ≡ x = cc in Memᴰ.head h
 member (x ∷ rows) (suc i) r e = Memᴰ.tail (member rows i r e)
 
-module _ (table recording : List ℕ) (sound : SoundRecording table recording) (early : end_of (packetsAt recording) ≤ latestTime One) (budget : ℕ) where
+module _ (table recording : List ℕ) (sound : SoundRecording table recording) (early : end_of (packets_at recording) ≤ latest_time One) (budget : ℕ) where
   abbrev rows : List Row
-  rows = preferred (monitorAt table) (packetsAt recording)
+  rows = preferred (monitor_at table) (packets_at recording)
 
-  fitting : Preferred One (monitorAt table) (packetsAt recording) rows → Fitting rows
+  fitting : Preferred One (monitor_at table) (packets_at recording) rows → Fitting rows
   fitting p =
       record {
         few = p.permitted.fits;
         times = λ i r e. let h = p.ends r (member rows i r e) in omega arith;
       }
 
-  by-verdict : (v : Verdict) → Judged One (monitorAt table) (packetsAt recording) budget v → Holds v rows
-  by-verdict (Accepted cost n) j = (j.valued.1, fitting (j.witnessed tt))
-  by-verdict (Rejected cost instant notYet no_more) j = tt
-  by-verdict (Exhausted limit instant) j = tt
-  by-verdict (Refused r) j = tt
+  by_verdict : (v : Verdict) → Judged One (monitor_at table) (packets_at recording) budget v → Holds v rows
+  by_verdict (Accepted cost n) j = (j.valued.1, fitting (j.witnessed tt))
+  by_verdict (Rejected cost instant not_yet no_more) j = tt
+  by_verdict (Exhausted limit instant) j = tt
+  by_verdict (Refused r) j = tt
 
-  verdict-holds : Holds (verdict (monitorAt table) (packetsAt recording) budget) rows
-  verdict-holds = by-verdict (verdict (monitorAt table) (packetsAt recording) budget) (sound-judged One table recording sound early budget)
+  verdict-holds : Holds (verdict (monitor_at table) (packets_at recording) budget) rows
+  verdict-holds = by_verdict (verdict (monitor_at table) (packets_at recording) budget) (sound-judged One table recording sound early budget)
 
-pub validation-holds : (table recording : List ℕ) (budget scratchLength roomLength : ℕ)
-    → Holds (validation One table recording budget scratchLength roomLength) (preferred (monitorAt table) (packetsAt recording))
-unfolding validationOf
-validation-holds table recording budget scratchLength roomLength = by (refusal One table recording scratchLength roomLength) refl
+pub validation-holds : (table recording : List ℕ) (budget scratch_length room_length : ℕ)
+    → Holds (validation One table recording budget scratch_length room_length) (preferred (monitor_at table) (packets_at recording))
+unfolding validation_of
+validation-holds table recording budget scratch_length room_length = by (refusal One table recording scratch_length room_length) refl
   where
-    by : (x : Reading) → refusal One table recording scratchLength roomLength ≡ x
-        → Holds (elim x [ Sound ↦ verdict (monitorAt table) (packetsAt recording) budget | Unsound r ↦ Refused r ]) (preferred (monitorAt table) (packetsAt recording))
+    by : (x : Reading) → refusal One table recording scratch_length room_length ≡ x
+        → Holds (elim x [ Sound ↦ verdict (monitor_at table) (packets_at recording) budget | Unsound r ↦ Refused r ]) (preferred (monitor_at table) (packets_at recording))
     by Sound e =
-        let (sound, early) = unrefused (recordingAnswer table recording) One (monitorAt table) (packetsAt recording) scratchLength roomLength e in
+        let (sound, early) = unrefused (recording_answer table recording) One (monitor_at table) (packets_at recording) scratch_length room_length e in
         verdict-holds table recording sound early budget
     by (Unsound r) e = tt
 
 -- the lines of a validation, with its rows read back from the room that it left
 pub judged-back : (table recording : List ℕ) (budget : ℕ) (scratch room : List ℕ) →
     let v : Verdict = validation One table recording budget (length scratch) (length room) in
-    verdictLines v (rowsStanding v (roomAfter One table recording budget scratch room)) ≡ judgedLines (length scratch) (length room) table recording budget
-unfolding judgedLines room_left
+    verdict_lines v (rows_standing v (room_after One table recording budget scratch room)) ≡ judged_lines (length scratch) (length room) table recording budget
+unfolding judged_lines room_left
 judged-back table recording budget scratch room =
-    lines-back (validation One table recording budget (length scratch) (length room)) (preferred (monitorAt table) (packetsAt recording)) room
+    lines_back (validation One table recording budget (length scratch) (length room)) (preferred (monitor_at table) (packets_at recording)) room
     (validation-holds table recording budget (length scratch) (length room))
 
-judged-fit : (scratchLength roomLength : ℕ) (table recording : List ℕ) (budget : ℕ) → length (judgedLines scratchLength roomLength table recording budget) ≤ 400000
-unfolding judgedLines
-judged-fit scratchLength roomLength table recording budget =
-    lines_fit (validation One table recording budget scratchLength roomLength) (preferred (monitorAt table) (packetsAt recording))
-    (validation-holds table recording budget scratchLength roomLength)
+judged_fit : (scratch_length room_length : ℕ) (table recording : List ℕ) (budget : ℕ) → length (judged_lines scratch_length room_length table recording budget) ≤ 400000
+unfolding judged_lines
+judged_fit scratch_length room_length table recording budget =
+    lines_fit (validation One table recording budget scratch_length room_length) (preferred (monitor_at table) (packets_at recording))
+    (validation-holds table recording budget scratch_length room_length)
 
 module _ (files table recording : List ℕ) (budget : ℕ) (scratch room : List ℕ) where
   -- a validation of the files' two parts, and its verdict written
-  pub judging : {text scratchLeft room_left textLeft : List ℕ} {v : Verdict} {next : ℕ} →
-      table ≡ take (tableLength files) files → recording ≡ drop (tableLength files) files →
+  pub judging : {text scratch_left room_left text_left : List ℕ} {v : Verdict} {next : ℕ} →
+      table ≡ take (table_length files) files → recording ≡ drop (table_length files) files →
       v ≡ validation One table recording budget (length scratch) (length room) →
-      scratchLeft ≡ scratchAfter One table recording budget scratch room → room_left ≡ roomAfter One table recording budget scratch room →
-      Wrote (verdictLines v (rowsStanding v room_left)) 0 text textLeft next →
-      FilesJudged files budget scratch room text scratchLeft room_left textLeft next
-  judging {text} {scratchLeft} {room_left} {textLeft} {v} {next} t r e s l w =
-      let same : (A : List ℕ → List ℕ → Type 0) → A table recording → A (take (tableLength files) files) (drop (tableLength files) files) =
-      λ A x. subst (λ (q : List ℕ). A (take (tableLength files) files) q) r (subst (λ (q : List ℕ). A q recording) t x)
+      scratch_left ≡ scratch_after One table recording budget scratch room → room_left ≡ room_after One table recording budget scratch room →
+      Wrote (verdict_lines v (rows_standing v room_left)) 0 text text_left next →
+      FilesJudged files budget scratch room text scratch_left room_left text_left next
+  judging {text} {scratch_left} {room_left} {text_left} {v} {next} t r e s l w =
+      let same : (A : List ℕ → List ℕ → Type 0) → A table recording → A (take (table_length files) files) (drop (table_length files) files) =
+      λ A x. subst (λ (q : List ℕ). A (take (table_length files) files) q) r (subst (λ (q : List ℕ). A q recording) t x)
       in
       record {
         wrote =
-            same (λ q p. Wrote (judgedLines (length scratch) (length room) q p budget) 0 text textLeft next)
-            (subst (λ (bytes : List ℕ). Wrote bytes 0 text textLeft next)
-            (ap (λ (x : Verdict). verdictLines x (rowsStanding x room_left)) e
-            ∙ ap (λ (x : List ℕ). verdictLines (validation One table recording budget (length scratch) (length room)) (rowsStanding (validation One table recording budget (length scratch) (length room)) x)) l
+            same (λ q p. Wrote (judged_lines (length scratch) (length room) q p budget) 0 text text_left next)
+            (subst (λ (bytes : List ℕ). Wrote bytes 0 text text_left next)
+            (ap (λ (x : Verdict). verdict_lines x (rows_standing x room_left)) e
+            ∙ ap (λ (x : List ℕ). verdict_lines (validation One table recording budget (length scratch) (length room)) (rows_standing (validation One table recording budget (length scratch) (length room)) x)) l
             ∙ judged-back table recording budget scratch room)
             w);
-        scratch_after = same (λ q p. scratchLeft ≡ scratchAfter One q p budget scratch room) s;
-        room_after = same (λ q p. room_left ≡ roomAfter One q p budget scratch room) l;
+        scratch_after = same (λ q p. scratch_left ≡ scratch_after One q p budget scratch room) s;
+        room_after = same (λ q p. room_left ≡ room_after One q p budget scratch room) l;
       }
 
 -- the three ways of an input
-module _ (input scratch room : List ℕ) {text textLeft : List ℕ} {n : ℕ} where
-  pub lines-short : length input < 4 → Wrote (line refusedWord 5 0) 0 text textLeft n → Lines input scratch room text scratch room textLeft n
-  unfolding linesFor scratchFor room_for
-  lines-short h w =
+module _ (input scratch room : List ℕ) {text text_left : List ℕ} {n : ℕ} where
+  pub lines_short : length input < 4 → Wrote (line refused_word 5 0) 0 text text_left n → Lines input scratch room text scratch room text_left n
+  unfolding lines_for scratch_for room_for
+  lines_short h w =
       record {
-        count = rw (lt-ltb _ _ h, linesFor) (wrote-front w).0;
-        short = omega (arith, (wrote-front w).0, line-length refusedWord 5 0);
-        text-after = rw (lt-ltb _ _ h, linesFor) (wrote-front w).1;
+        count = rw (lt-ltb _ _ h, lines_for) (wrote_front w).0;
+        short = omega (arith, (wrote_front w).0, line-length refused_word 5 0);
+        text-after = rw (lt-ltb _ _ h, lines_for) (wrote_front w).1;
         scratch_after = rw (lt-leb _ _ h);
         room_after = rw (lt-leb _ _ h);
       }
 
-  pub lines_long : 8192 < length input → Wrote (line refusedWord 6 0) 0 text textLeft n → Lines input scratch room text scratch room textLeft n
-  unfolding linesFor scratchFor room_for
+  pub lines_long : 8192 < length input → Wrote (line refused_word 6 0) 0 text text_left n → Lines input scratch room text scratch room text_left n
+  unfolding lines_for scratch_for room_for
   lines_long h w =
       let four : 4 ≤ length input = omega arith in
       record {
-        count = rw (le-ltb _ _ four, lt-ltb _ _ h, linesFor) (wrote-front w).0;
-        short = omega (arith, (wrote-front w).0, line-length refusedWord 6 0);
-        text-after = rw (le-ltb _ _ four, lt-ltb _ _ h, linesFor) (wrote-front w).1;
+        count = rw (le-ltb _ _ four, lt-ltb _ _ h, lines_for) (wrote_front w).0;
+        short = omega (arith, (wrote_front w).0, line-length refused_word 6 0);
+        text-after = rw (le-ltb _ _ four, lt-ltb _ _ h, lines_for) (wrote_front w).1;
         scratch_after = rw (le-leb _ _ four, lt-leb _ _ h);
         room_after = rw (le-leb _ _ four, lt-leb _ _ h);
       }
 
-  pub lines-judged : {files scratchLeft room_left : List ℕ} {budget : ℕ} → 4 ≤ length input → length input ≤ 8192 → files ≡ filesIn input → budget ≡ budgetIn input →
-      FilesJudged files budget scratch room text scratchLeft room_left textLeft n → Lines input scratch room text scratchLeft room_left textLeft n
-  unfolding linesFor scratchFor room_for
-  lines-judged {files} {scratchLeft} {room_left} {budget} four most f b judged =
-      let j : FilesJudged (filesIn input) (budgetIn input) scratch room text scratchLeft room_left textLeft n =
-      subst (λ (l : List ℕ). FilesJudged l (budgetIn input) scratch room text scratchLeft room_left textLeft n) f
-      (subst (λ (k : ℕ). FilesJudged files k scratch room text scratchLeft room_left textLeft n) b judged)
+  pub lines_judged : {files scratch_left room_left : List ℕ} {budget : ℕ} → 4 ≤ length input → length input ≤ 8192 → files ≡ files_in input → budget ≡ budget_in input →
+      FilesJudged files budget scratch room text scratch_left room_left text_left n → Lines input scratch room text scratch_left room_left text_left n
+  unfolding lines_for scratch_for room_for
+  lines_judged {files} {scratch_left} {room_left} {budget} four most f b judged =
+      let j : FilesJudged (files_in input) (budget_in input) scratch room text scratch_left room_left text_left n =
+      subst (λ (l : List ℕ). FilesJudged l (budget_in input) scratch room text scratch_left room_left text_left n) f
+      (subst (λ (k : ℕ). FilesJudged files k scratch room text scratch_left room_left text_left n) b judged)
       in
       record {
-        count = rw (le-ltb _ _ four, le-ltb _ _ most, linesFor) (wrote-front j.wrote).0;
-        short = omega (arith, (wrote-front j.wrote).0, judged-fit (length scratch) (length room) (tableIn input) (recordingIn input) (budgetIn input));
-        text-after = rw (le-ltb _ _ four, le-ltb _ _ most, linesFor) (wrote-front j.wrote).1;
+        count = rw (le-ltb _ _ four, le-ltb _ _ most, lines_for) (wrote_front j.wrote).0;
+        short = omega (arith, (wrote_front j.wrote).0, judged_fit (length scratch) (length room) (table_in input) (recording_in input) (budget_in input));
+        text-after = rw (le-ltb _ _ four, le-ltb _ _ most, lines_for) (wrote_front j.wrote).1;
         scratch_after = rw (le-leb _ _ four, le-leb _ _ most) j.scratch_after;
         room_after = rw (le-leb _ _ four, le-leb _ _ most) j.room_after;
       }

@@ -1,6 +1,6 @@
 // The program's work on slices: its input is split and judged, and the lines of the verdict are written into a lent text.
 ghost use Rattle.std.specs.Prelude.{◌≡◌, ◌≤◌, length};
-ghost use Rattle.model.specs.Desk.{budgetIn, tableLength};
+ghost use Rattle.model.specs.Desk.{budget_in, table_length};
 ghost use Rattle.lines.specs.Written.{FilesJudged, Lines};
 
 use model::Edition;
@@ -8,7 +8,7 @@ use text::{refused_line, verdict_lines};
 
 // The table is what its length states, or all if that runs past the end or no two length bytes are there.
 fn table_length(files: &[u8]) -> usize
-    ensures { (result ≡ tableLength files.now) × (result ≤ length files.now) }
+    ensures { (result ≡ table_length files.now) × (result ≤ length files.now) }
 {
     let all = files.len();
     if all < 2 {
@@ -20,7 +20,7 @@ fn table_length(files: &[u8]) -> usize
 
 fn budget(input: &[u8]) -> u32
     requires { 4 ≤ length input.now }
-    ensures { result ≡ budgetIn input.now }
+    ensures { result ≡ budget_in input.now }
 {
     wire::long(input, input.len() - 4)
 }

@@ -2,7 +2,7 @@
 use Prim.Native.Nat.{ℕ}
 use mathlib.Core.Path.{◌≡◌, subst, ◌∙◌}
 use mathlib.Core.List.{List}
-use Rattle.model.specs.Numbers.{verdictValues, verdictCounts, ruledValues, ruledCounts, checkingValues, writingValues}
+use Rattle.model.specs.Numbers.{verdict_values, verdict_counts, ruled_values, ruled_counts, checking_values, writing_values}
 use Rattle.model.specs.Room.{Lent}
 use Rattle.model.specs.declared.Rule.{Rule}
 use Rattle.model.specs.declared.RuledVerdict.{RuledVerdict}
@@ -11,7 +11,7 @@ use Rattle.model.specs.declared.Checking.{Checking}
 use Rattle.model.specs.declared.Reading.{Reading}
 use Rattle.model.specs.declared.Verdict.{Verdict}
 use Rattle.model.specs.declared.Writing.{Writing}
-use Rattle.numbers.specs.Told.{told, verdictTold, countsTold}
+use Rattle.numbers.specs.Told.{told, verdict_told, counts_told}
 use Rattle.numbers.specs.declared.Answer.{Answer}
 use Rattle.numbers.specs.declared.VerdictAnswer.{VerdictAnswer}
 use Rattle.engine.specs.Validates.{Validates, ValidatesUnder}
@@ -19,39 +19,39 @@ use Rattle.checker.specs.Claim.{Checks, ChecksUnder}
 use Rattle.rewrite.specs.Rewriting.{Rewrites}
 use Rattle.lutarosa.specs.Face.{Validated, Checked, Rewritten, ValidatedUnder, CheckedUnder}
 
-pub validated : {edition : Edition} {table recording : List ℕ} {budget : ℕ} {scratch room scratchThen roomThen : List ℕ} {v : Verdict} {a : VerdictAnswer} →
-    Validates edition table recording budget scratch room scratchThen roomThen v → (verdictTold a ≡ verdictValues v) × (countsTold a ≡ verdictCounts v) →
-    Validated edition table recording budget scratch room scratchThen roomThen a
-validated {edition} {table} {recording} {budget} {scratch} {room} {scratchThen} {roomThen} p e =
+pub validated : {edition : Edition} {table recording : List ℕ} {budget : ℕ} {scratch room scratch_then room_then : List ℕ} {v : Verdict} {a : VerdictAnswer} →
+    Validates edition table recording budget scratch room scratch_then room_then v → (verdict_told a ≡ verdict_values v) × (counts_told a ≡ verdict_counts v) →
+    Validated edition table recording budget scratch room scratch_then room_then a
+validated {edition} {table} {recording} {budget} {scratch} {room} {scratch_then} {room_then} p e =
     record {
       answered = e.0 ∙ p.numbers;
       counted = e.1 ∙ p.counts;
-      promised = subst (Validates edition table recording budget scratch room scratchThen roomThen) p.answered p;
+      promised = subst (Validates edition table recording budget scratch room scratch_then room_then) p.answered p;
     }
 
-pub checked : {edition : Edition} {table recording witness : List ℕ} {r : Checking} {a : Answer} → Checks edition table recording witness r → told a ≡ checkingValues r →
+pub checked : {edition : Edition} {table recording witness : List ℕ} {r : Checking} {a : Answer} → Checks edition table recording witness r → told a ≡ checking_values r →
     Checked edition table recording witness a
 checked {edition} {table} {recording} {witness} p e =
     record { answered = e ∙ p.numbers; promised = subst (Checks edition table recording witness) p.answered p }
 
-pub validated-under : {rule given : Rule} {edition : Edition} {table recording : List ℕ} {budget : ℕ} {scratch room scratchThen roomThen : List ℕ} {v : RuledVerdict} {a : VerdictAnswer} →
-    rule ≡ given → ValidatesUnder rule edition table recording budget scratch room scratchThen roomThen v → (verdictTold a ≡ ruledValues v) × (countsTold a ≡ ruledCounts v) →
-    ValidatedUnder given edition table recording budget scratch room scratchThen roomThen a
-validated-under {rule} {given} {edition} {table} {recording} {budget} {scratch} {room} {scratchThen} {roomThen} {v} {a} same p e =
-    subst (λ (r : Rule). ValidatedUnder r edition table recording budget scratch room scratchThen roomThen a) same
+pub validated_under : {rule given : Rule} {edition : Edition} {table recording : List ℕ} {budget : ℕ} {scratch room scratch_then room_then : List ℕ} {v : RuledVerdict} {a : VerdictAnswer} →
+    rule ≡ given → ValidatesUnder rule edition table recording budget scratch room scratch_then room_then v → (verdict_told a ≡ ruled_values v) × (counts_told a ≡ ruled_counts v) →
+    ValidatedUnder given edition table recording budget scratch room scratch_then room_then a
+validated_under {rule} {given} {edition} {table} {recording} {budget} {scratch} {room} {scratch_then} {room_then} {v} {a} same p e =
+    subst (λ (r : Rule). ValidatedUnder r edition table recording budget scratch room scratch_then room_then a) same
     (record {
       answered = e.0 ∙ p.numbers;
       counted = e.1 ∙ p.counts;
-      promised = subst (ValidatesUnder rule edition table recording budget scratch room scratchThen roomThen) p.answered p;
+      promised = subst (ValidatesUnder rule edition table recording budget scratch room scratch_then room_then) p.answered p;
     })
 
 pub checked_under : {rule given : Rule} {edition : Edition} {table recording witness : List ℕ} {r : Checking} {a : Answer} →
-    rule ≡ given → ChecksUnder rule edition table recording witness r → told a ≡ checkingValues r → CheckedUnder given edition table recording witness a
+    rule ≡ given → ChecksUnder rule edition table recording witness r → told a ≡ checking_values r → CheckedUnder given edition table recording witness a
 checked_under {rule} {given} {edition} {table} {recording} {witness} {r} {a} same p e =
     subst (λ (x : Rule). CheckedUnder x edition table recording witness a) same
     (record { answered = e ∙ p.numbers; promised = subst (ChecksUnder rule edition table recording witness) p.answered p })
 
-pub rewritten : {answer : Reading} {b room roomThen : List ℕ} {given : Lent} {r : Writing} {a : Answer} →
-    Rewrites answer b room roomThen given r → told a ≡ writingValues r → Rewritten answer b room roomThen given a
-rewritten {answer} {b} {room} {roomThen} {given} p e =
-    record { answered = e ∙ p.writes.numbers; promised = subst (Rewrites answer b room roomThen given) p.writes.answered p }
+pub rewritten : {answer : Reading} {b room room_then : List ℕ} {given : Lent} {r : Writing} {a : Answer} →
+    Rewrites answer b room room_then given r → told a ≡ writing_values r → Rewritten answer b room room_then given a
+rewritten {answer} {b} {room} {room_then} {given} p e =
+    record { answered = e ∙ p.writes.numbers; promised = subst (Rewrites answer b room room_then given) p.writes.answered p }

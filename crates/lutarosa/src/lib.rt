@@ -1,9 +1,9 @@
 // The static library's face (include/lutarosa.h): each function hands its bytes over and answers in document 01's numbers.
-ghost use Rattle.model.specs.Rule.{ruleOf};
-ghost use Rattle.model.specs.Table.{tableAnswer};
-ghost use Rattle.model.specs.Recording.{recordingAnswer};
-ghost use Rattle.model.specs.Witness.{witnessAnswer};
-ghost use Rattle.rewrite.specs.Rewriting.{rewriteTable, rewriteRecording, rewriteWitness};
+ghost use Rattle.model.specs.Rule.{rule_of};
+ghost use Rattle.model.specs.Table.{table_answer};
+ghost use Rattle.model.specs.Recording.{recording_answer};
+ghost use Rattle.model.specs.Witness.{witness_answer};
+ghost use Rattle.rewrite.specs.Rewriting.{rewrite_table, rewrite_recording, rewrite_witness};
 ghost use Rattle.model.specs.declared.Edition.TheVariants.{One, Two};
 ghost use Rattle.lutarosa.specs.Face.{Validated, Checked, Rewritten, ValidatedUnder, CheckedUnder};
 
@@ -38,21 +38,21 @@ pub extern "C" fn lutarosa_check<'a>(table: &'a [u8], recording: &'a [u8], witne
 
 #[unsafe(no_mangle)]
 pub extern "C" fn lutarosa_rewrite_table(bytes: &[u8], room: &mut [u8]) -> Answer
-    ensures { Rewritten (tableAnswer bytes.now) bytes.now room.old room.new (rewriteTable bytes.now room.old) result }
+    ensures { Rewritten (table_answer bytes.now) bytes.now room.old room.new (rewrite_table bytes.now room.old) result }
 {
     writing_numbers(rewrite_table(bytes, room))
 }
 
 #[unsafe(no_mangle)]
 pub extern "C" fn lutarosa_rewrite_recording(table: &[u8], bytes: &[u8], room: &mut [u8]) -> Answer
-    ensures { Rewritten (recordingAnswer table.now bytes.now) bytes.now room.old room.new (rewriteRecording table.now bytes.now room.old) result }
+    ensures { Rewritten (recording_answer table.now bytes.now) bytes.now room.old room.new (rewrite_recording table.now bytes.now room.old) result }
 {
     writing_numbers(rewrite_recording(table, bytes, room))
 }
 
 #[unsafe(no_mangle)]
 pub extern "C" fn lutarosa_rewrite_witness(bytes: &[u8], room: &mut [u8]) -> Answer
-    ensures { Rewritten (witnessAnswer One bytes.now) bytes.now room.old room.new (rewriteWitness One bytes.now room.old) result }
+    ensures { Rewritten (witness_answer One bytes.now) bytes.now room.old room.new (rewrite_witness One bytes.now room.old) result }
 {
     writing_numbers(rewrite_witness(Edition::One, bytes, room))
 }
@@ -85,7 +85,7 @@ pub extern "C" fn lutarosa_check_edition2<'a>(
 
 #[unsafe(no_mangle)]
 pub extern "C" fn lutarosa_rewrite_witness_edition2(bytes: &[u8], room: &mut [u8]) -> Answer
-    ensures { Rewritten (witnessAnswer Two bytes.now) bytes.now room.old room.new (rewriteWitness Two bytes.now room.old) result }
+    ensures { Rewritten (witness_answer Two bytes.now) bytes.now room.old room.new (rewrite_witness Two bytes.now room.old) result }
 {
     writing_numbers(rewrite_witness(Edition::Two, bytes, room))
 }
@@ -103,7 +103,7 @@ pub extern "C" fn lutarosa_validate_rule<'a>(
     scratch: &mut [u8],
     room: &mut [u8],
 ) -> VerdictAnswer
-    ensures { ValidatedUnder (ruleOf device window most) One table.now recording.now budget scratch.old room.old scratch.new room.new result }
+    ensures { ValidatedUnder (rule_of device window most) One table.now recording.now budget scratch.old room.old scratch.new room.new result }
 {
     ruled_numbers(validate_under(
         rule_of(device, window, most),
@@ -125,7 +125,7 @@ pub extern "C" fn lutarosa_check_rule<'a>(
     window: u8,
     most: u8,
 ) -> Answer
-    ensures { CheckedUnder (ruleOf device window most) One table.now recording.now witness.now result }
+    ensures { CheckedUnder (rule_of device window most) One table.now recording.now witness.now result }
 {
     checking_numbers(check_under(
         rule_of(device, window, most),
@@ -147,7 +147,7 @@ pub extern "C" fn lutarosa_validate_rule_edition2<'a>(
     scratch: &mut [u8],
     room: &mut [u8],
 ) -> VerdictAnswer
-    ensures { ValidatedUnder (ruleOf device window most) Two table.now recording.now budget scratch.old room.old scratch.new room.new result }
+    ensures { ValidatedUnder (rule_of device window most) Two table.now recording.now budget scratch.old room.old scratch.new room.new result }
 {
     ruled_numbers(validate_under(
         rule_of(device, window, most),
@@ -169,7 +169,7 @@ pub extern "C" fn lutarosa_check_rule_edition2<'a>(
     window: u8,
     most: u8,
 ) -> Answer
-    ensures { CheckedUnder (ruleOf device window most) Two table.now recording.now witness.now result }
+    ensures { CheckedUnder (rule_of device window most) Two table.now recording.now witness.now result }
 {
     checking_numbers(check_under(
         rule_of(device, window, most),

@@ -6,35 +6,35 @@ use mathlib.Core.List.{List, [], ◌∷◌, ◌++◌}
 use mathlib.Core.Option.{Option, some, map, some-injective}
 use lib.ListN.{length, get_or, get_elem?}
 use Rattle.model.specs.Bytes.{byte_at, tab}
-use Rattle.model.specs.Limits.{sizeLimit, guardLimit, transitionLimit}
+use Rattle.model.specs.Limits.{size_limit, guard_limit, transition_limit}
 use Rattle.model.specs.Rule.{masks}
 use Rattle.model.specs.Monitor.{Monitor, Transition, under}
-use Rattle.model.specs.Size.{greatest, largestAirtime, cap, tableSize, size}
-use Rattle.model.specs.Kinds.{versionAt, kindAt}
-use Rattle.model.specs.Table.{SoundTable, monitorAt, monitorOf, table_parts, transitionIn, transitionsAt, transitionAt, guardLengthAt, kindsAt, kindColumn, deviceColumn}
-use Rattle.model.specs.Recording.{packetsAt}
+use Rattle.model.specs.Size.{greatest, largest_airtime, cap, table_size, size}
+use Rattle.model.specs.Kinds.{version_at, kind_at}
+use Rattle.model.specs.Table.{SoundTable, monitor_at, monitor_of, table_parts, transition_in, transitions_at, transition_at, guard_length_at, kinds_at, kind_column, device_column}
+use Rattle.model.specs.Recording.{packets_at}
 use Rattle.model.specs.Ruled.{SoundUnder}
-use Rattle.model.specs.Situation.{stepBy, move_of, number, situationOf, capped, recordedAt, stepNumber, firstBy, firstNumber}
+use Rattle.model.specs.Situation.{step_by, move_of, number, situation_of, capped, recorded_at, step_number, first_by, first_number}
 use Rattle.model.specs.declared.Rule.{Rule}
 use Rattle.model.specs.declared.Situation.{Situation}
-use Rattle.model.proofs.Basics.{getElem-tab, getElem-within, getD-tab, length-tab}
-use Rattle.model.proofs.Places.{getD-column, getD-padded}
-use Rattle.model.proofs.TableForm.{table-facts, table-small, TableFacts}
-use Rattle.model.proofs.RecordingForm.{sound-table}
-use Rattle.model.proofs.RuledForm.{RuleFacts, facts-under, recording-sound, sane-under, sane-recording-under}
+use Rattle.model.proofs.Basics.{get_elem_tab, get_elem_within, get_or-tab, length-tab}
+use Rattle.model.proofs.Places.{get_or_column, get_or-padded}
+use Rattle.model.proofs.TableForm.{table_facts, table_small, TableFacts}
+use Rattle.model.proofs.RecordingForm.{sound_table}
+use Rattle.model.proofs.RuledForm.{RuleFacts, facts_under, recording_sound, sane-under, sane_recording_under}
 use Rattle.rule.specs.Within.{within}
 use Rattle.rule.proofs.Laws.{within-sound}
-use Rattle.monitor.specs.From.{monitorFrom, offsetsOf, transitionFrom, transitionCount}
-use Rattle.monitor.proofs.Described.{monitor-from}
+use Rattle.monitor.specs.From.{monitor_from, offsets_of, transition_from, transition_count}
+use Rattle.monitor.proofs.Described.{monitor_from_lem}
 use Rattle.situation.specs.declared.Shape.{Shape}
-use Rattle.situation.specs.Numbering.{Fits, numberBy, situationBy, cappedBy}
-use Rattle.situation.specs.Ruled.{ruledFrom}
-use Rattle.situation.proofs.Numbered.{same_number, same-situation, same-capped}
-use Rattle.situation.proofs.Shaped.{table-shape}
-use Rattle.steps.specs.Stepping.{arriveFrom, stepAt}
+use Rattle.situation.specs.Numbering.{Fits, number_by, situation_by, capped_by}
+use Rattle.situation.specs.Ruled.{ruled_from}
+use Rattle.situation.proofs.Numbered.{same_number, same_situation, same-capped}
+use Rattle.situation.proofs.Shaped.{table_shape}
+use Rattle.steps.specs.Stepping.{arrive_from, step_at}
 use Rattle.measures.specs.declared.Measures.{Measures}
 use Rattle.measures.specs.Measured.{Measured}
-use Rattle.measures.specs.Setting.{monitorBy, Setting, Triggers}
+use Rattle.measures.specs.Setting.{monitor_by, Setting, Triggers}
 use Rattle.measures.specs.Working.{Preparing}
 use Rattle.instants.proofs.TableSources.{sourced-under}
 
@@ -45,125 +45,125 @@ unfolding greatest
 greatest-more [] x b h g = omega arith
 greatest-more (a ∷ l) x b h g = let r = greatest-more l x b (omega arith) g in omega arith
 
-greatest-le : (f : ℕ → ℕ) (b n : ℕ) → ((i : ℕ) → i < n → f i ≤ b) → greatest (tab f n) ≤ b
+greatest_le : (f : ℕ → ℕ) (b n : ℕ) → ((i : ℕ) → i < n → f i ≤ b) → greatest (tab f n) ≤ b
 unfolding tab greatest
-greatest-le f b zero h = omega arith
-greatest-le f b (suc n) h = greatest-more (tab f n) (f n) b (greatest-le f b n (λ i l. h i (omega arith))) (h n (omega arith))
+greatest_le f b zero h = omega arith
+greatest_le f b (suc n) h = greatest-more (tab f n) (f n) b (greatest_le f b n (λ i l. h i (omega arith))) (h n (omega arith))
 
 module _ (table : List ℕ) (sound : SoundTable table) where
-  facts : TableFacts (deviceColumn table) table
-  facts = table-facts table sound
+  facts : TableFacts (device_column table) table
+  facts = table_facts table sound
 
-  airtimes-short : largestAirtime (monitorAt table) < 256
-  unfolding monitorOf table_parts
+  airtimes-short : largest_airtime (monitor_at table) < 256
+  unfolding monitor_of table_parts
   airtimes-short =
-      let h = greatest-le (λ k. byte_at (kindColumn table 1) k) 15 (kindsAt table)
-      (λ k l. subst (λ (x : ℕ). x ≤ 15) (sym (getD-column 32 (λ i. byte_at table (kindAt (versionAt table) i + 1)) (kindsAt table) k l)) (facts.kind k l).airtime) in
+      let h = greatest_le (λ k. byte_at (kind_column table 1) k) 15 (kinds_at table)
+      (λ k l. subst (λ (x : ℕ). x ≤ 15) (sym (get_or_column 32 (λ i. byte_at table (kind_at (version_at table) i + 1)) (kinds_at table) k l)) (facts.kind k l).airtime) in
       omega arith
 
-  counted : transitionCount table ≡ length (monitorAt table).transitions
-  unfolding monitorOf table_parts
-  counted = omega (arith, facts.counts.transitions, length-tab (transitionIn (table_parts table)) (transitionsAt table))
+  counted : transition_count table ≡ length (monitor_at table).transitions
+  unfolding monitor_of table_parts
+  counted = omega (arith, facts.counts.transitions, length-tab (transition_in (table_parts table)) (transitions_at table))
 
-  states-few : (monitorAt table).states ≤ 16
-  unfolding monitorOf table_parts
+  states-few : (monitor_at table).states ≤ 16
+  unfolding monitor_of table_parts
   states-few = facts.counts.states
 
-  guards-short : (j : ℕ) → j < transitionCount table → guardLengthAt table (get_or (offsetsOf table) j 0) ≤ guardLimit
-  unfolding offsetsOf
+  guards-short : (j : ℕ) → j < transition_count table → guard_length_at table (get_or (offsets_of table) j 0) ≤ guard_limit
+  unfolding offsets_of
   guards-short j h =
-      let n : length (tab (transitionAt table) (transitionCount table)) ≡ transitionCount table = length-tab (transitionAt table) (transitionCount table) in
-      let at : get_or (offsetsOf table) j 0 ≡ transitionAt table j =
-      getD-padded transitionLimit (tab (transitionAt table) (transitionCount table)) j (omega (arith, n)) ∙ getD-tab (transitionAt table) 0 (transitionCount table) j h
+      let n : length (tab (transition_at table) (transition_count table)) ≡ transition_count table = length-tab (transition_at table) (transition_count table) in
+      let at : get_or (offsets_of table) j 0 ≡ transition_at table j =
+      get_or-padded transition_limit (tab (transition_at table) (transition_count table)) j (omega (arith, n)) ∙ get_or-tab (transition_at table) 0 (transition_count table) j h
       in
-      subst (λ (x : ℕ). guardLengthAt table x ≤ guardLimit) (sym at) (facts.transition j (omega arith)).few
+      subst (λ (x : ℕ). guard_length_at table x ≤ guard_limit) (sym at) (facts.transition j (omega arith)).few
 
-  pub triggers : Triggers table (offsetsOf table)
-  unfolding monitorFrom transitionFrom
-  triggers = record { trigger = λ j t e. find j t (subst (λ (m : Monitor). get_elem? m.transitions j ≡ some t) (sym (monitor-from table sound)) e) }
+  pub triggers : Triggers table (offsets_of table)
+  unfolding monitor_from transition_from
+  triggers = record { trigger = λ j t e. find j t (subst (λ (m : Monitor). get_elem? m.transitions j ≡ some t) (sym (monitor_from_lem table sound)) e) }
     where
-      find : (j : ℕ) (t : Transition) → get_elem? (monitorFrom table (offsetsOf table)).transitions j ≡ some t → byte_at table (get_or (offsetsOf table) j 0 + 2) ≡ t.trigger
+      find : (j : ℕ) (t : Transition) → get_elem? (monitor_from table (offsets_of table)).transitions j ≡ some t → byte_at table (get_or (offsets_of table) j 0 + 2) ≡ t.trigger
       find j t e =
-          let within : j < transitionsAt table =
-          subst (λ (n : ℕ). j < n) (length-tab (λ i. transitionFrom table (get_or (offsetsOf table) i 0)) (transitionsAt table))
-          (getElem-within (tab (λ i. transitionFrom table (get_or (offsetsOf table) i 0)) (transitionsAt table)) j t e)
+          let within : j < transitions_at table =
+          subst (λ (n : ℕ). j < n) (length-tab (λ i. transition_from table (get_or (offsets_of table) i 0)) (transitions_at table))
+          (get_elem_within (tab (λ i. transition_from table (get_or (offsets_of table) i 0)) (transitions_at table)) j t e)
           in
-          let there = getElem-tab (λ i. transitionFrom table (get_or (offsetsOf table) i 0)) (transitionsAt table) j within in
-          ap (λ (x : Transition). x.trigger) (some-injective (transitionFrom table (get_or (offsetsOf table) j 0)) t (sym there ∙ e))
+          let there = get_elem_tab (λ i. transition_from table (get_or (offsets_of table) i 0)) (transitions_at table) j within in
+          ap (λ (x : Transition). x.trigger) (some-injective (transition_from table (get_or (offsets_of table) j 0)) t (sym there ∙ e))
 
 module _ (table recording : List ℕ) (g : Measures) (sound : SoundUnder g.shape.rule table recording) (measured : Measured (table_parts table) g.shape.rule recording g) where
   abbrev rule : Rule
   rule = g.shape.rule
 
-  whole-table : SoundTable table
-  whole-table = sound-table table recording (recording-sound rule table recording sound)
+  whole_table : SoundTable table
+  whole_table = sound_table table recording (recording_sound rule table recording sound)
 
-  ruled : RuleFacts (monitorBy g table)
-  ruled = facts-under rule table recording sound
+  ruled : RuleFacts (monitor_by g table)
+  ruled = facts_under rule table recording sound
 
-  fits : Fits g.shape (monitorBy g table)
-  fits = subst (λ (h : Shape). Fits h (monitorBy g table)) (sym measured.shape) (table-shape rule ruled.some ruled.window table whole-table)
+  fits : Fits g.shape (monitor_by g table)
+  fits = subst (λ (h : Shape). Fits h (monitor_by g table)) (sym measured.shape) (table_shape rule ruled.some ruled.window table whole_table)
 
-  short : largestAirtime (monitorBy g table) < 256
-  short = airtimes-short table whole-table
+  short : largest_airtime (monitor_by g table) < 256
+  short = airtimes-short table whole_table
 
   -- the rule as the code goes by it is the rule
   within-is : within rule ≡ rule
   within-is = within-sound rule ruled.some ruled.window
 
-  pub whole-size : g.size ≡ size (monitorBy g table)
-  unfolding size tableSize cap
+  pub whole-size : g.size ≡ size (monitor_by g table)
+  unfolding size table_size cap
   whole-size =
-      let small = table-small table whole-table in
-      measured.size ∙ ap₂ (λ (n k : ℕ). n * k) (by (tableSize (monitorAt table)) small) (ap masks within-is)
+      let small = table_small table whole_table in
+      measured.size ∙ ap₂ (λ (n k : ℕ). n * k) (by (table_size (monitor_at table)) small) (ap masks within-is)
     where
-      by : (n : ℕ) → n ≤ sizeLimit → min n (sizeLimit + 1) ≡ n
+      by : (n : ℕ) → n ≤ size_limit → min n (size_limit + 1) ≡ n
       by n h = omega arith
 
-  same-situations : (n : ℕ) → n < size (monitorBy g table) → situationBy g.shape n ≡ situationOf (monitorBy g table) n
-  same-situations = same-situation fits (sane-under rule table recording sound) short
+  same-situations : (n : ℕ) → n < size (monitor_by g table) → situation_by g.shape n ≡ situation_of (monitor_by g table) n
+  same-situations = same_situation fits (sane-under rule table recording sound) short
 
   -- the code's step from a number is the definition's
-  same_step : (heard : Option ℕ) (n k : ℕ) → n < size (monitorBy g table)
-      → stepAt table (offsetsOf table) g.shape heard n k
-      ≡ map (number (monitorBy g table)) (stepBy (monitorBy g table) (capped (monitorBy g table)) heard (situationOf (monitorBy g table) n) (move_of k))
-  unfolding arriveFrom
+  same_step : (heard : Option ℕ) (n k : ℕ) → n < size (monitor_by g table)
+      → step_at table (offsets_of table) g.shape heard n k
+      ≡ map (number (monitor_by g table)) (step_by (monitor_by g table) (capped (monitor_by g table)) heard (situation_of (monitor_by g table) n) (move_of k))
+  unfolding arrive_from
   same_step heard n k inside =
       let h : Shape = g.shape in
-      let m : Monitor = monitorBy g table in
-      let monitor : ruledFrom h table (offsetsOf table) ≡ m = ap₂ under within-is (monitor-from table whole-table) in
-      let writes : cappedBy h ≡ capped m = fun_ext (same-capped fits) in
-      let numbers : numberBy h ≡ number m = fun_ext (same_number fits) in
-      ap (λ (f : Situation → ℕ). map f (stepBy (ruledFrom h table (offsetsOf table)) (cappedBy h) heard (situationBy h n) (move_of k))) numbers
-      ∙ ap (λ (x : Monitor). map (number m) (stepBy x (cappedBy h) heard (situationBy h n) (move_of k))) monitor
-      ∙ ap (λ (w : List ℕ → List ℕ). map (number m) (stepBy m w heard (situationBy h n) (move_of k))) writes
-      ∙ ap (λ (x : Situation). map (number m) (stepBy m (capped m) heard x (move_of k))) (same-situations n inside)
+      let m : Monitor = monitor_by g table in
+      let monitor : ruled_from h table (offsets_of table) ≡ m = ap₂ under within-is (monitor_from_lem table whole_table) in
+      let writes : capped_by h ≡ capped m = fun_ext (same-capped fits) in
+      let numbers : number_by h ≡ number m = fun_ext (same_number fits) in
+      ap (λ (f : Situation → ℕ). map f (step_by (ruled_from h table (offsets_of table)) (capped_by h) heard (situation_by h n) (move_of k))) numbers
+      ∙ ap (λ (x : Monitor). map (number m) (step_by x (capped_by h) heard (situation_by h n) (move_of k))) monitor
+      ∙ ap (λ (w : List ℕ → List ℕ). map (number m) (step_by m w heard (situation_by h n) (move_of k))) writes
+      ∙ ap (λ (x : Situation). map (number m) (step_by m (capped m) heard x (move_of k))) (same-situations n inside)
 
   -- the number of the first situation, by the shape
-  first-number : numberBy g.shape (firstBy (cappedBy g.shape)) ≡ firstNumber (monitorBy g table)
+  first-number : number_by g.shape (first_by (capped_by g.shape)) ≡ first_number (monitor_by g table)
   first-number =
-      same_number fits (firstBy (cappedBy g.shape))
-      ∙ ap (λ (c : List ℕ). number (monitorBy g table) (record { state = 0; variables = 0; clocks = c; air = 0; window = 0 })) (same-capped fits (1 ∷ 1 ∷ []))
+      same_number fits (first_by (capped_by g.shape))
+      ∙ ap (λ (c : List ℕ). number (monitor_by g table) (record { state = 0; variables = 0; clocks = c; air = 0; window = 0 })) (same-capped fits (1 ∷ 1 ∷ []))
 
-  pub setting : Setting table (offsetsOf table) recording g
-  unfolding stepNumber
+  pub setting : Setting table (offsets_of table) recording g
+  unfolding step_number
   setting =
       record {
         sane = sane-under rule table recording sound;
-        sound = sane-recording-under rule table recording sound;
+        sound = sane_recording_under rule table recording sound;
         whole = whole-size;
         wide = omega (arith, measured.row);
         narrow = omega (arith, measured.row, whole-size, ruled.small);
         end = measured.last;
         start = measured.first ∙ first-number;
-        described = monitor-from table whole-table;
-        counted = counted table whole-table;
+        described = monitor_from_lem table whole_table;
+        counted = counted table whole_table;
         situations = λ n inside. same-situations n (subst (λ (x : ℕ). n < x) whole-size inside);
-        stepping = λ t n k inside. same_step (recordedAt (packetsAt recording) t) n k (subst (λ (x : ℕ). n < x) whole-size inside);
+        stepping = λ t n k inside. same_step (recorded_at (packets_at recording) t) n k (subst (λ (x : ℕ). n < x) whole-size inside);
       }
 
   -- what an instant's sets are worked out with
-  pub preparing : Preparing table (offsetsOf table) g
+  pub preparing : Preparing table (offsets_of table) g
   preparing =
       record {
         ready =
@@ -171,14 +171,14 @@ module _ (table recording : List ℕ) (g : Measures) (sound : SoundUnder g.shape
               sane = sane-under rule table recording sound;
               sourced = sourced-under rule table recording sound;
               fits = fits;
-              described = ap₂ under within-is (monitor-from table whole-table);
-              counted = counted table whole-table;
+              described = ap₂ under within-is (monitor_from_lem table whole_table);
+              counted = counted table whole_table;
               whole = whole-size;
               wide = omega (arith, measured.words);
               narrow = omega (arith, whole-size, ruled.small);
-              few = omega (arith, fits.states, states-few table whole-table);
+              few = omega (arith, fits.states, states-few table whole_table);
             };
         clocks = measured.clocks;
-        short = guards-short table whole-table;
+        short = guards-short table whole_table;
         few = omega (arith, measured.words, whole-size, ruled.small);
       }

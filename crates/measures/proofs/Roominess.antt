@@ -21,5 +21,5 @@ module _ {g : Measures} {n : ℕ} (roomy : Roomy g n) where
   first_fits = omega (arith, roomy.long, next_row g.row g.last)
 
 -- a sound table and recording have room where the rows are in the scratch
-pub roomy-by : {table offsets recording : List ℕ} {g : Measures} {n : ℕ} → Setting table offsets recording g → g.row * (g.last + 1) ≤ n → Roomy g n
-roomy-by setting long = record { early = omega (arith, setting.end, setting.sound.last); narrow = setting.narrow; long = long }
+pub roomy_by : {table offsets recording : List ℕ} {g : Measures} {n : ℕ} → Setting table offsets recording g → g.row * (g.last + 1) ≤ n → Roomy g n
+roomy_by setting long = record { early = omega (arith, setting.end, setting.sound.last); narrow = setting.narrow; long = long }

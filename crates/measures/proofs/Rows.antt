@@ -14,11 +14,11 @@ use lib.ListN.{length, take, drop, length-append, length-take, length-drop, take
 use lib.Seq.{length-take-le, drop_at}
 use Rattle.model.specs.Size
 use Rattle.model.specs.Monitor.{Monitor}
-use Rattle.model.specs.Recording.{packetsAt}
-use Rattle.model.specs.Situation.{stepNumber}
-use Rattle.model.specs.Validation.{possibleAfter}
+use Rattle.model.specs.Recording.{packets_at}
+use Rattle.model.specs.Situation.{step_number}
+use Rattle.model.specs.Validation.{possible_after}
 use Rattle.bits.specs.Member.{bit, mem}
-use Rattle.bits.proofs.Laws.{mem-drop, mem-part}
+use Rattle.bits.proofs.Laws.{mem-drop, mem_part}
 use Rattle.rows.specs.Bytes.{Is8}
 
 -- rows of w places, one behind the other
@@ -50,10 +50,10 @@ abbrev pub size_of : Monitor → ℕ
 size_of m = Size.size m
 
 abbrev pub step_of : Monitor → (recording : List ℕ) → (t n k : ℕ) → Option ℕ
-step_of m recording = stepNumber m (packetsAt recording)
+step_of m recording = step_number m (packets_at recording)
 
 abbrev pub possible : Monitor → (recording : List ℕ) → ℕ → List Bool
-possible m recording = possibleAfter m (packetsAt recording)
+possible m recording = possible_after m (packets_at recording)
 
 -- sets in bytes, one behind the other
 
@@ -66,11 +66,11 @@ mem-right p q n i e = sym (mem-drop (p ++ q) n i) ∙ ap (λ (l : List ℕ). mem
 
 -- the bytes of the row of instant t, and the scratch with others in their place
 
-abbrev pub rowAt : List ℕ → (row t : ℕ) → List ℕ
-rowAt scratch row t = take (row * t + row - row * t) (drop (row * t) scratch)
+abbrev pub row_at : List ℕ → (row t : ℕ) → List ℕ
+row_at scratch row t = take (row * t + row - row * t) (drop (row * t) scratch)
 
-abbrev pub rowPut : List ℕ → (row t : ℕ) → List ℕ → List ℕ
-rowPut scratch row t part = take (row * t) scratch ++ (part ++ drop (row * t + row - row * t) (drop (row * t) scratch))
+abbrev pub row_put : List ℕ → (row t : ℕ) → List ℕ → List ℕ
+row_put scratch row t part = take (row * t) scratch ++ (part ++ drop (row * t + row - row * t) (drop (row * t) scratch))
 
 -- the row of instant t is p, and no other row has changed
 pub record RowIs (p : ℕ → Bool) (row t : ℕ) (before after : List ℕ) : Type 0 where
@@ -79,16 +79,16 @@ pub record RowIs (p : ℕ → Bool) (row t : ℕ) (before after : List ℕ) : Ty
   pub others : (k : ℕ) → (k < 8 * row * t) ⊎ (8 * row * (t + 1) ≤ k) → mem after k ≡ mem before k
 
 module _ (scratch : List ℕ) (row t : ℕ) where
-  pub row-mem : (z : ℕ) → z < 8 * row → mem (rowAt scratch row t) z ≡ mem scratch (8 * row * t + z)
+  pub row-mem : (z : ℕ) → z < 8 * row → mem (row_at scratch row t) z ≡ mem scratch (8 * row * t + z)
   row-mem z h =
-      mem-part scratch (row * t) (row * t + row - row * t) z (omega arith) ∙ ap (λ (n : ℕ). mem scratch (n + z)) (sym (mul_assoc 8 row t))
+      mem_part scratch (row * t) (row * t + row - row * t) z (omega arith) ∙ ap (λ (n : ℕ). mem scratch (n + z)) (sym (mul_assoc 8 row t))
 
   module _ (fits : row * t + row ≤ length scratch) where
-    pub row-length : length (rowAt scratch row t) ≡ row
+    pub row-length : length (row_at scratch row t) ≡ row
     row-length = omega (arith, length-take (row * t + row - row * t) (drop (row * t) scratch), length-drop (row * t) scratch)
 
     -- a set that is stored in the bytes of the row is the row
-    pub row-stored : {p : ℕ → Bool} {part : List ℕ} → Is8 p (rowAt scratch row t) part → RowIs p row t scratch (rowPut scratch row t part)
+    pub row-stored : {p : ℕ → Bool} {part : List ℕ} → Is8 p (row_at scratch row t) part → RowIs p row t scratch (row_put scratch row t part)
     row-stored {p} {part} stored = record { long = simp (length-append, length-drop) (omega (arith, front, new)); here = here; others = others }
       where
         front : length (take (row * t) scratch) ≡ row * t
@@ -103,13 +103,13 @@ module _ (scratch : List ℕ) (row t : ℕ) where
         place : 8 * row * t ≡ 8 * (row * t)
         place = mul_assoc 8 row t
 
-        from : (i : ℕ) → mem (rowPut scratch row t part) (8 * row * t + i) ≡ mem (part ++ behind) i
-        from i = ap (λ (n : ℕ). mem (rowPut scratch row t part) (n + i)) place ∙ mem-right (take (row * t) scratch) (part ++ behind) (row * t) i front
+        from : (i : ℕ) → mem (row_put scratch row t part) (8 * row * t + i) ≡ mem (part ++ behind) i
+        from i = ap (λ (n : ℕ). mem (row_put scratch row t part) (n + i)) place ∙ mem-right (take (row * t) scratch) (part ++ behind) (row * t) i front
 
-        here : (z : ℕ) → z < 8 * row → mem (rowPut scratch row t part) (8 * row * t + z) ≡ p z
+        here : (z : ℕ) → z < 8 * row → mem (row_put scratch row t part) (8 * row * t + z) ≡ p z
         here z l = from z ∙ mem-left part behind z (omega (arith, new)) ∙ stored.all z (omega (arith, row-length))
 
-        others : (k : ℕ) → (k < 8 * row * t) ⊎ (8 * row * (t + 1) ≤ k) → mem (rowPut scratch row t part) k ≡ mem scratch k
+        others : (k : ℕ) → (k < 8 * row * t) ⊎ (8 * row * (t + 1) ≤ k) → mem (row_put scratch row t part) k ≡ mem scratch k
         others k (inl h) =
             let before : k < 8 * length (take (row * t) scratch) = omega (arith, front, place) in
             mem-left (take (row * t) scratch) (part ++ behind) k before
@@ -118,7 +118,7 @@ module _ (scratch : List ℕ) (row t : ℕ) where
         others k (inr h) =
             let e : k ≡ 8 * row * t + (8 * row + (k - (8 * row * t + 8 * row))) = omega (arith, next_row (8 * row) t) in
             let w : 8 * (row * t) + (8 * (row * t + row - row * t) + (k - (8 * row * t + 8 * row))) ≡ k = omega (arith, place, e) in
-            ap (mem (rowPut scratch row t part)) e
+            ap (mem (row_put scratch row t part)) e
             ∙ from (8 * row + (k - (8 * row * t + 8 * row)))
             ∙ mem-right part behind row (k - (8 * row * t + 8 * row)) new
             ∙ mem-drop (drop (row * t) scratch) (row * t + row - row * t) (k - (8 * row * t + 8 * row))

@@ -1,8 +1,8 @@
 // What a validation measures of a table and a recording before it starts.
 ghost use Rattle.std.specs.Prelude.{◌≡◌, true, ◌↔◌, ◌-◌, ◌<◌, min};
-ghost use Rattle.model.specs.Recording.{packetsAt, end_of};
-ghost use Rattle.model.specs.Situation.{firstBy};
-ghost use Rattle.situation.specs.Numbering.{numberBy, cappedBy};
+ghost use Rattle.model.specs.Recording.{packets_at, end_of};
+ghost use Rattle.model.specs.Situation.{first_by};
+ghost use Rattle.situation.specs.Numbering.{number_by, capped_by};
 ghost use Rattle.measures.specs.Measured.{Measured};
 ghost use Rattle.measures.specs.Roomy.{Roomy};
 
@@ -26,7 +26,7 @@ pub struct Measures {
 
 // The last recorded time, 0 if there is none.
 fn last_time(recording: &[u8]) -> usize
-    ensures { (result ≡ end_of (packetsAt recording.now)) × (result < 65536) }
+    ensures { (result ≡ end_of (packets_at recording.now)) × (result < 65536) }
 {
     let count = word(recording, 3) as usize;
     if count == 0 {
@@ -43,7 +43,7 @@ fn first_clock(values: u16) -> u16
 }
 
 fn first_number(h: Shape) -> u64
-    ensures { result ≡ numberBy h (firstBy (cappedBy h)) }
+    ensures { result ≡ number_by h (first_by (capped_by h)) }
 {
     let clocks = [first_clock(h.first), first_clock(h.second)];
     number(

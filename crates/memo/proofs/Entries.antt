@@ -13,21 +13,21 @@ use Rattle.images.specs.Advanced.{AdvancedTo, RetreatedTo}
 use Rattle.memo.specs.Known.{tag_of, Stands, Entry, Known, KnownBack}
 use Rattle.memo.specs.Changed.{Changed, Starts}
 
-tag-told : (o p : Option ℕ) → tag_of o ≡ tag_of p → o ≡ p
+tag_told : (o p : Option ℕ) → tag_of o ≡ tag_of p → o ≡ p
 unfolding tag_of
-tag-told none none e = refl
-tag-told none (some y) e = absurd (omega arith)
-tag-told (some x) none e = absurd (omega arith)
-tag-told (some x) (some y) e = ap some (omega arith)
+tag_told none none e = refl
+tag_told none (some y) e = absurd (omega arith)
+tag_told (some x) none e = absurd (omega arith)
+tag_told (some x) (some y) e = ap some (omega arith)
 
-tag-some : (o : Option ℕ) → 0 < tag_of o
+tag_some : (o : Option ℕ) → 0 < tag_of o
 unfolding tag_of
-tag-some none = omega arith
-tag-some (some x) = omega arith
+tag_some none = omega arith
+tag_some (some x) = omega arith
 
 -- an entry's words are before the next one's
-pub before-next : (w k l : ℕ) → k < l → w * k + w ≤ w * l
-before-next w k l h = let n : w * (k + 1) ≤ w * l = mul-le-mul_left w (omega arith) in omega arith
+pub before_next : (w k l : ℕ) → k < l → w * k + w ≤ w * l
+before_next w k l h = let n : w * (k + 1) ≤ w * l = mul-le-mul_left w (omega arith) in omega arith
 
 -- sets of as many words, from one place on, are the same
 held_same : (memo : List ℕ) (place : ℕ) (a b : List ℕ) → length a ≡ length b → Stands memo place a → Stands memo place b → a ≡ b
@@ -53,8 +53,8 @@ changed-more x y p q =
       over = λ j k. y.over j (omega arith) ∙ x.over j k;
     }
 
-pub changed-wider : {low high l h : ℕ} {s t : List ℕ} → Changed l h s t → low ≤ l → h ≤ high → Changed low high s t
-changed-wider x p q = record { size = x.size; under = λ j k. x.under j (omega arith); over = λ j k. x.over j (omega arith) }
+pub changed_wider : {low high l h : ℕ} {s t : List ℕ} → Changed l h s t → low ≤ l → h ≤ high → Changed low high s t
+changed_wider x p q = record { size = x.size; under = λ j k. x.under j (omega arith); over = λ j k. x.over j (omega arith) }
 
 pub changed-set : (s : List ℕ) (at v : ℕ) → Changed at (at + 1) s (set s at v)
 changed-set s at v =
@@ -64,38 +64,38 @@ changed-set s at v =
       over = λ j k. get_or-set_other s at j v 0 (λ e. omega arith);
     }
 
-pub held-under : {low high : ℕ} {s t : List ℕ} (place : ℕ) (a : List ℕ) → Changed low high s t → place + length a ≤ low → Stands s place a → Stands t place a
-held-under place a x l h = record { same = λ i k. x.under (place + i) (omega arith) ∙ h.same i k }
+pub held_under : {low high : ℕ} {s t : List ℕ} (place : ℕ) (a : List ℕ) → Changed low high s t → place + length a ≤ low → Stands s place a → Stands t place a
+held_under place a x l h = record { same = λ i k. x.under (place + i) (omega arith) ∙ h.same i k }
 
 -- an entry that was not written is as it was
 module _ (w slot : ℕ) (s t : List ℕ) (x : Changed (w * slot) (w * slot + w) s t) (k : ℕ) (d : k ≡ slot → ⊥) where
-  word-was : (j : ℕ) → j < w → get_or t (w * k + j) 0 ≡ get_or s (w * k + j) 0
-  word-was j h = by (dec_lt k slot)
+  word_was : (j : ℕ) → j < w → get_or t (w * k + j) 0 ≡ get_or s (w * k + j) 0
+  word_was j h = by (dec_lt k slot)
     where
       by : Dec (k < slot) → get_or t (w * k + j) 0 ≡ get_or s (w * k + j) 0
-      by (yes l) = x.under (w * k + j) (omega (arith, before-next w k slot l))
-      by (no l) = x.over (w * k + j) (omega (arith, before-next w slot k (omega arith)))
+      by (yes l) = x.under (w * k + j) (omega (arith, before_next w k slot l))
+      by (no l) = x.over (w * k + j) (omega (arith, before_next w slot k (omega arith)))
 
   held_was : (place from : ℕ) (a : List ℕ) → place ≡ w * k + from → from + length a ≤ w → Stands t place a → Stands s place a
   held_was place from a e l h =
       record {
         same = λ i q.
             let p : place + i ≡ w * k + (from + i) = omega arith in
-            ap (λ (y : ℕ). get_or s y 0) p ∙ sym (word-was (from + i) (omega arith)) ∙ ap (λ (y : ℕ). get_or t y 0) (sym p) ∙ h.same i q;
+            ap (λ (y : ℕ). get_or s y 0) p ∙ sym (word_was (from + i) (omega arith)) ∙ ap (λ (y : ℕ). get_or t y 0) (sym p) ∙ h.same i q;
       }
 
-  entry-was : (o : Option ℕ) → 0 < w → Entry t w k o → Entry s w k o
-  entry-was o l q =
+  entry_was : (o : Option ℕ) → 0 < w → Entry t w k o → Entry s w k o
+  entry_was o l q =
       let z : w * k + 0 ≡ w * k = omega arith in
       record {
         fits = omega (arith, x.size, q.fits);
-        tagged = ap (λ (y : ℕ). get_or s y 0) (sym z) ∙ sym (word-was 0 l) ∙ ap (λ (y : ℕ). get_or t y 0) z ∙ q.tagged;
+        tagged = ap (λ (y : ℕ). get_or s y 0) (sym z) ∙ sym (word_was 0 l) ∙ ap (λ (y : ℕ). get_or t y 0) z ∙ q.tagged;
       }
 
 -- a set is written, word by word
 module _ (src : List ℕ) (at k : ℕ) (s t : List ℕ) (l : at + k < length t) where
-  pub put-more : Changed at (at + k) s t → Changed at (at + (k + 1)) s (set t (at + k) (get_or src k 0))
-  put-more x = changed-more (changed-wider x (omega arith) (omega arith)) (changed-set t (at + k) (get_or src k 0)) (omega arith) (omega arith)
+  pub put_more : Changed at (at + k) s t → Changed at (at + (k + 1)) s (set t (at + k) (get_or src k 0))
+  put_more x = changed-more (changed_wider x (omega arith) (omega arith)) (changed-set t (at + k) (get_or src k 0)) (omega arith) (omega arith)
 
   pub held_more : ((i : ℕ) → i < k → get_or t (at + i) 0 ≡ get_or src i 0)
       → (i : ℕ) → i < k + 1 → get_or (set t (at + k) (get_or src k 0)) (at + i) 0 ≡ get_or src i 0
@@ -108,9 +108,9 @@ module _ (src : List ℕ) (at k : ℕ) (s t : List ℕ) (l : at + k < length t) 
           subst (λ (j : ℕ). get_or (set t (at + k) (get_or src k 0)) (at + j) 0 ≡ get_or src j 0) (sym e) (get_or-set_same t (at + k) (get_or src k 0) 0 l)
 
 -- .. and read
-pub got-more : (memo : List ℕ) (at k : ℕ) (t : List ℕ) → k < length t → ((i : ℕ) → i < k → get_or memo (at + i) 0 ≡ get_or t i 0)
+pub got_more : (memo : List ℕ) (at k : ℕ) (t : List ℕ) → k < length t → ((i : ℕ) → i < k → get_or memo (at + i) 0 ≡ get_or t i 0)
     → (i : ℕ) → i < k + 1 → get_or memo (at + i) 0 ≡ get_or (set t k (get_or memo (at + k) 0)) i 0
-got-more memo at k t l h i q = by (dec_lt i k)
+got_more memo at k t l h i q = by (dec_lt i k)
   where
     by : Dec (i < k) → get_or memo (at + i) 0 ≡ get_or (set t k (get_or memo (at + k) 0)) i 0
     by (yes d) = h i d ∙ sym (get_or-set_other t k i (get_or memo (at + k) 0) 0 (λ e. omega arith))
@@ -118,21 +118,21 @@ got-more memo at k t l h i q = by (dec_lt i k)
         let e : i ≡ k = omega arith in
         subst (λ (j : ℕ). get_or memo (at + j) 0 ≡ get_or (set t k (get_or memo (at + k) 0)) j 0) (sym e) (sym (get_or-set_same t k (get_or memo (at + k) 0) 0 l))
 
-pub clear-more : (k : ℕ) (t : List ℕ) → k < length t → ((i : ℕ) → i < k → get_or t i 0 ≡ 0) → (i : ℕ) → i < k + 1 → get_or (set t k 0) i 0 ≡ 0
-clear-more k t l h i q = by (dec_lt i k)
+pub clear_more : (k : ℕ) (t : List ℕ) → k < length t → ((i : ℕ) → i < k → get_or t i 0 ≡ 0) → (i : ℕ) → i < k + 1 → get_or (set t k 0) i 0 ≡ 0
+clear_more k t l h i q = by (dec_lt i k)
   where
     by : Dec (i < k) → get_or (set t k 0) i 0 ≡ 0
     by (yes d) = get_or-set_other t k i 0 0 (λ e. omega arith) ∙ h i d
     by (no d) = let e : i ≡ k = omega arith in subst (λ (j : ℕ). get_or (set t k 0) j 0 ≡ 0) (sym e) (get_or-set_same t k 0 0 l)
 
 -- no entry has the tag of anything recorded
-no-entry : (s : List ℕ) → ((i : ℕ) → i < length s → get_or s i 0 ≡ 0) → (w k : ℕ) (o : Option ℕ) → 0 < w → Entry s w k o → ⊥
-no-entry s h w k o p e = omega (arith, h (w * k) (omega (arith, e.fits)), e.tagged, tag-some o)
+no_entry : (s : List ℕ) → ((i : ℕ) → i < length s → get_or s i 0 ≡ 0) → (w k : ℕ) (o : Option ℕ) → 0 < w → Entry s w k o → ⊥
+no_entry s h w k o p e = omega (arith, h (w * k) (omega (arith, e.fits)), e.tagged, tag_some o)
 
-pub known-none : (m : Monitor) (n : ℕ) (s : List ℕ) → ((i : ℕ) → i < length s → get_or s i 0 ≡ 0) → Known m n s × KnownBack m n s
-known-none m n s h = (
-  record { entries = λ k o a z la lz e ha hz. absurd (no-entry s h (1 + 2 * n) k o (omega arith) e) },
-  record { entries = λ k o a b z la lb lz e ha hb hz. absurd (no-entry s h (1 + 3 * n) k o (omega arith) e) },
+pub known_none : (m : Monitor) (n : ℕ) (s : List ℕ) → ((i : ℕ) → i < length s → get_or s i 0 ≡ 0) → Known m n s × KnownBack m n s
+known_none m n s h = (
+  record { entries = λ k o a z la lz e ha hz. absurd (no_entry s h (1 + 2 * n) k o (omega arith) e) },
+  record { entries = λ k o a b z la lb lz e ha hb hz. absurd (no_entry s h (1 + 3 * n) k o (omega arith) e) },
 )
 
 -- what is worked out is kept
@@ -148,9 +148,9 @@ module _ (m : Monitor) (n slot : ℕ) (o : Option ℕ) (s t a z : List ℕ) (la 
             subst (λ (v : List ℕ). AdvancedTo m p n v y) (held_same t _ a b (la ∙ sym lb) ha (subst (λ (j : ℕ). Stands t ((1 + 2 * n) * j + 1) b) q hb))
             (subst (λ (v : List ℕ). AdvancedTo m p n a v) (held_same t _ z y (lz ∙ sym ly) hz (subst (λ (j : ℕ). Stands t ((1 + 2 * n) * j + 1 + n) y) q hy))
             (subst (λ (v : Option ℕ). AdvancedTo m v n a z)
-            (tag-told o p (sym tag ∙ ap (λ (j : ℕ). get_or t ((1 + 2 * n) * j) 0) (sym q) ∙ e.tagged)) to))
+            (tag_told o p (sym tag ∙ ap (λ (j : ℕ). get_or t ((1 + 2 * n) * j) 0) (sym q) ∙ e.tagged)) to))
         by k p b y lb ly e hb hy (no d) =
-            known.entries k p b y lb ly (entry-was (1 + 2 * n) slot s t x k d p (omega arith) e)
+            known.entries k p b y lb ly (entry_was (1 + 2 * n) slot s t x k d p (omega arith) e)
             (held_was (1 + 2 * n) slot s t x k d _ 1 b (omega arith) (omega arith) hb)
             (held_was (1 + 2 * n) slot s t x k d _ (1 + n) y (omega arith) (omega arith) hy)
 
@@ -167,20 +167,20 @@ module _ (m : Monitor) (n slot : ℕ) (o : Option ℕ) (s t a z : List ℕ) (la 
             (subst (λ (v : List ℕ). RetreatedTo m p n a v y) (held_same t _ b d (lb ∙ sym ld) hb (subst (λ (j : ℕ). Stands t ((1 + 3 * n) * j + 1 + n) d) q hd))
             (subst (λ (v : List ℕ). RetreatedTo m p n a b v) (held_same t _ z y (lz ∙ sym ly) hz (subst (λ (j : ℕ). Stands t ((1 + 3 * n) * j + 1 + 2 * n) y) q hy))
             (subst (λ (v : Option ℕ). RetreatedTo m v n a b z)
-            (tag-told o p (sym tag ∙ ap (λ (j : ℕ). get_or t ((1 + 3 * n) * j) 0) (sym q) ∙ e.tagged)) to)))
+            (tag_told o p (sym tag ∙ ap (λ (j : ℕ). get_or t ((1 + 3 * n) * j) 0) (sym q) ∙ e.tagged)) to)))
         by k p c d y lc ld ly e hc hd hy (no u) =
-            known.entries k p c d y lc ld ly (entry-was (1 + 3 * n) slot s t x k u p (omega arith) e)
+            known.entries k p c d y lc ld ly (entry_was (1 + 3 * n) slot s t x k u p (omega arith) e)
             (held_was (1 + 3 * n) slot s t x k u _ 1 c (omega arith) (omega arith) hc)
             (held_was (1 + 3 * n) slot s t x k u _ (1 + n) d (omega arith) (omega arith) hd)
             (held_was (1 + 3 * n) slot s t x k u _ (1 + 2 * n) y (omega arith) (omega arith) hy)
 
 -- .. in an entry that starts at some place
-next-entry : (w k : ℕ) → w * (k + 1) ≡ w * k + w
-next-entry w k = omega arith
+next_entry : (w k : ℕ) → w * (k + 1) ≡ w * k + w
+next_entry w k = omega arith
 
 starting : (w place tag : ℕ) (o : Option ℕ) (s : List ℕ) (p : Starts w (length s) place) → tag ≡ tag_of o → get_or s place 0 ≡ tag → Entry s w p.slot o
 starting w place tag o s p t e =
-    record { fits = omega (arith, next-entry w p.slot, p.start, p.fits); tagged = ap (λ (j : ℕ). get_or s j 0) (sym p.start) ∙ e ∙ t }
+    record { fits = omega (arith, next_entry w p.slot, p.start, p.fits); tagged = ap (λ (j : ℕ). get_or s j 0) (sym p.start) ∙ e ∙ t }
 
 module _ (m : Monitor) (place tag : ℕ) (o : Option ℕ) (tagged : tag ≡ tag_of o) where
   module _ (s a z : List ℕ) (lz : length z ≡ length a) (p : Starts (1 + 2 * length a) (length s) place) where
@@ -197,9 +197,9 @@ module _ (m : Monitor) (place tag : ℕ) (o : Option ℕ) (tagged : tag ≡ tag_
       keep : AdvancedTo m o (length a) a z → Known m (length a) s → Known m (length a) u
       keep =
           known_kept m (length a) p.slot o s u a z refl lz
-          (subst (λ (j : ℕ). Changed j (j + (1 + 2 * length a)) s u) p.start (changed-more (changed-wider x (omega arith) (omega arith)) y (omega arith) (omega arith)))
+          (subst (λ (j : ℕ). Changed j (j + (1 + 2 * length a)) s u) p.start (changed-more (changed_wider x (omega arith) (omega arith)) y (omega arith) (omega arith)))
           (ap (λ (j : ℕ). get_or u j 0) (sym p.start) ∙ y.under place (omega arith) ∙ e ∙ tagged)
-          (subst (λ (j : ℕ). Stands u (j + 1) a) p.start (held-under (place + 1) a y (omega arith) ha))
+          (subst (λ (j : ℕ). Stands u (j + 1) a) p.start (held_under (place + 1) a y (omega arith) ha))
           (subst (λ (j : ℕ). Stands u (j + 1 + length a) z) p.start hz)
 
       pub kept : (n : ℕ) → length a ≡ n → AdvancedTo m o n a z → Known m n s → Known m n u
@@ -213,9 +213,9 @@ module _ (m : Monitor) (place tag : ℕ) (o : Option ℕ) (tagged : tag ≡ tag_
         (subst (λ (j : ℕ). Stands s (j + 1 + length b) b) p.start (subst (λ (k : ℕ). Stands s (place + 1 + k) b) la hb))
         (subst (λ (j : ℕ). Stands s (j + 1 + 2 * length b) z) p.start hz)
 
-    pub recalled-back : (n : ℕ) → length b ≡ n → get_or s place 0 ≡ tag → Stands s (place + 1) a → Stands s (place + 1 + length a) b
+    pub recalled_back : (n : ℕ) → length b ≡ n → get_or s place 0 ≡ tag → Stands s (place + 1) a → Stands s (place + 1 + length a) b
         → Stands s (place + 1 + 2 * length b) z → KnownBack m n s → RetreatedTo m o n a b z
-    recalled-back n lb e ha hb hz = subst (λ (k : ℕ). KnownBack m k s → RetreatedTo m o k a b z) lb (recall-back e ha hb hz)
+    recalled_back n lb e ha hb hz = subst (λ (k : ℕ). KnownBack m k s → RetreatedTo m o k a b z) lb (recall-back e ha hb hz)
 
     module _ (t u : List ℕ) (x : Changed place (place + 1 + length a + length b) s t) (e : get_or t place 0 ≡ tag) (ha : Stands t (place + 1) a)
         (hb : Stands t (place + 1 + length a) b) (y : Changed (place + 1 + 2 * length b) (place + 1 + 2 * length b + length z) t u)
@@ -223,22 +223,22 @@ module _ (m : Monitor) (place tag : ℕ) (o : Option ℕ) (tagged : tag ≡ tag_
       keep-back : RetreatedTo m o (length b) a b z → KnownBack m (length b) s → KnownBack m (length b) u
       keep-back =
           known-back m (length b) p.slot o s u a z la lz b refl
-          (subst (λ (j : ℕ). Changed j (j + (1 + 3 * length b)) s u) p.start (changed-more (changed-wider x (omega arith) (omega arith)) y (omega arith) (omega arith)))
+          (subst (λ (j : ℕ). Changed j (j + (1 + 3 * length b)) s u) p.start (changed-more (changed_wider x (omega arith) (omega arith)) y (omega arith) (omega arith)))
           (ap (λ (j : ℕ). get_or u j 0) (sym p.start) ∙ y.under place (omega arith) ∙ e ∙ tagged)
-          (subst (λ (j : ℕ). Stands u (j + 1) a) p.start (held-under (place + 1) a y (omega arith) ha))
+          (subst (λ (j : ℕ). Stands u (j + 1) a) p.start (held_under (place + 1) a y (omega arith) ha))
           (subst (λ (j : ℕ). Stands u (j + 1 + length b) b) p.start
-          (held-under (place + 1 + length b) b y (omega arith) (subst (λ (k : ℕ). Stands t (place + 1 + k) b) la hb)))
+          (held_under (place + 1 + length b) b y (omega arith) (subst (λ (k : ℕ). Stands t (place + 1 + k) b) la hb)))
           (subst (λ (j : ℕ). Stands u (j + 1 + 2 * length b) z) p.start hz)
 
       pub kept_back : (n : ℕ) → length b ≡ n → RetreatedTo m o n a b z → KnownBack m n s → KnownBack m n u
       kept_back n lb = subst (λ (k : ℕ). RetreatedTo m o k a b z → KnownBack m k s → KnownBack m k u) lb keep-back
 
 -- where a slot's entry starts
-pub starts-at : (w k e long : ℕ) → k < e → w * e ≤ long → Starts w long (w * k)
-starts-at w k e long h l = record { slot = k; start = refl; fits = omega (arith, before-next w k e h) }
+pub starts_at : (w k e long : ℕ) → k < e → w * e ≤ long → Starts w long (w * k)
+starts_at w k e long h l = record { slot = k; start = refl; fits = omega (arith, before_next w k e h) }
 
 pub starts_first : (w e long : ℕ) → 0 < e → w * e ≤ long → Starts w long 0
-starts_first w e long h l = record { slot = 0; start = omega arith; fits = omega (arith, before-next w 0 e h) }
+starts_first w e long h l = record { slot = 0; start = omega arith; fits = omega (arith, before_next w 0 e h) }
 
 pub spread-below : (k e : ℕ) → k < 65536 → 0 < e → k * e / 65536 < e
 spread-below k e h p = let l : k * e ≤ 65535 * e = mul-le-mul_right e (omega arith) in omega arith

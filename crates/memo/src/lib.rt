@@ -5,7 +5,7 @@ mod slot;
 
 ghost use Rattle.std.specs.Prelude.{◌≡◌, ℕ, length};
 ghost use Rattle.model.specs.Monitor.{Monitor};
-ghost use Rattle.situation.specs.Rows.{heardOf};
+ghost use Rattle.situation.specs.Rows.{heard_of};
 ghost use Rattle.images.specs.Buffers.{Sized, Kept};
 ghost use Rattle.images.specs.Advanced.{Given, Within, AdvancedTo, RetreatedTo};
 ghost use Rattle.memo.specs.Known.{Known, KnownBack};
@@ -41,7 +41,7 @@ pub fn advance(
     two: &mut [u64],
     memo: &mut [u64],
 )
-    ensures { Kept cur.old cur.new × Kept sets.old sets.new × Kept one.old one.new × Kept two.old two.new × Kept memo.old memo.new × ((m : Monitor) (n : ℕ) → Given m table.now offsets.now h size n marks.now planes.now → Within size n cur.old → Sized n sets.old one.old two.old → Known m n memo.old → AdvancedTo m (heardOf heard) n cur.old cur.new × Known m n memo.new) }
+    ensures { Kept cur.old cur.new × Kept sets.old sets.new × Kept one.old one.new × Kept two.old two.new × Kept memo.old memo.new × ((m : Monitor) (n : ℕ) → Given m table.now offsets.now h size n marks.now planes.now → Within size n cur.old → Sized n sets.old one.old two.old → Known m n memo.old → AdvancedTo m (heard_of heard) n cur.old cur.new × Known m n memo.new) }
 {
     let n = cur.len();
     let tag = tag_of(heard);
@@ -79,7 +79,7 @@ pub fn retreat(
     two: &mut [u64],
     memo: &mut [u64],
 )
-    ensures { Kept row.old row.new × Kept sets.old sets.new × Kept one.old one.new × Kept two.old two.new × Kept memo.old memo.new × ((m : Monitor) (n : ℕ) → Given m table.now offsets.now h size n marks.now planes.now → Within size n row.old → length next.now ≡ n → Sized n sets.old one.old two.old → KnownBack m n memo.old → RetreatedTo m (heardOf heard) n next.now row.old row.new × KnownBack m n memo.new) }
+    ensures { Kept row.old row.new × Kept sets.old sets.new × Kept one.old one.new × Kept two.old two.new × Kept memo.old memo.new × ((m : Monitor) (n : ℕ) → Given m table.now offsets.now h size n marks.now planes.now → Within size n row.old → length next.now ≡ n → Sized n sets.old one.old two.old → KnownBack m n memo.old → RetreatedTo m (heard_of heard) n next.now row.old row.new × KnownBack m n memo.new) }
 {
     let n = row.len();
     let tag = tag_of(heard);

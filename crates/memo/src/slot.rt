@@ -1,6 +1,6 @@
 // Where in the memory an entry is looked for: one place for each tag and sets, so that a look costs the same whatever is held.
 ghost use Rattle.std.specs.Prelude.{◌≡◌, ◌+◌, ◌*◌, ◌<◌, ◌≤◌};
-ghost use Rattle.situation.specs.Rows.{heardOf};
+ghost use Rattle.situation.specs.Rows.{heard_of};
 ghost use Rattle.memo.specs.Known.{tag_of};
 ghost use Rattle.memo.specs.Changed.{Starts};
 
@@ -8,7 +8,7 @@ use situation::Heard;
 use words::lesser;
 
 pub(crate) fn tag_of(heard: Heard) -> u64
-    ensures { result ≡ tag_of (heardOf heard) }
+    ensures { result ≡ tag_of (heard_of heard) }
 {
     match heard {
         Heard::Nothing => 1,

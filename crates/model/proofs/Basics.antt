@@ -54,8 +54,8 @@ cond-some true x a e = (refl, e)
 cond-some false x a e = absurd (none-ne-some a e)
 
 -- comparisons that pass together
-pub leb-same : (a b c d : ℕ) → (a ≤ b → c ≤ d) → (c ≤ d → a ≤ b) → leb a b ≡ leb c d
-leb-same a b c d f g = on (dec_le a b) (dec_le c d)
+pub leb_same : (a b c d : ℕ) → (a ≤ b → c ≤ d) → (c ≤ d → a ≤ b) → leb a b ≡ leb c d
+leb_same a b c d f g = on (dec_le a b) (dec_le c d)
   where
     on : Dec (a ≤ b) → Dec (c ≤ d) → leb a b ≡ leb c d
     on (yes p) (yes q) = le-leb a b p ∙ sym (le-leb c d q)
@@ -67,32 +67,32 @@ pub unless-sound : (t : Bool) (r : Refusal) → unless t r ≡ Sound → t ≡ t
 unless-sound true r e = refl
 unless-sound false r e = cc
 
-pub andThen-left : (a b : Reading) → and_then a b ≡ Sound → a ≡ Sound
-andThen-left Sound b e = refl
-andThen-left (Unsound r) b e = e
+pub and_then-left : (a b : Reading) → and_then a b ≡ Sound → a ≡ Sound
+and_then-left Sound b e = refl
+and_then-left (Unsound r) b e = e
 
-pub andThen-right : (a b : Reading) → and_then a b ≡ Sound → b ≡ Sound
-andThen-right Sound b e = e
-andThen-right (Unsound r) b e = cc
+pub and_then-right : (a b : Reading) → and_then a b ≡ Sound → b ≡ Sound
+and_then-right Sound b e = e
+and_then-right (Unsound r) b e = cc
 
 module _ {A : Type 0} where
-  pub getElem-getD : (l : List A) (i : ℕ) (d : A) → i < length l → get_elem? l i ≡ some (get_or l i d)
-  getElem-getD [] i d h = absurd (not-suc-le-zero h)
-  getElem-getD (x ∷ l) zero d h = refl
-  getElem-getD (x ∷ l) (suc i) d h = getElem-getD l i d (omega arith)
+  pub get_elem_get_or : (l : List A) (i : ℕ) (d : A) → i < length l → get_elem? l i ≡ some (get_or l i d)
+  get_elem_get_or [] i d h = absurd (not-suc-le-zero h)
+  get_elem_get_or (x ∷ l) zero d h = refl
+  get_elem_get_or (x ∷ l) (suc i) d h = get_elem_get_or l i d (omega arith)
 
-  pub getElem-past : (l : List A) (i : ℕ) → length l ≤ i → get_elem? l i ≡ none
-  getElem-past [] i h = refl
-  getElem-past (x ∷ l) zero h = absurd (not-suc-le-zero h)
-  getElem-past (x ∷ l) (suc i) h = getElem-past l i (omega arith)
+  pub get_elem_past : (l : List A) (i : ℕ) → length l ≤ i → get_elem? l i ≡ none
+  get_elem_past [] i h = refl
+  get_elem_past (x ∷ l) zero h = absurd (not-suc-le-zero h)
+  get_elem_past (x ∷ l) (suc i) h = get_elem_past l i (omega arith)
 
-  pub getElem-within : (l : List A) (i : ℕ) (a : A) → get_elem? l i ≡ some a → i < length l
-  getElem-within [] i a e = absurd (no-some a e)
+  pub get_elem_within : (l : List A) (i : ℕ) (a : A) → get_elem? l i ≡ some a → i < length l
+  get_elem_within [] i a e = absurd (no-some a e)
     where
       no-some : (b : A) → none ≡ some b → ⊥
       no-some b q = let z : ◌≡◌ {A = ℕ} 0 1 = cc in omega arith
-  getElem-within (x ∷ l) zero a e = omega arith
-  getElem-within (x ∷ l) (suc i) a e = let h : i < length l = getElem-within l i a e in omega arith
+  get_elem_within (x ∷ l) zero a e = omega arith
+  get_elem_within (x ∷ l) (suc i) a e = let h : i < length l = get_elem_within l i a e in omega arith
 
 module _ {A : Type 0} (f : ℕ → A) where
   pub length-tab : (n : ℕ) → length (tab f n) ≡ n
@@ -100,10 +100,10 @@ module _ {A : Type 0} (f : ℕ → A) where
   length-tab zero = refl
   length-tab (suc n) = length-append (tab f n) (f n ∷ []) ∙ omega (arith, length-tab n)
 
-  pub getD-tab : (d : A) (n i : ℕ) → i < n → get_or (tab f n) i d ≡ f i
+  pub get_or-tab : (d : A) (n i : ℕ) → i < n → get_or (tab f n) i d ≡ f i
   unfolding tab
-  getD-tab d zero i h = absurd (not-suc-le-zero h)
-  getD-tab d (suc n) i h = split (λ l. getD-tab d n i l) (dec_lt i n)
+  get_or-tab d zero i h = absurd (not-suc-le-zero h)
+  get_or-tab d (suc n) i h = split (λ l. get_or-tab d n i l) (dec_lt i n)
     where
       split : (i < n → get_or (tab f n) i d ≡ f i) → Dec (i < n) → get_or (tab f n ++ (f n ∷ [])) i d ≡ f i
       split again (yes l) = get_or-append (tab f n) (f n ∷ []) d i (omega (arith, length-tab n)) ∙ again l
@@ -111,11 +111,11 @@ module _ {A : Type 0} (f : ℕ → A) where
           let e : i ≡ n = omega arith in
           rw e (get_or_at (tab f n) (f n) [] d n (length-tab n))
 
-  pub getD-tab-past : (d : A) (n i : ℕ) → n ≤ i → get_or (tab f n) i d ≡ d
-  getD-tab-past d n i h = get_or-eq_default (tab f n) d (omega (arith, length-tab n))
+  pub get_or_tab_past : (d : A) (n i : ℕ) → n ≤ i → get_or (tab f n) i d ≡ d
+  get_or_tab_past d n i h = get_or-eq_default (tab f n) d (omega (arith, length-tab n))
 
-  pub getElem-tab : (n i : ℕ) → i < n → get_elem? (tab f n) i ≡ some (f i)
-  getElem-tab n i h = getElem-getD (tab f n) i (f i) (omega (arith, length-tab n)) ∙ ap {B = Option A} some (getD-tab (f i) n i h)
+  pub get_elem_tab : (n i : ℕ) → i < n → get_elem? (tab f n) i ≡ some (f i)
+  get_elem_tab n i h = get_elem_get_or (tab f n) i (f i) (omega (arith, length-tab n)) ∙ ap {B = Option A} some (get_or-tab (f i) n i h)
 
-  pub getElem-tab-past : (n i : ℕ) → n ≤ i → get_elem? (tab f n) i ≡ none
-  getElem-tab-past n i h = getElem-past (tab f n) i (omega (arith, length-tab n))
+  pub get_elem_tab_past : (n i : ℕ) → n ≤ i → get_elem? (tab f n) i ≡ none
+  get_elem_tab_past n i h = get_elem_past (tab f n) i (omega (arith, length-tab n))

@@ -13,17 +13,17 @@ use lib.Dec.{eqb}
 use borrow.Author.Tests.{lt-ltb, eq-eqb}
 use Rattle.model.specs.Guard.{Guard, always, at_most, at_least, variable, negation, conjunction, holds, largest}
 use Rattle.model.specs.Readiness.{waited, readiness}
-use Rattle.model.specs.Rule.{windowBehind, allows}
-use Rattle.model.specs.Monitor.{Monitor, Config, Transition, fires, after, enabled, reset, toUnit, airtime, isGuess, withinRule}
-use Rattle.model.specs.Size.{largestIn, largestBound, cap, size}
-use Rattle.model.specs.Situation.{TwoClocks, InRange, Move, keep, rest, add, configOf, withAir, capped, uncapped, firstBy, firstNumber, onAir, sent, missed, triggerOf, moved, tick, stepBy, recordedAt, move_of, moveLimit, number, stepNumber}
+use Rattle.model.specs.Rule.{window_behind, allows}
+use Rattle.model.specs.Monitor.{Monitor, Config, Transition, fires, after, enabled, reset, to_unit, airtime, is_guess, within_rule}
+use Rattle.model.specs.Size.{largest_in, largest_bound, cap, size}
+use Rattle.model.specs.Situation.{TwoClocks, InRange, Move, keep, rest, add, config_of, with_air, capped, uncapped, first_by, first_number, on_air, sent, missed, trigger_of, moved, tick, step_by, recorded_at, move_of, move_limit, number, step_number}
 use Rattle.model.specs.Trace.{Packet}
 use Rattle.model.specs.declared.Situation.{Situation}
 use Rattle.model.specs.Sane.{Sane, Closed}
-use Rattle.model.proofs.Basics.{leb-same}
+use Rattle.model.proofs.Basics.{leb_same}
 use Rattle.model.proofs.ReadinessLaws.{same-readiness}
 use Rattle.model.proofs.Chains.{Leads, Moves}
-use Rattle.model.proofs.Numbering.{outcome, sending, number-below, back, every-step, step-in-range, first-in-range}
+use Rattle.model.proofs.Numbering.{outcome, sending, number-below, back, every_step, step_in_range, first_in_range}
 
 -- a situation with its clocks as they are written
 abbrev pub written : Monitor → Situation → Situation
@@ -33,31 +33,31 @@ written m s = record { state = s.state; variables = s.variables; clocks = capped
 
 module _ (m : Monitor) (two : m.clocks ≤ 2) where
   -- a clock that the table has is written as at most M + 1
-  reads : (c : List ℕ) (i : ℕ) → i < m.clocks → get_or (capped m c) i 0 ≡ min (get_or c i 0) (largestBound m i + 1)
+  reads : (c : List ℕ) (i : ℕ) → i < m.clocks → get_or (capped m c) i 0 ≡ min (get_or c i 0) (largest_bound m i + 1)
   unfolding capped cap
   reads c zero h = rw (lt-ltb 0 m.clocks h)
   reads c (suc zero) h = rw (lt-ltb 1 m.clocks h)
   reads c (suc (suc i)) h = absurd (not-suc-le-zero {n = i} (omega arith))
 
-  pub same-guard : (g : Guard) (v : ℕ) (c : List ℕ) → Closed m g → ((i : ℕ) → largest i g ≤ largestBound m i) → holds g v (capped m c) ≡ holds g v c
+  pub same-guard : (g : Guard) (v : ℕ) (c : List ℕ) → Closed m g → ((i : ℕ) → largest i g ≤ largest_bound m i) → holds g v (capped m c) ≡ holds g v c
   unfolding holds largest
   same-guard always v c k b = refl
   same-guard (at_most i t) v c k b =
-      let h : t ≤ largestBound m i = rw (eq-eqb i i refl) at (b i) in
-      let e : get_or (capped m c) i 0 ≡ min (get_or c i 0) (largestBound m i + 1) = reads c i k in
-      leb-same (get_or (capped m c) i 0) t (get_or c i 0) t (omega arith) (omega arith)
+      let h : t ≤ largest_bound m i = rw (eq-eqb i i refl) at (b i) in
+      let e : get_or (capped m c) i 0 ≡ min (get_or c i 0) (largest_bound m i + 1) = reads c i k in
+      leb_same (get_or (capped m c) i 0) t (get_or c i 0) t (omega arith) (omega arith)
   same-guard (at_least i t) v c k b =
-      let h : t ≤ largestBound m i = rw (eq-eqb i i refl) at (b i) in
-      let e : get_or (capped m c) i 0 ≡ min (get_or c i 0) (largestBound m i + 1) = reads c i k in
-      leb-same t (get_or (capped m c) i 0) t (get_or c i 0) (omega arith) (omega arith)
+      let h : t ≤ largest_bound m i = rw (eq-eqb i i refl) at (b i) in
+      let e : get_or (capped m c) i 0 ≡ min (get_or c i 0) (largest_bound m i + 1) = reads c i k in
+      leb_same t (get_or (capped m c) i 0) t (get_or c i 0) (omega arith) (omega arith)
   same-guard (variable x) v c k b = refl
   same-guard (negation g) v c k b = ap not (same-guard g v c k b)
   same-guard (conjunction g h) v c k b =
       ap₂ ◌&&◌ (same-guard g v c k.0 (λ i. omega (arith, b i))) (same-guard h v c k.1 (λ i. omega (arith, b i)))
 
 -- M is at least each T of a listed transition
-pub largest-listed : (ts : List Transition) (j : ℕ) (t : Transition) → get_elem? ts j ≡ some t → (i : ℕ) → largest i t.guard ≤ largestIn i ts
-unfolding largestIn
+pub largest-listed : (ts : List Transition) (j : ℕ) (t : Transition) → get_elem? ts j ≡ some t → (i : ℕ) → largest i t.guard ≤ largest_in i ts
+unfolding largest_in
 largest-listed [] j t e i = let z : ◌≡◌ {A = ℕ} 0 1 = cc in omega arith
 largest-listed (u ∷ ts) zero t e i = let q : u ≡ t = cc in rw (← q) (omega arith)
 largest-listed (u ∷ ts) (suc j) t e i = omega (arith, largest-listed ts j t e i)
@@ -69,24 +69,24 @@ of_two : (F : List ℕ → Type 0) → ((x y : ℕ) → F (x ∷ y ∷ [])) → 
 of_two F f c two = subst F (sym two) (f _ _)
 
 -- a clock, reset or not, and then one tick
-min-ticked : (zeroed : Bool) (x l : ℕ) → min (cond zeroed 0 (min x l) + 1) l ≡ min (cond zeroed 0 x + 1) l
-min-ticked true x l = refl
-min-ticked false x l = omega arith
+min_ticked : (zeroed : Bool) (x l : ℕ) → min (cond zeroed 0 (min x l) + 1) l ≡ min (cond zeroed 0 x + 1) l
+min_ticked true x l = refl
+min_ticked false x l = omega arith
 
 -- a clock above what it is written as, and then d ticks
-min-waited : (x d l : ℕ) → min (min x l + d) l ≡ min (x + d) l
-min-waited x d l = omega arith
+min_waited : (x d l : ℕ) → min (min x l + d) l ≡ min (x + d) l
+min_waited x d l = omega arith
 
 module _ (m : Monitor) where
   written-waited : (d : ℕ) (c : List ℕ) → TwoClocks c → capped m (waited d (capped m c)) ≡ capped m (waited d c)
   unfolding capped
   written-waited d =
       of_two (λ c. capped m (waited d (capped m c)) ≡ capped m (waited d c))
-      (λ x y. ap₂ (λ (u v : ℕ). u ∷ v ∷ []) (min-waited x d (cap m 0)) (min-waited y d (cap m 1)))
+      (λ x y. ap₂ (λ (u v : ℕ). u ∷ v ∷ []) (min_waited x d (cap m 0)) (min_waited y d (cap m 1)))
 
   -- nor does it change what a guard answers (R-10)
-  pub same_answer : m.clocks ≤ 2 → (g : Guard) (v : ℕ) (c : List ℕ) → TwoClocks c → Closed m g → ((i : ℕ) → largest i g ≤ largestBound m i) → readiness g v (capped m c) ≡ readiness g v c
-  same_answer few g v c two k b =
+  pub same_answer_lem : m.clocks ≤ 2 → (g : Guard) (v : ℕ) (c : List ℕ) → TwoClocks c → Closed m g → ((i : ℕ) → largest i g ≤ largest_bound m i) → readiness g v (capped m c) ≡ readiness g v c
+  same_answer_lem few g v c two k b =
       same-readiness g v (capped m c) c (same-guard m few g v c k b)
       (λ d.
       sym (same-guard m few g v (waited d (capped m c)) k b)
@@ -106,7 +106,7 @@ module _ (m : Monitor) where
   unfolding capped reset
   reset-ticked mask =
       of_two (λ c. capped m (map (λ x. x + 1) (reset mask (capped m c))) ≡ capped m (map (λ x. x + 1) (reset mask c)))
-      (λ x y. ap₂ (λ (u v : ℕ). u ∷ v ∷ []) (min-ticked (eqb (mask % 2) 1) x (cap m 0)) (min-ticked (eqb (mask / 2 % 2) 1) y (cap m 1)))
+      (λ x y. ap₂ (λ (u v : ℕ). u ∷ v ∷ []) (min_ticked (eqb (mask % 2) 1) x (cap m 0)) (min_ticked (eqb (mask / 2 % 2) 1) y (cap m 1)))
 
   -- two outcomes of a move that are written alike after the tick
   abbrev Alike : Option Situation → Option Situation → Type 0
@@ -116,40 +116,40 @@ module _ (m : Monitor) where
   alike-cond true o r h = h
   alike-cond false o r h = refl
 
-  alike-bind : {A : Type 0} (a : Option A) (f g : A → Option Situation) → ((x : A) → Alike (f x) (g x)) → Alike (bind a f) (bind a g)
+  alike_bind : {A : Type 0} (a : Option A) (f g : A → Option Situation) → ((x : A) → Alike (f x) (g x)) → Alike (bind a f) (bind a g)
   unfolding bind
-  alike-bind none f g h = refl
-  alike-bind (some x) f g h = h x
+  alike_bind none f g h = refl
+  alike_bind (some x) f g h = h x
 
 module _ {m : Monitor} (sane : Sane m) (s : Situation) (two : TwoClocks s.clocks) where
   -- two outcomes of a transition that are written alike after the tick, whatever the window is then
   abbrev AlikeSent : (k window : ℕ) → (o r : Option Config) → Type 0
   AlikeSent k window o r = Alike m (Option.map (sending m k window) o) (Option.map (sending m k window) r)
 
-  alike-fired : (window j k : ℕ) (t : Transition) → get_elem? m.transitions j ≡ some t → AlikeSent k window (outcome m k (configOf (written m s)) t) (outcome m k (configOf s) t)
+  alike-fired : (window j k : ℕ) (t : Transition) → get_elem? m.transitions j ≡ some t → AlikeSent k window (outcome m k (config_of (written m s)) t) (outcome m k (config_of s) t)
   alike-fired window j k t e =
-      rw (same-guard m sane.clocks t.guard s.variables s.clocks (sane.transition j t e).closed (largest-listed m.transitions j t e)) (on (enabled t k (configOf s)))
+      rw (same-guard m sane.clocks t.guard s.variables s.clocks (sane.transition j t e).closed (largest-listed m.transitions j t e)) (on (enabled t k (config_of s)))
     where
-      on : (fits : Bool) → AlikeSent k window (cond fits (some (after m t (configOf (written m s)))) none) (cond fits (some (after m t (configOf s))) none)
+      on : (fits : Bool) → AlikeSent k window (cond fits (some (after m t (config_of (written m s)))) none) (cond fits (some (after m t (config_of s))) none)
       on true =
-          let u : Situation = tick uncapped (sending m k window (after m t (configOf s))) in
+          let u : Situation = tick uncapped (sending m k window (after m t (config_of s))) in
           ap {B = Option Situation} (λ (c : List ℕ). some (record { state = u.state; variables = u.variables; clocks = c; air = u.air; window = u.window })) (reset-ticked m t.resets s.clocks two)
       on false = refl
 
-  alike-air : (k window : ℕ) (o r : Option Config) → AlikeSent k window o r → Alike m (onAir m k (written m s) window o) (onAir m k s window r)
+  alike-air : (k window : ℕ) (o r : Option Config) → AlikeSent k window o r → Alike m (on_air m k (written m s) window o) (on_air m k s window r)
   alike-air k window o r = alike-cond m (eqb s.air 0) (Option.map (sending m k window) o) (Option.map (sending m k window) r)
 
   alike-sent : (guess : Bool) (j k : ℕ) → Alike m (sent m guess j k (written m s)) (sent m guess j k s)
-  unfolding sent withinRule fires bind
+  unfolding sent within_rule fires bind
   alike-sent guess j k =
-      alike-air k window (withinRule m s.window guess (fires m j k (configOf (written m s)))) (withinRule m s.window guess (fires m j k (configOf s)))
-      (within (allows m.rule s.window guess) (fires m j k (configOf (written m s))) (fires m j k (configOf s)) (on (get_elem? m.transitions j) (alike-fired window j k)))
+      alike-air k window (within_rule m s.window guess (fires m j k (config_of (written m s)))) (within_rule m s.window guess (fires m j k (config_of s)))
+      (within (allows m.rule s.window guess) (fires m j k (config_of (written m s))) (fires m j k (config_of s)) (on (get_elem? m.transitions j) (alike-fired window j k)))
     where
       window : ℕ
-      window = windowBehind m.rule s.window guess
+      window = window_behind m.rule s.window guess
 
-      on : (o : Option Transition) → ((t : Transition) → o ≡ some t → AlikeSent k window (outcome m k (configOf (written m s)) t) (outcome m k (configOf s) t))
-          → AlikeSent k window (bind o (outcome m k (configOf (written m s)))) (bind o (outcome m k (configOf s)))
+      on : (o : Option Transition) → ((t : Transition) → o ≡ some t → AlikeSent k window (outcome m k (config_of (written m s)) t) (outcome m k (config_of s) t))
+          → AlikeSent k window (bind o (outcome m k (config_of (written m s)))) (bind o (outcome m k (config_of s)))
       on none h = refl
       on (some t) h = h t refl
 
@@ -158,16 +158,16 @@ module _ {m : Monitor} (sane : Sane m) (s : Situation) (two : TwoClocks s.clocks
       within false o r h = refl
 
   -- the tick alone, whatever it leaves of the air
-  alike-rest : (air : ℕ) → Alike m (some (withAir (configOf (written m s)) air s.window)) (some (withAir (configOf s) air s.window))
+  alike-rest : (air : ℕ) → Alike m (some (with_air (config_of (written m s)) air s.window)) (some (with_air (config_of s) air s.window))
   alike-rest air =
       ap {B = Option Situation} (λ (c : List ℕ). some (record { state = s.state; variables = s.variables; clocks = c; air = air - 1; window = s.window }))
       (ticked m s.clocks two)
 
   alike-missed : (k : ℕ) → Alike m (missed m k (written m s)) (missed m k s)
   unfolding missed
-  alike-missed k = alike-air k s.window (cond (toUnit m k) (some (configOf (written m s))) none) (cond (toUnit m k) (some (configOf s)) none) (on (toUnit m k))
+  alike-missed k = alike-air k s.window (cond (to_unit m k) (some (config_of (written m s))) none) (cond (to_unit m k) (some (config_of s)) none) (on (to_unit m k))
     where
-      on : (b : Bool) → AlikeSent k s.window (cond b (some (configOf (written m s))) none) (cond b (some (configOf s)) none)
+      on : (b : Bool) → AlikeSent k s.window (cond b (some (config_of (written m s))) none) (cond b (some (config_of s)) none)
       on true = alike-rest (airtime m k + 1)
       on false = refl
 
@@ -175,19 +175,19 @@ module _ {m : Monitor} (sane : Sane m) (s : Situation) (two : TwoClocks s.clocks
   unfolding moved
   alike_moved none (keep j) = refl
   alike_moved none rest = alike-rest s.air
-  alike_moved none (add j) = alike-bind m (triggerOf m j) (λ k. sent m (isGuess m k) j k (written m s)) (λ k. sent m (isGuess m k) j k s) (λ k. alike-sent (isGuess m k) j k)
+  alike_moved none (add j) = alike_bind m (trigger_of m j) (λ k. sent m (is_guess m k) j k (written m s)) (λ k. sent m (is_guess m k) j k s) (λ k. alike-sent (is_guess m k) j k)
   alike_moved (some r) (keep j) = alike-sent false j r
   alike_moved (some r) rest = alike-missed r
   alike_moved (some r) (add j) = refl
 
-  pub capped-step : (recorded : Option ℕ) (a : Move) → stepBy m (capped m) recorded (written m s) a ≡ Option.map (written m) (stepBy m uncapped recorded s a)
-  unfolding stepBy
+  pub capped-step : (recorded : Option ℕ) (a : Move) → step_by m (capped m) recorded (written m s) a ≡ Option.map (written m) (step_by m uncapped recorded s a)
+  unfolding step_by
   capped-step = alike_moved
 
-  pub step-two-clocks : (recorded : Option ℕ) (a : Move) {x : Situation} → stepBy m uncapped recorded s a ≡ some x → TwoClocks x.clocks
+  pub step_two_clocks : (recorded : Option ℕ) (a : Move) {x : Situation} → step_by m uncapped recorded s a ≡ some x → TwoClocks x.clocks
   unfolding reset
-  step-two-clocks recorded a e =
-      every-step m uncapped s (λ x. TwoClocks x.clocks)
+  step_two_clocks recorded a e =
+      every_step m uncapped s (λ x. TwoClocks x.clocks)
       waited (λ k. waited)
       (λ guess j k t q. of_two (λ c. TwoClocks (map (λ x. x + 1) (reset t.resets c))) (λ x y. refl) s.clocks two)
       recorded a e
@@ -207,40 +207,40 @@ number_of m s = number m (written m s)
 
 module _ {m : Monitor} (sane : Sane m) (recording : List Packet) where
   -- the step on numbers is the step with real clocks
-  pub same_step : (t k : ℕ) (s : Situation) → TwoClocks s.clocks → InRange m (written m s) → stepNumber m recording t (number_of m s) k ≡ Option.map (number_of m) (stepBy m uncapped (recordedAt recording t) s (move_of k))
-  unfolding stepNumber
+  pub same_step : (t k : ℕ) (s : Situation) → TwoClocks s.clocks → InRange m (written m s) → step_number m recording t (number_of m s) k ≡ Option.map (number_of m) (step_by m uncapped (recorded_at recording t) s (move_of k))
+  unfolding step_number
   same_step t k s two r =
-      ap (λ (u : Situation). Option.map (number m) (stepBy m (capped m) (recordedAt recording t) u (move_of k))) (back r)
-      ∙ ap (Option.map (number m)) (capped-step sane s two (recordedAt recording t) (move_of k))
-      ∙ map-map (written m) (number m) (stepBy m uncapped (recordedAt recording t) s (move_of k))
+      ap (λ (u : Situation). Option.map (number m) (step_by m (capped m) (recorded_at recording t) u (move_of k))) (back r)
+      ∙ ap (Option.map (number m)) (capped-step sane s two (recorded_at recording t) (move_of k))
+      ∙ map-map (written m) (number m) (step_by m uncapped (recorded_at recording t) s (move_of k))
 
   -- and what it leads to is in range when written
-  pub step-written : (t k : ℕ) (s x : Situation) → TwoClocks s.clocks → InRange m (written m s) → stepBy m uncapped (recordedAt recording t) s (move_of k) ≡ some x → InRange m (written m x)
+  pub step-written : (t k : ℕ) (s x : Situation) → TwoClocks s.clocks → InRange m (written m s) → step_by m uncapped (recorded_at recording t) s (move_of k) ≡ some x → InRange m (written m x)
   step-written t k s x two r e =
-      step-in-range sane (recordedAt recording t) (move_of k) r (capped-step sane s two (recordedAt recording t) (move_of k) ∙ ap (Option.map (written m)) e)
+      step_in_range sane (recorded_at recording t) (move_of k) r (capped-step sane s two (recorded_at recording t) (move_of k) ∙ ap (Option.map (written m)) e)
 
-  pub on-numbers : (ks : List ℕ) (t : ℕ) (s z : Situation) → TwoClocks s.clocks → InRange m (written m s) → Moves m recording t s ks z → Leads (size m) moveLimit (stepNumber m recording) t (number_of m s) ks (number_of m z)
-  on-numbers [] t s z two r e = ap (number_of m) e
-  on-numbers (k ∷ ks) t s z two r (x, few, e, more) =
+  pub on_numbers : (ks : List ℕ) (t : ℕ) (s z : Situation) → TwoClocks s.clocks → InRange m (written m s) → Moves m recording t s ks z → Leads (size m) move_limit (step_number m recording) t (number_of m s) ks (number_of m z)
+  on_numbers [] t s z two r e = ap (number_of m) e
+  on_numbers (k ∷ ks) t s z two r (x, few, e, more) =
       let q : InRange m (written m x) = step-written (suc t) k s x two r e in (
         number_of m x,
         few,
         same_step (suc t) k s two r ∙ ap (Option.map (number_of m)) e,
         number-below q,
-        on-numbers ks (suc t) x z (step-two-clocks sane s two _ _ e) q more,
+        on_numbers ks (suc t) x z (step_two_clocks sane s two _ _ e) q more,
       )
 
-  pub with-clocks : (ks : List ℕ) (t : ℕ) (s : Situation) (z : ℕ) → TwoClocks s.clocks → InRange m (written m s) → Leads (size m) moveLimit (stepNumber m recording) t (number_of m s) ks z → (y : Situation) × Moves m recording t s ks y × (number_of m y ≡ z)
-  with-clocks [] t s z two r e = (s, refl, e)
-  with-clocks (k ∷ ks) t s z two r (n, few, e, below, more) =
-      let (x, found, same) = (map-eq-some_iff (number_of m) (stepBy m uncapped (recordedAt recording (suc t)) s (move_of k))).0 (sym (same_step (suc t) k s two r) ∙ e) in
+  pub with_clocks : (ks : List ℕ) (t : ℕ) (s : Situation) (z : ℕ) → TwoClocks s.clocks → InRange m (written m s) → Leads (size m) move_limit (step_number m recording) t (number_of m s) ks z → (y : Situation) × Moves m recording t s ks y × (number_of m y ≡ z)
+  with_clocks [] t s z two r e = (s, refl, e)
+  with_clocks (k ∷ ks) t s z two r (n, few, e, below, more) =
+      let (x, found, same) = (map-eq-some_iff (number_of m) (step_by m uncapped (recorded_at recording (suc t)) s (move_of k))).0 (sym (same_step (suc t) k s two r) ∙ e) in
       let (y, moves, last) =
-      with-clocks ks (suc t) x z (step-two-clocks sane s two _ _ found) (step-written (suc t) k s x two r found)
-      (subst (λ (i : ℕ). Leads (size m) moveLimit (stepNumber m recording) (suc t) i ks z) (sym same) more) in
+      with_clocks ks (suc t) x z (step_two_clocks sane s two _ _ found) (step-written (suc t) k s x two r found)
+      (subst (λ (i : ℕ). Leads (size m) move_limit (step_number m recording) (suc t) i ks z) (sym same) more) in
       (y, (x, few, found, moves), last)
 
-  pub same-moves : (ks : List ℕ) → ((z : ℕ) × Leads (size m) moveLimit (stepNumber m recording) 0 (firstNumber m) ks z) ↔ ((z : Situation) × Moves m recording 0 (firstBy uncapped) ks z)
+  pub same-moves : (ks : List ℕ) → ((z : ℕ) × Leads (size m) move_limit (step_number m recording) 0 (first_number m) ks z) ↔ ((z : Situation) × Moves m recording 0 (first_by uncapped) ks z)
   same-moves ks = (
-    λ h. let (y, moves, last) = with-clocks ks 0 (firstBy uncapped) h.0 refl (first-in-range sane) h.1 in (y, moves),
-    λ h. (number_of m h.0, on-numbers ks 0 (firstBy uncapped) h.0 refl (first-in-range sane) h.1),
+    λ h. let (y, moves, last) = with_clocks ks 0 (first_by uncapped) h.0 refl (first_in_range sane) h.1 in (y, moves),
+    λ h. (number_of m h.0, on_numbers ks 0 (first_by uncapped) h.0 refl (first_in_range sane) h.1),
   )

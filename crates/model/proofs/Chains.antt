@@ -6,7 +6,7 @@ use mathlib.Core.Logic.{◌⊎◌}
 use mathlib.Core.Option.{Option, some}
 use Rattle.model.specs.Monitor.{Monitor}
 use Rattle.model.specs.Trace.{Packet}
-use Rattle.model.specs.Situation.{move_of, moveLimit, stepBy, uncapped, recordedAt}
+use Rattle.model.specs.Situation.{move_of, move_limit, step_by, uncapped, recorded_at}
 use Rattle.model.specs.declared.Situation.{Situation}
 
 module _ (N K : ℕ) (step : ℕ → ℕ → ℕ → Option ℕ) where
@@ -19,7 +19,7 @@ module _ (N K : ℕ) (step : ℕ → ℕ → ℕ → Option ℕ) where
 abbrev pub Moves : Monitor → List Packet → ℕ → Situation → List ℕ → Situation → Type 0
 Moves m recording t s [] z = s ≡ z
 Moves m recording t s (k ∷ ks) z =
-    (x : Situation) × (k < moveLimit) × (stepBy m uncapped (recordedAt recording (suc t)) s (move_of k) ≡ some x) × Moves m recording (suc t) x ks z
+    (x : Situation) × (k < move_limit) × (step_by m uncapped (recorded_at recording (suc t)) s (move_of k) ≡ some x) × Moves m recording (suc t) x ks z
 
 -- two lists of moves: the first comes before the second where they first differ
 abbrev pub Less : List ℕ → List ℕ → Type 0

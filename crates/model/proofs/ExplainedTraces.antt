@@ -9,34 +9,34 @@ use mathlib.Core.Logic.{◌↔◌, ◌⊎◌, inl, inr, ⊎_elim}
 use lib.Dec.{eqb}
 use borrow.Author.Tests.{eqb-true, eq-eqb, ne_eqb}
 use Rattle.model.specs.Rule.{KeepsRule}
-use Rattle.model.specs.Monitor.{Monitor, Config, start, toUnit, isGuess}
-use Rattle.model.specs.Trace.{Packet, Carries, Possible, isRecorded, guessesIn, PossibleUnder}
-use Rattle.model.specs.Witness.{Row, removed, added, isRemoved}
-use Rattle.model.specs.Claims.{packetOf, heard, sentRows, packets, CarriedBy, Explains, guesses, ExplainsUnder}
-use Rattle.model.proofs.Spacing.{freeAfter, TraceFrom, trace-from, from-earlier, spaced-from}
+use Rattle.model.specs.Monitor.{Monitor, Config, start, to_unit, is_guess}
+use Rattle.model.specs.Trace.{Packet, Carries, Possible, is_recorded, guesses_in, PossibleUnder}
+use Rattle.model.specs.Witness.{Row, removed, added, is_removed}
+use Rattle.model.specs.Claims.{packet_of, heard, sent_rows, packets, CarriedBy, Explains, guesses, ExplainsUnder}
+use Rattle.model.proofs.Spacing.{free_after, TraceFrom, trace-from, from_earlier, spaced-from}
 
-carried-carries : (m : Monitor) (now : ℕ) (c : Config) (rows : List Row) → CarriedBy m now c rows → Carries m now c (packets rows)
+carried_carries : (m : Monitor) (now : ℕ) (c : Config) (rows : List Row) → CarriedBy m now c rows → Carries m now c (packets rows)
 unfolding packets
-carried-carries m now c [] h = tt
-carried-carries m now c (r ∷ rs) h = (r.transition, h.0, h.1, carried-carries m r.time h.0 rs h.2)
+carried_carries m now c [] h = tt
+carried_carries m now c (r ∷ rs) h = (r.transition, h.0, h.1, carried_carries m r.time h.0 rs h.2)
 
 -- a recorded packet is sent, or its row is removed
 abbrev SentOrRemoved : Packet → List Row → Type 0
-SentOrRemoved p rows = Memᴰ p (packets (sentRows rows)) ⊎ ((r : Row) × Memᴰ r rows × (r.mark ≡ removed) × (r.kind ≡ p.kind))
+SentOrRemoved p rows = Memᴰ p (packets (sent_rows rows)) ⊎ ((r : Row) × Memᴰ r rows × (r.mark ≡ removed) × (r.kind ≡ p.kind))
 
-heard-cases : (rows : List Row) (p : Packet) → Memᴰ p (heard rows) → SentOrRemoved p rows
-unfolding heard sentRows packets
-heard-cases [] p l = absurd (Memᴰ.not-nil l)
-heard-cases (r ∷ rs) p l = ⊎_elim (here (isRemoved r) refl) (λ h. behind (isRemoved r) (heard-cases rs p h)) (where-heard (eqb r.mark added) l)
+heard_cases : (rows : List Row) (p : Packet) → Memᴰ p (heard rows) → SentOrRemoved p rows
+unfolding heard sent_rows packets
+heard_cases [] p l = absurd (Memᴰ.not-nil l)
+heard_cases (r ∷ rs) p l = ⊎_elim (here (is_removed r) refl) (λ h. behind (is_removed r) (heard_cases rs p h)) (where-heard (eqb r.mark added) l)
   where
-    where-heard : (t : Bool) → Memᴰ p (cond t (heard rs) (packetOf r ∷ heard rs)) → (p ≡ packetOf r) ⊎ Memᴰ p (heard rs)
+    where-heard : (t : Bool) → Memᴰ p (cond t (heard rs) (packet_of r ∷ heard rs)) → (p ≡ packet_of r) ⊎ Memᴰ p (heard rs)
     where-heard true h = inr h
     where-heard false h = Memᴰ.cases_cons h
 
     after : Bool → Type 0
-    after t = Memᴰ p (packets (cond t (sentRows rs) (r ∷ sentRows rs))) ⊎ ((s : Row) × Memᴰ s (r ∷ rs) × (s.mark ≡ removed) × (s.kind ≡ p.kind))
+    after t = Memᴰ p (packets (cond t (sent_rows rs) (r ∷ sent_rows rs))) ⊎ ((s : Row) × Memᴰ s (r ∷ rs) × (s.mark ≡ removed) × (s.kind ≡ p.kind))
 
-    here : (t : Bool) → isRemoved r ≡ t → p ≡ packetOf r → after t
+    here : (t : Bool) → is_removed r ≡ t → p ≡ packet_of r → after t
     here true e h = inr (r, Memᴰ.head refl, eqb-true r.mark removed e, ap (λ (q : Packet). q.kind) (sym h))
     here false e h = inl (Memᴰ.head h)
 
@@ -47,30 +47,30 @@ heard-cases (r ∷ rs) p l = ⊎_elim (here (isRemoved r) refl) (λ h. behind (i
 
 -- the kept and added rows alone are a packet trace too
 
-sent-from : (m : Monitor) (n : ℕ) (rows : List Row) → TraceFrom m n (packets rows) → TraceFrom m n (packets (sentRows rows))
-unfolding sentRows packets
+sent-from : (m : Monitor) (n : ℕ) (rows : List Row) → TraceFrom m n (packets rows) → TraceFrom m n (packets (sent_rows rows))
+unfolding sent_rows packets
 sent-from m n [] x = tt
-sent-from m n (r ∷ rs) x = go (isRemoved r) (sent-from m (freeAfter m (packetOf r)) rs ((spaced-from m (packetOf r) (packets rs)).0 x.1))
+sent-from m n (r ∷ rs) x = go (is_removed r) (sent-from m (free_after m (packet_of r)) rs ((spaced-from m (packet_of r) (packets rs)).0 x.1))
   where
-    go : (t : Bool) → TraceFrom m (freeAfter m (packetOf r)) (packets (sentRows rs)) → TraceFrom m n (packets (cond t (sentRows rs) (r ∷ sentRows rs)))
-    go true y = from-earlier m (freeAfter m (packetOf r)) n (packets (sentRows rs)) (omega (arith, x.0)) y
-    go false y = (x.0, (spaced-from m (packetOf r) (packets (sentRows rs))).1 y)
+    go : (t : Bool) → TraceFrom m (free_after m (packet_of r)) (packets (sent_rows rs)) → TraceFrom m n (packets (cond t (sent_rows rs) (r ∷ sent_rows rs)))
+    go true y = from_earlier m (free_after m (packet_of r)) n (packets (sent_rows rs)) (omega (arith, x.0)) y
+    go false y = (x.0, (spaced-from m (packet_of r) (packets (sent_rows rs))).1 y)
 
 -- a row is recorded or sent, and what is recorded or sent is a row
 
 abbrev HeardOrSent : Packet → List Row → Type 0
-HeardOrSent p rows = Memᴰ p (heard rows) ⊎ Memᴰ p (packets (sentRows rows))
+HeardOrSent p rows = Memᴰ p (heard rows) ⊎ Memᴰ p (packets (sent_rows rows))
 
-row-cases : (rows : List Row) (p : Packet) → Memᴰ p (packets rows) → HeardOrSent p rows
-unfolding heard sentRows packets
-row-cases [] p l = absurd (Memᴰ.not-nil l)
-row-cases (r ∷ rs) p l =
-    ⊎_elim (here (eqb r.mark added) (isRemoved r) refl refl) (λ h. behind (eqb r.mark added) (isRemoved r) (row-cases rs p h)) (Memᴰ.cases_cons l)
+row_cases : (rows : List Row) (p : Packet) → Memᴰ p (packets rows) → HeardOrSent p rows
+unfolding heard sent_rows packets
+row_cases [] p l = absurd (Memᴰ.not-nil l)
+row_cases (r ∷ rs) p l =
+    ⊎_elim (here (eqb r.mark added) (is_removed r) refl refl) (λ h. behind (eqb r.mark added) (is_removed r) (row_cases rs p h)) (Memᴰ.cases_cons l)
   where
     after : Bool → Bool → Type 0
-    after a b = Memᴰ p (cond a (heard rs) (packetOf r ∷ heard rs)) ⊎ Memᴰ p (packets (cond b (sentRows rs) (r ∷ sentRows rs)))
+    after a b = Memᴰ p (cond a (heard rs) (packet_of r ∷ heard rs)) ⊎ Memᴰ p (packets (cond b (sent_rows rs) (r ∷ sent_rows rs)))
 
-    here : (a b : Bool) → eqb r.mark added ≡ a → isRemoved r ≡ b → p ≡ packetOf r → after a b
+    here : (a b : Bool) → eqb r.mark added ≡ a → is_removed r ≡ b → p ≡ packet_of r → after a b
     here true true e f h = let x : r.mark ≡ added = eqb-true r.mark added e in let y : r.mark ≡ removed = eqb-true r.mark removed f in absurd (omega arith)
     here true false e f h = inr (Memᴰ.head h)
     here false b e f h = inl (Memᴰ.head h)
@@ -88,93 +88,93 @@ among false p q part all again h = ⊎_elim (λ e. Memᴰ.head e) (λ i. Memᴰ.
 heard-row : (rows : List Row) (p : Packet) → Memᴰ p (heard rows) → Memᴰ p (packets rows)
 unfolding heard packets
 heard-row [] p l = l
-heard-row (r ∷ rs) p l = among (eqb r.mark added) p (packetOf r) (heard rs) (packets rs) (heard-row rs p) l
+heard-row (r ∷ rs) p l = among (eqb r.mark added) p (packet_of r) (heard rs) (packets rs) (heard-row rs p) l
 
-sent-row : (rows : List Row) (p : Packet) → Memᴰ p (packets (sentRows rows)) → Memᴰ p (packets rows)
-unfolding sentRows packets
+sent-row : (rows : List Row) (p : Packet) → Memᴰ p (packets (sent_rows rows)) → Memᴰ p (packets rows)
+unfolding sent_rows packets
 sent-row [] p l = l
-sent-row (r ∷ rs) p l = among (isRemoved r) p (packetOf r) (packets (sentRows rs)) (packets rs) (sent-row rs p) (subst (Memᴰ p) (go (isRemoved r)) l)
+sent-row (r ∷ rs) p l = among (is_removed r) p (packet_of r) (packets (sent_rows rs)) (packets rs) (sent-row rs p) (subst (Memᴰ p) (go (is_removed r)) l)
   where
-    go : (away : Bool) → packets (cond away (sentRows rs) (r ∷ sentRows rs)) ≡ cond away (packets (sentRows rs)) (packetOf r ∷ packets (sentRows rs))
+    go : (away : Bool) → packets (cond away (sent_rows rs) (r ∷ sent_rows rs)) ≡ cond away (packets (sent_rows rs)) (packet_of r ∷ packets (sent_rows rs))
     go true = refl
     go false = refl
 
 pub explains-possible : (m : Monitor) (recording : List Packet) (rows : List Row) → Explains m recording rows → Possible m recording
 explains-possible m recording rows x =
     record {
-      trace = packets (sentRows rows);
-      spaced = (trace-from m (packets (sentRows rows))).1 (sent-from m 1 rows ((trace-from m (packets rows)).0 x.spaced));
+      trace = packets (sent_rows rows);
+      spaced = (trace-from m (packets (sent_rows rows))).1 (sent-from m 1 rows ((trace-from m (packets rows)).0 x.spaced));
       mutation =
           λ p l away.
-          ⊎_elim (λ h. absurd (away h)) (λ h. ap (toUnit m) (sym h.3) ∙ x.inbound h.0 h.1 h.2)
-          (heard-cases rows p (subst (λ (k : List Packet). Memᴰ p k) (sym x.accounts) l));
+          ⊎_elim (λ h. absurd (away h)) (λ h. ap (to_unit m) (sym h.3) ∙ x.inbound h.0 h.1 h.2)
+          (heard_cases rows p (subst (λ (k : List Packet). Memᴰ p k) (sym x.accounts) l));
       together =
           record {
             all = packets rows;
             spaced = x.spaced;
             entries =
                 λ p.
-                subst (λ (k : List Packet). Memᴰ p (packets rows) ↔ (Memᴰ p k ⊎ Memᴰ p (packets (sentRows rows)))) x.accounts
-                (row-cases rows p, ⊎_elim (heard-row rows p) (sent-row rows p));
+                subst (λ (k : List Packet). Memᴰ p (packets rows) ↔ (Memᴰ p k ⊎ Memᴰ p (packets (sent_rows rows)))) x.accounts
+                (row_cases rows p, ⊎_elim (heard-row rows p) (sent-row rows p));
           };
-      satisfied = carried-carries m 0 start (sentRows rows) x.carried;
+      satisfied = carried_carries m 0 start (sent_rows rows) x.carried;
     }
 
 -- under a rule: a sent row is a guess exactly if its entry of the trace is one, since an added row is not recorded, and any other is
 
 -- no packet before the rows is among those recorded
-none-recorded : (m : Monitor) (n : ℕ) (rows : List Row) (p : Packet) → TraceFrom m n (packets rows) → p.time < n → isRecorded (heard rows) p ≡ false
-unfolding heard packets isRecorded
-none-recorded m n [] p x h = refl
-none-recorded m n (r ∷ rs) p x h =
-    go (eqb r.mark added) (none-recorded m (freeAfter m (packetOf r)) rs p ((spaced-from m (packetOf r) (packets rs)).0 x.1) (omega (arith, x.0)))
+none_recorded : (m : Monitor) (n : ℕ) (rows : List Row) (p : Packet) → TraceFrom m n (packets rows) → p.time < n → is_recorded (heard rows) p ≡ false
+unfolding heard packets is_recorded
+none_recorded m n [] p x h = refl
+none_recorded m n (r ∷ rs) p x h =
+    go (eqb r.mark added) (none_recorded m (free_after m (packet_of r)) rs p ((spaced-from m (packet_of r) (packets rs)).0 x.1) (omega (arith, x.0)))
   where
-    go : (t : Bool) → isRecorded (heard rs) p ≡ false → isRecorded (cond t (heard rs) (packetOf r ∷ heard rs)) p ≡ false
+    go : (t : Bool) → is_recorded (heard rs) p ≡ false → is_recorded (cond t (heard rs) (packet_of r ∷ heard rs)) p ≡ false
     go true e = e
     go false e = rw (ne_eqb r.time p.time (omega (arith, x.0))) e
 
 -- what is recorded from an instant on is what the rows from there on were heard as
 abbrev HeardFrom : (n : ℕ) → (recording : List Packet) → List Row → Type 0
-HeardFrom n recording rows = (p : Packet) → n ≤ p.time → isRecorded recording p ≡ isRecorded (heard rows) p
+HeardFrom n recording rows = (p : Packet) → n ≤ p.time → is_recorded recording p ≡ is_recorded (heard rows) p
 
 same-guesses : (m : Monitor) (recording : List Packet) (n : ℕ) (rows : List Row) → TraceFrom m n (packets rows) → HeardFrom n recording rows
-    → guessesIn m recording (packets (sentRows rows)) ≡ guesses m (sentRows rows)
-unfolding heard sentRows packets guesses guessesIn isRecorded
+    → guesses_in m recording (packets (sent_rows rows)) ≡ guesses m (sent_rows rows)
+unfolding heard sent_rows packets guesses guesses_in is_recorded
 same-guesses m recording n [] x h = refl
-same-guesses m recording n (r ∷ rs) x h = go (isRemoved r) refl (same-guesses m recording (freeAfter m (packetOf r)) rs after later)
+same-guesses m recording n (r ∷ rs) x h = go (is_removed r) refl (same-guesses m recording (free_after m (packet_of r)) rs after later)
   where
-    after : TraceFrom m (freeAfter m (packetOf r)) (packets rs)
-    after = (spaced-from m (packetOf r) (packets rs)).0 x.1
+    after : TraceFrom m (free_after m (packet_of r)) (packets rs)
+    after = (spaced-from m (packet_of r) (packets rs)).0 x.1
 
-    later : HeardFrom (freeAfter m (packetOf r)) recording rs
+    later : HeardFrom (free_after m (packet_of r)) recording rs
     later p l = h p (omega (arith, x.0)) ∙ on (eqb r.mark added)
       where
-        on : (t : Bool) → isRecorded (cond t (heard rs) (packetOf r ∷ heard rs)) p ≡ isRecorded (heard rs) p
+        on : (t : Bool) → is_recorded (cond t (heard rs) (packet_of r ∷ heard rs)) p ≡ is_recorded (heard rs) p
         on true = refl
         on false = rw (ne_eqb r.time p.time (omega arith))
 
     -- the row itself
-    here : (t : Bool) → eqb r.mark added ≡ t → isRemoved r ≡ false → not (isRecorded recording (packetOf r)) ≡ t
-    here t e f = ap not (h (packetOf r) x.0) ∙ on t e
+    here : (t : Bool) → eqb r.mark added ≡ t → is_removed r ≡ false → not (is_recorded recording (packet_of r)) ≡ t
+    here t e f = ap not (h (packet_of r) x.0) ∙ on t e
       where
-        on : (t : Bool) → eqb r.mark added ≡ t → not (isRecorded (cond (eqb r.mark added) (heard rs) (packetOf r ∷ heard rs)) (packetOf r)) ≡ t
-        on true e = rw e (ap not (none-recorded m (freeAfter m (packetOf r)) rs (packetOf r) after (omega arith)))
+        on : (t : Bool) → eqb r.mark added ≡ t → not (is_recorded (cond (eqb r.mark added) (heard rs) (packet_of r ∷ heard rs)) (packet_of r)) ≡ t
+        on true e = rw e (ap not (none_recorded m (free_after m (packet_of r)) rs (packet_of r) after (omega arith)))
         on false e = rw (e, eq-eqb r.time r.time refl, eq-eqb r.kind r.kind refl)
 
-    go : (away : Bool) → isRemoved r ≡ away → guessesIn m recording (packets (sentRows rs)) ≡ guesses m (sentRows rs)
-        → guessesIn m recording (packets (cond away (sentRows rs) (r ∷ sentRows rs))) ≡ guesses m (cond away (sentRows rs) (r ∷ sentRows rs))
+    go : (away : Bool) → is_removed r ≡ away → guesses_in m recording (packets (sent_rows rs)) ≡ guesses m (sent_rows rs)
+        → guesses_in m recording (packets (cond away (sent_rows rs) (r ∷ sent_rows rs))) ≡ guesses m (cond away (sent_rows rs) (r ∷ sent_rows rs))
     go true e again = again
-    go false e again = λ i. (here (eqb r.mark added) refl e i && isGuess m r.kind) ∷ again i
+    go false e again = λ i. (here (eqb r.mark added) refl e i && is_guess m r.kind) ∷ again i
 
-pub explains-possible-under : (m : Monitor) (recording : List Packet) (rows : List Row) → ExplainsUnder m recording rows → PossibleUnder m recording
+pub explains_possible_under : (m : Monitor) (recording : List Packet) (rows : List Row) → ExplainsUnder m recording rows → PossibleUnder m recording
 unfolding explains-possible packets
-explains-possible-under m recording rows x =
+explains_possible_under m recording rows x =
     record {
       possible = explains-possible m recording rows x.explains;
       keeps = subst (KeepsRule m.rule) (sym same) x.keeps;
     }
   where
-    same : guessesIn m recording (packets (sentRows rows)) ≡ guesses m (sentRows rows)
+    same : guesses_in m recording (packets (sent_rows rows)) ≡ guesses m (sent_rows rows)
     same =
         same-guesses m recording 1 rows ((trace-from m (packets rows)).0 x.explains.spaced)
-        (λ p l. ap (λ (l : List Packet). isRecorded l p) (sym x.explains.accounts))
+        (λ p l. ap (λ (l : List Packet). is_recorded l p) (sym x.explains.accounts))

@@ -10,15 +10,15 @@ use mathlib.Core.Logic.{◌↔◌}
 use lib.ListN.{take}
 use lib.Dec.{leb, eqb}
 use borrow.Author.Tests.{ne_eqb}
-use Rattle.model.specs.Rule.{noRule, KeepsRule, windowBehind, allows}
-use Rattle.model.specs.Monitor.{Monitor, Config, under, fires, toUnit, withinRule}
+use Rattle.model.specs.Rule.{no_rule, KeepsRule, window_behind, allows}
+use Rattle.model.specs.Monitor.{Monitor, Config, under, fires, to_unit, within_rule}
 use Rattle.model.specs.Trace.{Packet}
-use Rattle.model.specs.Witness.{Row, kept, removed, isRemoved, inPlace, marked}
-use Rattle.model.specs.Rules.{Progress, begin, noneBefore, isNext, noneAt, others, guessed, sends, removes, keeps, adds, account, broken}
-use Rattle.model.specs.Claims.{sentRows, guesses, FirstBreaks}
+use Rattle.model.specs.Witness.{Row, kept, removed, is_removed, in_place, marked}
+use Rattle.model.specs.Rules.{Progress, begin, none_before, is_next, none_at, others, guessed, sends, removes, keeps, adds, account, broken}
+use Rattle.model.specs.Claims.{sent_rows, guesses, FirstBreaks}
 use Rattle.model.specs.declared.Edition.{Edition}
-use Rattle.model.proofs.RowLaws.{byMark, behindSent, sends-fires, first-row}
-use Rattle.model.proofs.RuleLaws.{Keeping, row-by-row}
+use Rattle.model.proofs.RowLaws.{by_mark, behind_sent, sends-fires, first-row}
+use Rattle.model.proofs.RuleLaws.{Keeping, row_by_row}
 
 -- the same progress, but for the window
 abbrev at : Progress → ℕ → Progress
@@ -31,50 +31,50 @@ through false {a = a} f e = absurd (none-ne-some a e)
 
 module _ (m : Monitor) where
   -- the window behind a kept or added row, none if the rule forbids the row ..
-  abbrev behindAllowed : ℕ → Row → Option ℕ
-  behindAllowed w r = cond (allows m.rule w (guessed m r)) (some (windowBehind m.rule w (guessed m r))) none
+  abbrev behind_allowed : ℕ → Row → Option ℕ
+  behind_allowed w r = cond (allows m.rule w (guessed m r)) (some (window_behind m.rule w (guessed m r))) none
 
   -- .. and behind any row
   abbrev behind : ℕ → Row → Option ℕ
-  behind w r = cond (isRemoved r) (some w) (behindAllowed w r)
+  behind w r = cond (is_removed r) (some w) (behind_allowed w r)
 
   -- one row that breaks no other rule: the rule decides, and what it leads to differs in the window alone
 
-  sends-behind : (q p : Progress) (w : ℕ) (r : Row) (left : List Packet) → sends (under noRule m) q r left ≡ some p
-      → sends m (at q w) r left ≡ map (at p) (behindAllowed w r)
-  unfolding sends withinRule fires
+  sends-behind : (q p : Progress) (w : ℕ) (r : Row) (left : List Packet) → sends (under no_rule m) q r left ≡ some p
+      → sends m (at q w) r left ≡ map (at p) (behind_allowed w r)
+  unfolding sends within_rule fires
   sends-behind q p w r left e =
-      let (c, f, same, _) = sends-fires (under noRule m) q r left p e in
+      let (c, f, same, _) = sends-fires (under no_rule m) q r left p e in
       rw f (go c same (allows m.rule w (guessed m r)))
     where
       v : ℕ
-      v = windowBehind m.rule w (guessed m r)
+      v = window_behind m.rule w (guessed m r)
 
-      go : (c : Config) → behindSent (under noRule m) q r left c ≡ p → (a : Bool)
-          → map (behindSent m (at q w) r left) (cond a (some c) none) ≡ map (at p) (cond a (some v) none)
+      go : (c : Config) → behind_sent (under no_rule m) q r left c ≡ p → (a : Bool)
+          → map (behind_sent m (at q w) r left) (cond a (some c) none) ≡ map (at p) (cond a (some v) none)
       go c same true = ap (λ (x : Progress). some (at x v)) same
       go c same false = refl
 
-  mark-behind : (mark t k j : ℕ) (q p : Progress) (w : ℕ) → byMark (under noRule m) q (marked mark t k j) ≡ some p
-      → byMark m (at q w) (marked mark t k j) ≡ map (at p) (behind w (marked mark t k j))
+  mark-behind : (mark t k j : ℕ) (q p : Progress) (w : ℕ) → by_mark (under no_rule m) q (marked mark t k j) ≡ some p
+      → by_mark m (at q w) (marked mark t k j) ≡ map (at p) (behind w (marked mark t k j))
   unfolding keeps removes adds
-  mark-behind zero t k j q p w = let r : Row = marked 0 t k j in through (isNext q.left r) (sends-behind q p w r (others q.left))
-  mark-behind (suc zero) t k j q p w = through (isNext q.left (marked 1 t k j) && toUnit m k) (ap (map (λ (x : Progress). at x w)))
+  mark-behind zero t k j q p w = let r : Row = marked 0 t k j in through (is_next q.left r) (sends-behind q p w r (others q.left))
+  mark-behind (suc zero) t k j q p w = through (is_next q.left (marked 1 t k j) && to_unit m k) (ap (map (λ (x : Progress). at x w)))
   mark-behind (suc (suc n)) t k j q p w =
       let other : (i : ℕ) → i ≤ 1 → eqb (suc (suc n)) i ≡ false = λ i h. ne_eqb (suc (suc n)) i (λ e. omega arith) in
       rw (other kept (omega arith), other removed (omega arith))
-      (through (noneAt q.left t) (sends-behind q p w (marked (suc (suc n)) t k j) q.left))
+      (through (none_at q.left t) (sends-behind q p w (marked (suc (suc n)) t k j) q.left))
 
-  account-behind : (edition : Edition) (q p : Progress) (w : ℕ) (r : Row) → account edition (under noRule m) q r ≡ some p
+  account-behind : (edition : Edition) (q p : Progress) (w : ℕ) (r : Row) → account edition (under no_rule m) q r ≡ some p
       → account edition m (at q w) r ≡ map (at p) (behind w r)
   unfolding account
   account-behind edition q p w r =
-      through (inPlace edition q.before r && noneBefore q.left r.time && leb q.free r.time)
+      through (in_place edition q.before r && none_before q.left r.time && leb q.free r.time)
       (mark-behind r.mark r.time r.kind r.transition q p w)
 
   -- the kept and added rows keep the rule behind those of a mask
   abbrev Kept : ℕ → List Row → Type 0
-  Kept w rows = Keeping m.rule w (guesses m (sentRows rows))
+  Kept w rows = Keeping m.rule w (guesses m (sent_rows rows))
 
   -- the same of rows behind one more, which the rule may forbid
   abbrev KeptBehind : Option ℕ → List Row → Type 0
@@ -82,12 +82,12 @@ module _ (m : Monitor) where
   KeptBehind (some w) rows = Kept w rows
 
   kept_cons : (w : ℕ) (r : Row) (rows : List Row) → Kept w (r ∷ rows) ↔ KeptBehind (behind w r) rows
-  unfolding sentRows guesses
-  kept_cons w r rows = go (isRemoved r) (allows m.rule w (guessed m r)) refl
+  unfolding sent_rows guesses
+  kept_cons w r rows = go (is_removed r) (allows m.rule w (guessed m r)) refl
     where
       go : (b a : Bool) → allows m.rule w (guessed m r) ≡ a
-          → Keeping m.rule w (guesses m (cond b (sentRows rows) (r ∷ sentRows rows)))
-          ↔ KeptBehind (cond b (some w) (cond a (some (windowBehind m.rule w (guessed m r))) none)) rows
+          → Keeping m.rule w (guesses m (cond b (sent_rows rows) (r ∷ sent_rows rows)))
+          ↔ KeptBehind (cond b (some w) (cond a (some (window_behind m.rule w (guessed m r))) none)) rows
       go true a e = (λ k. k, λ k. k)
       go false true e = (λ k. k.1, λ k. (e, k))
       go false false e = (λ k. false≢true (sym e ∙ k.0), λ k. absurd k)
@@ -96,12 +96,12 @@ module _ (m : Monitor) where
   abbrev Over : ℕ → ℕ → List Row → ℕ → Type 0
   Over w n rows j = (i : ℕ) × (j ≡ i + n) × Kept w (take i rows) × (Kept w (take (suc i) rows) → ⊥)
 
-  first-over : (edition : Edition) (rows : List Row) (q : Progress) (w n j : ℕ) → broken edition (under noRule m) q n rows ≡ none
+  first-over : (edition : Edition) (rows : List Row) (q : Progress) (w n j : ℕ) → broken edition (under no_rule m) q n rows ≡ none
       → (broken edition m (at q w) n rows ≡ some j) ↔ Over w n rows j
-  unfolding broken sentRows guesses
+  unfolding broken sent_rows guesses
   first-over edition [] q w n j e = (λ h. absurd (none-ne-some j (sym e ∙ h)), λ (i, _, _, h). absurd (h tt))
   first-over edition (r ∷ rs) q w n j e =
-      let (p, a, u) = first-row edition (under noRule m) q n r rs e in
+      let (p, a, u) = first-row edition (under no_rule m) q n r rs e in
       rw (account-behind edition q p w r a, broken) (go p (behind w r) (kept_cons w r) (λ v. first-over edition rs p v (suc n) j u))
     where
       go : (p : Progress) (o : Option ℕ) → ((rows : List Row) → Kept w (r ∷ rows) ↔ KeptBehind o rows)
@@ -123,10 +123,10 @@ module _ (m : Monitor) where
           from (zero, _, _, o) = absurd (o ((each []).1 tt))
           from (suc i, f, k, o) = (again v).1 (i, omega arith, (each (take i rs)).0 k, λ z. o ((each (take (suc i) rs)).1 z))
 
-pub first-breaks : (edition : Edition) (m : Monitor) (recording : List Packet) (rows : List Row) → 1 ≤ m.rule.window
-    → broken edition (under noRule m) (begin recording) 0 rows ≡ none
+pub first_breaks : (edition : Edition) (m : Monitor) (recording : List Packet) (rows : List Row) → 1 ≤ m.rule.window
+    → broken edition (under no_rule m) (begin recording) 0 rows ≡ none
     → (i : ℕ) → (broken edition m (begin recording) 0 rows ≡ some i) ↔ FirstBreaks m rows i
-first-breaks edition m recording rows l e i = (
+first_breaks edition m recording rows l e i = (
   λ h. onto (over.0 h),
   λ f. over.1 (i, omega arith, (by_rows i).1 f.before, λ z. f.here (rw add-one ((by_rows (suc i)).0 z))),
 )
@@ -134,8 +134,8 @@ first-breaks edition m recording rows l e i = (
     over : (broken edition m (begin recording) 0 rows ≡ some i) ↔ Over m 0 0 rows i
     over = first-over m edition rows (begin recording) 0 0 i e
 
-    by_rows : (n : ℕ) → Kept m 0 (take n rows) ↔ KeepsRule m.rule (guesses m (sentRows (take n rows)))
-    by_rows n = row-by-row m.rule (guesses m (sentRows (take n rows))) l
+    by_rows : (n : ℕ) → Kept m 0 (take n rows) ↔ KeepsRule m.rule (guesses m (sent_rows (take n rows)))
+    by_rows n = row_by_row m.rule (guesses m (sent_rows (take n rows))) l
 
     onto : Over m 0 0 rows i → FirstBreaks m rows i
     onto (n, h, k, o) =

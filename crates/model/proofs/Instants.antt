@@ -8,50 +8,50 @@ use mathlib.Core.Option.{Option, none, some, map, bind, none-ne-some}
 use lib.ListN.{get_elem?}
 use lib.Dec.{eqb}
 use borrow.Author.Tests.{eqb-true, lt-ltb, le-ltb, eq-eqb, ne_eqb}
-use Rattle.model.specs.Limits.{transitionLimit}
+use Rattle.model.specs.Limits.{transition_limit}
 use Rattle.model.specs.Guard.{holds}
 use Rattle.model.specs.Monitor.{Monitor, Config, Transition, after, enabled, fires}
 use Rattle.model.specs.Trace.{Packet}
-use Rattle.model.specs.Situation.{keep, rest, add, triggerOf, recordedAt, restMove, firstAdd, move_of}
+use Rattle.model.specs.Situation.{keep, rest, add, trigger_of, recorded_at, rest_move, first_add, move_of}
 use Rattle.model.specs.Sane.{Sane}
-use Rattle.model.proofs.Basics.{and_left, and_right, cond-some, getElem-within}
+use Rattle.model.proofs.Basics.{and_left, and_right, cond-some, get_elem_within}
 
 -- moves as numbers
 
-pub moveOf-keep : (j : ℕ) → j < transitionLimit → move_of j ≡ keep j
+pub move_of-keep : (j : ℕ) → j < transition_limit → move_of j ≡ keep j
 unfolding move_of
-moveOf-keep j h = rw (lt-ltb j restMove)
+move_of-keep j h = rw (lt-ltb j rest_move)
 
-pub moveOf-rest : move_of restMove ≡ rest
+pub move_of-rest : move_of rest_move ≡ rest
 unfolding move_of
-moveOf-rest = refl
+move_of-rest = refl
 
-pub moveOf-add : (j : ℕ) → move_of (firstAdd + j) ≡ add j
+pub move_of-add : (j : ℕ) → move_of (first_add + j) ≡ add j
 unfolding move_of
-moveOf-add j =
-    let past : firstAdd + j ≡ restMove → ⊥ = omega arith in
-    let same : firstAdd + j - firstAdd ≡ j = omega arith in
-    rw (le-ltb (firstAdd + j) restMove (omega arith), ne_eqb (firstAdd + j) restMove past, same)
+move_of-add j =
+    let past : first_add + j ≡ rest_move → ⊥ = omega arith in
+    let same : first_add + j - first_add ≡ j = omega arith in
+    rw (le-ltb (first_add + j) rest_move (omega arith), ne_eqb (first_add + j) rest_move past, same)
 
-pub move-rest : (k : ℕ) → k ≡ restMove → move_of k ≡ rest
-move-rest k e = ap move_of e ∙ moveOf-rest
+pub move_rest : (k : ℕ) → k ≡ rest_move → move_of k ≡ rest
+move_rest k e = ap move_of e ∙ move_of-rest
 
-pub move-add : (k : ℕ) → restMove < k → move_of k ≡ add (k - firstAdd)
-move-add k h = let at : k ≡ firstAdd + (k - firstAdd) = omega arith in ap move_of at ∙ moveOf-add (k - firstAdd)
+pub move_add : (k : ℕ) → rest_move < k → move_of k ≡ add (k - first_add)
+move_add k h = let at : k ≡ first_add + (k - first_add) = omega arith in ap move_of at ∙ move_of-add (k - first_add)
 
 -- what is recorded at an instant
 
-pub recorded-here : (q : Packet) (r : List Packet) (t : ℕ) → q.time ≡ t → recordedAt (q ∷ r) t ≡ some q.kind
-unfolding recordedAt
-recorded-here q r t e = rw (eq-eqb q.time t e, recordedAt)
+pub recorded_here : (q : Packet) (r : List Packet) (t : ℕ) → q.time ≡ t → recorded_at (q ∷ r) t ≡ some q.kind
+unfolding recorded_at
+recorded_here q r t e = rw (eq-eqb q.time t e, recorded_at)
 
-pub recorded-later : (q : Packet) (r : List Packet) (t : ℕ) → (q.time ≡ t → ⊥) → recordedAt (q ∷ r) t ≡ recordedAt r t
-unfolding recordedAt
-recorded-later q r t e = rw (ne_eqb q.time t e, recordedAt)
+pub recorded_later : (q : Packet) (r : List Packet) (t : ℕ) → (q.time ≡ t → ⊥) → recorded_at (q ∷ r) t ≡ recorded_at r t
+unfolding recorded_at
+recorded_later q r t e = rw (ne_eqb q.time t e, recorded_at)
 
 -- a transition fires on its trigger, and is one of the table's
 
-pub fires-trigger : (m : Monitor) (j k : ℕ) (c d : Config) → fires m j k c ≡ some d → triggerOf m j ≡ some k
+pub fires-trigger : (m : Monitor) (j k : ℕ) (c d : Config) → fires m j k c ≡ some d → trigger_of m j ≡ some k
 unfolding fires bind
 fires-trigger m j k c d e = go (get_elem? m.transitions j) e
   where
@@ -62,9 +62,9 @@ fires-trigger m j k c d e = go (get_elem? m.transitions j) e
         (eqb-true t.trigger k (and_right (eqb t.source c.state) (eqb t.trigger k)
         (and_left (eqb t.source c.state && eqb t.trigger k) (holds t.guard c.variables c.clocks) (cond-some (enabled t k c) _ d h).0)))
 
-pub trigger-number : (m : Monitor) → Sane m → (j k : ℕ) → triggerOf m j ≡ some k → j < transitionLimit
+pub trigger-number : (m : Monitor) → Sane m → (j k : ℕ) → trigger_of m j ≡ some k → j < transition_limit
 trigger-number m table j k e = go (get_elem? m.transitions j) refl e
   where
-    go : (o : Option Transition) → get_elem? m.transitions j ≡ o → map (λ t. t.trigger) o ≡ some k → j < transitionLimit
+    go : (o : Option Transition) → get_elem? m.transitions j ≡ o → map (λ t. t.trigger) o ≡ some k → j < transition_limit
     go none f g = absurd (none-ne-some k g)
-    go (some t) f g = omega (arith, table.few, getElem-within m.transitions j t f)
+    go (some t) f g = omega (arith, table.few, get_elem_within m.transitions j t f)

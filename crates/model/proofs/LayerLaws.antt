@@ -12,9 +12,9 @@ use lib.ListN.{length, get_or, replicate, length-set, length-append, length-repl
 use lib.Seq.{get_or-set_same}
 use lib.Dec.{ltb}
 use borrow.Author.Tests.{eqb-true, eqb-false, ltb-true, ltb-false}
-use Rattle.model.specs.Layers.{count, is_empty, spread, image, layer, total, lastInstant, cost, passing}
+use Rattle.model.specs.Layers.{count, is_empty, spread, image, layer, total, last_instant, cost, passing}
 use Rattle.model.proofs.Chains.{Leads}
-use Rattle.model.proofs.SetLaws.{member-within, no_member, count-le, count-empty, count-some, count-member, length-mark, mark-member, FirstOf, firstFrom-first}
+use Rattle.model.proofs.SetLaws.{member_within, no_member, count_le, count-empty, count-some, count_member, length-mark, mark_member, FirstOf, first_from-first}
 
 module _ (N K : ℕ) (step : ℕ → ℕ → ℕ → Option ℕ) where
   pub length-spread : (k t n : ℕ) (s : List Bool) → length (spread N K step k t n s) ≡ length s
@@ -26,14 +26,14 @@ module _ (N K : ℕ) (step : ℕ → ℕ → ℕ → Option ℕ) where
   abbrev pub Spread : (k t n : ℕ) → List Bool → ℕ → Type 0
   Spread k t n s z = (get_or s z false ≡ true) ⊎ ((j : ℕ) × (j < k) × (step t n j ≡ some z) × (z < length s))
 
-  pub spread-member : (k t n : ℕ) (s : List Bool) (z : ℕ) → (get_or (spread N K step k t n s) z false ≡ true) ↔ Spread k t n s z
+  pub spread_member : (k t n : ℕ) (s : List Bool) (z : ℕ) → (get_or (spread N K step k t n s) z false ≡ true) ↔ Spread k t n s z
   unfolding spread
-  spread-member zero t n s z = (inl, back)
+  spread_member zero t n s z = (inl, back)
     where
       back : Spread 0 t n s z → get_or s z false ≡ true
       back (inl e) = e
       back (inr w) = let h = w.1 in absurd (omega arith)
-  spread-member (suc k) t n s z = go (spread-member k t n s z) (mark-member (spread N K step k t n s) (step t n k) z)
+  spread_member (suc k) t n s z = go (spread_member k t n s z) (mark_member (spread N K step k t n s) (step t n k) z)
     where
       Now : Type 0
       Now = (get_or (spread N K step k t n s) z false ≡ true) ⊎ ((step t n k ≡ some z) × (z < length (spread N K step k t n s)))
@@ -61,13 +61,13 @@ module _ (N K : ℕ) (step : ℕ → ℕ → ℕ → Option ℕ) where
                   now.1 (inr (cc w.2, omega (arith, length-spread k t n s, w.3)))
 
   -- the image, a situation further: what it gives if it is in s, and nothing else
-  pub image-in : (m t : ℕ) (s : List Bool) → get_or s m false ≡ true → image N K step (suc m) t s ≡ spread N K step K t m (image N K step m t s)
+  pub image_in : (m t : ℕ) (s : List Bool) → get_or s m false ≡ true → image N K step (suc m) t s ≡ spread N K step K t m (image N K step m t s)
   unfolding image
-  image-in m t s e = rw (e, image)
+  image_in m t s e = rw (e, image)
 
-  pub image-out : (m t : ℕ) (s : List Bool) → get_or s m false ≡ false → image N K step (suc m) t s ≡ image N K step m t s
+  pub image_out : (m t : ℕ) (s : List Bool) → get_or s m false ≡ false → image N K step (suc m) t s ≡ image N K step m t s
   unfolding image
-  image-out m t s e = rw (e, image)
+  image_out m t s e = rw (e, image)
 
   pub length-image : (m t : ℕ) (s : List Bool) → length (image N K step m t s) ≡ N
   unfolding image
@@ -75,24 +75,24 @@ module _ (N K : ℕ) (step : ℕ → ℕ → ℕ → Option ℕ) where
   length-image (suc m) t s = go (get_or s m false) refl (length-image m t s)
     where
       go : (b : Bool) → get_or s m false ≡ b → length (image N K step m t s) ≡ N → length (image N K step (suc m) t s) ≡ N
-      go true e l = rw (image-in m t s e) (length-spread K t m (image N K step m t s) ∙ l)
-      go false e l = rw (image-out m t s e) l
+      go true e l = rw (image_in m t s e) (length-spread K t m (image N K step m t s) ∙ l)
+      go false e l = rw (image_out m t s e) l
 
   -- one of the first m situations, of those in s, leads at instant t to z
   abbrev pub Given : (m t : ℕ) → List Bool → ℕ → Type 0
   Given m t s z = (n : ℕ) × (k : ℕ) × (n < m) × (get_or s n false ≡ true) × (k < K) × (step t n k ≡ some z) × (z < N)
 
-  pub image-member : (m t : ℕ) (s : List Bool) (z : ℕ) → (get_or (image N K step m t s) z false ≡ true) ↔ Given m t s z
+  pub image_member : (m t : ℕ) (s : List Bool) (z : ℕ) → (get_or (image N K step m t s) z false ≡ true) ↔ Given m t s z
   unfolding image
-  image-member zero t s z = (λ e. absurd (no_member N z e), λ w. absurd (not-suc-le-zero w.2))
-  image-member (suc m) t s z = go (get_or s m false) refl (image-member m t s z)
+  image_member zero t s z = (λ e. absurd (no_member N z e), λ w. absurd (not-suc-le-zero w.2))
+  image_member (suc m) t s z = go (get_or s m false) refl (image_member m t s z)
     where
       wider : Given m t s z → Given (suc m) t s z
       wider w = (w.0, w.1, omega (arith, w.2), w.3, w.4, w.5, w.6)
 
       go : (b : Bool) → get_or s m false ≡ b → (get_or (image N K step m t s) z false ≡ true) ↔ Given m t s z
           → (get_or (image N K step (suc m) t s) z false ≡ true) ↔ Given (suc m) t s z
-      go true e before = rw (image-in m t s e) (λ i. there ((spread-member K t m (image N K step m t s) z).0 i), back)
+      go true e before = rw (image_in m t s e) (λ i. there ((spread_member K t m (image N K step m t s) z).0 i), back)
         where
           there : Spread K t m (image N K step m t s) z → Given (suc m) t s z
           there (inl i) = wider (before.0 i)
@@ -102,11 +102,11 @@ module _ (N K : ℕ) (step : ℕ → ℕ → ℕ → Option ℕ) where
           back w = at (dec_lt w.0 m)
             where
               at : Dec (w.0 < m) → get_or (spread N K step K t m (image N K step m t s)) z false ≡ true
-              at (yes l) = (spread-member K t m (image N K step m t s) z).1 (inl (before.1 (w.0, w.1, l, w.3, w.4, w.5, w.6)))
+              at (yes l) = (spread_member K t m (image N K step m t s) z).1 (inl (before.1 (w.0, w.1, l, w.3, w.4, w.5, w.6)))
               at (no l) =
                   let p : w.0 ≡ m = omega (arith, w.2) in
-                  (spread-member K t m (image N K step m t s) z).1 (inr (w.1, w.4, cc w.5, omega (arith, w.6, length-image m t s)))
-      go false e before = rw (image-out m t s e) (λ i. wider (before.0 i), λ w. at w (dec_lt w.0 m))
+                  (spread_member K t m (image N K step m t s) z).1 (inr (w.1, w.4, cc w.5, omega (arith, w.6, length-image m t s)))
+      go false e before = rw (image_out m t s e) (λ i. wider (before.0 i), λ w. at w (dec_lt w.0 m))
         where
           at : (w : Given (suc m) t s z) → Dec (w.0 < m) → get_or (image N K step m t s) z false ≡ true
           at w (yes l) = before.1 (w.0, w.1, l, w.3, w.4, w.5, w.6)
@@ -126,20 +126,20 @@ module _ (N K : ℕ) (step : ℕ → ℕ → ℕ → Option ℕ) where
     length-layer zero = length-set (replicate N false) first true ∙ length-replicate N false
     length-layer (suc t) = length-image N (suc t) (layer N K step first t)
 
-    pub layer-suc : (t z : ℕ) → (get_or (layer N K step first (suc t)) z false ≡ true) ↔ Given N (suc t) (layer N K step first t) z
+    pub layer_suc : (t z : ℕ) → (get_or (layer N K step first (suc t)) z false ≡ true) ↔ Given N (suc t) (layer N K step first t) z
     unfolding layer
-    layer-suc t z = image-member N (suc t) (layer N K step first t) z
+    layer_suc t z = image_member N (suc t) (layer N K step first t) z
 
     pub layer-leads : (t z : ℕ) → get_or (layer N K step first t) z false ≡ true → (ks : List ℕ) × (length ks ≡ t) × Leads N K step 0 first ks z
     unfolding layer
-    layer-leads zero z e = go ((mark-member (replicate N false) (some first) z).0 e)
+    layer-leads zero z e = go ((mark_member (replicate N false) (some first) z).0 e)
       where
         go : (get_or (replicate N false) z false ≡ true) ⊎ ((some first ≡ some z) × (z < length (replicate N false)))
             → (ks : List ℕ) × (length ks ≡ 0) × Leads N K step 0 first ks z
         go (inl m) = absurd (no_member N z m)
         go (inr w) = ([], refl, cc w.0)
     layer-leads (suc t) z e =
-        let (n, k, l, m, h, p, i) = (layer-suc t z).0 e in
+        let (n, k, l, m, h, p, i) = (layer_suc t z).0 e in
         let (ks, o, c) = layer-leads t n m in
         let q : 0 + length ks ≡ t = omega arith in
         (ks ++ (k ∷ []), omega (arith, length-append ks (k ∷ [])), leads-more ks 0 first n k z c h (cc) i)
@@ -150,8 +150,8 @@ module _ (N K : ℕ) (step : ℕ → ℕ → ℕ → Option ℕ) where
     leads-on (k ∷ ks) t n z e c =
         let (x, l, p, h, d) = c in
         let q : suc t + length ks ≡ t + suc (length ks) = omega arith in
-        let i : n < N = omega (arith, member-within (layer N K step first t) n e, length-layer t) in
-        rw (← q) (leads-on ks (suc t) x z ((layer-suc t x).1 (n, k, i, e, l, p, h)) d)
+        let i : n < N = omega (arith, member_within (layer N K step first t) n e, length-layer t) in
+        rw (← q) (leads-on ks (suc t) x z ((layer_suc t x).1 (n, k, i, e, l, p, h)) d)
 
     -- where no situation is left, none ever is again
     pub empty-stays : (t d : ℕ) → count (layer N K step first t) ≡ 0 → count (layer N K step first (t + d)) ≡ 0
@@ -163,63 +163,63 @@ module _ (N K : ℕ) (step : ℕ → ℕ → ℕ → Option ℕ) where
         go (inl p) f = rw add-suc p
         go (inr p) f =
             let (z, l, m) = count-some (layer N K step first (suc (t + d))) p in
-            let w = (layer-suc (t + d) z).0 m in
+            let w = (layer_suc (t + d) z).0 m in
             absurd (count-empty (layer N K step first (t + d)) w.0 f w.3)
 
-    pub total-le : (t : ℕ) → total N K step first t ≤ t * N
+    pub total_le : (t : ℕ) → total N K step first t ≤ t * N
     unfolding total
-    total-le zero = omega arith
-    total-le (suc t) = omega (arith, suc-mul t N, total-le t, count-le (layer N K step first t), length-layer t)
+    total_le zero = omega arith
+    total_le (suc t) = omega (arith, suc-mul t N, total_le t, count_le (layer N K step first t), length-layer t)
 
-    pub last-first : (T : ℕ) → FirstOf (λ t. is_empty (layer N K step first t)) T 0 (lastInstant N K step first T)
-    unfolding lastInstant
-    last-first T = firstFrom-first (λ t. is_empty (layer N K step first t)) T 0
+    pub last-first : (T : ℕ) → FirstOf (λ t. is_empty (layer N K step first t)) T 0 (last_instant N K step first T)
+    unfolding last_instant
+    last-first T = first_from-first (λ t. is_empty (layer N K step first t)) T 0
 
-    pub last-le : (T : ℕ) → lastInstant N K step first T ≤ T
-    last-le T = let l = (last-first T).within in omega arith
+    pub last_le : (T : ℕ) → last_instant N K step first T ≤ T
+    last_le T = let l = (last-first T).within in omega arith
 
-    pub last-before : (T t : ℕ) → t < lastInstant N K step first T → 0 < count (layer N K step first t)
+    pub last-before : (T t : ℕ) → t < last_instant N K step first T → 0 < count (layer N K step first t)
     last-before T t h = go (eq-zero-or-pos (count (layer N K step first t)))
       where
         go : (count (layer N K step first t) ≡ 0) ⊎ (0 < count (layer N K step first t)) → 0 < count (layer N K step first t)
         go (inl p) = absurd (eqb-false (count (layer N K step first t)) 0 ((last-first T).before t (omega arith) h) p)
         go (inr p) = p
 
-    pub last_end : (T : ℕ) → (count (layer N K step first (lastInstant N K step first T)) ≡ 0) ⊎ (lastInstant N K step first T ≡ T)
+    pub last_end : (T : ℕ) → (count (layer N K step first (last_instant N K step first T)) ≡ 0) ⊎ (last_instant N K step first T ≡ T)
     last_end T = go (last-first T).found
       where
         u : ℕ
-        u = lastInstant N K step first T
+        u = last_instant N K step first T
 
         go : (is_empty (layer N K step first u) ≡ true) ⊎ (u ≡ 0 + T) → (count (layer N K step first u) ≡ 0) ⊎ (u ≡ T)
         go (inl e) = inl (eqb-true (count (layer N K step first u)) 0 e)
         go (inr e) = inr (omega arith)
 
-    pub cost-le : (T : ℕ) → cost N K step first T ≤ T * N
+    pub cost_le : (T : ℕ) → cost N K step first T ≤ T * N
     unfolding cost
-    cost-le T = le_trans (total-le (lastInstant N K step first T)) (mul-le-mul_right N (last-le T))
+    cost_le T = le_trans (total_le (last_instant N K step first T)) (mul-le-mul_right N (last_le T))
 
     pub passing-first : (T budget : ℕ)
-        → FirstOf (λ t. ltb budget (total N K step first t)) (lastInstant N K step first T) 0 (passing N K step first T budget)
+        → FirstOf (λ t. ltb budget (total N K step first t)) (last_instant N K step first T) 0 (passing N K step first T budget)
     unfolding passing
-    passing-first T budget = firstFrom-first (λ t. ltb budget (total N K step first t)) (lastInstant N K step first T) 0
+    passing-first T budget = first_from-first (λ t. ltb budget (total N K step first t)) (last_instant N K step first T) 0
 
-    pub passing-passes : (T budget : ℕ) → budget < cost N K step first T
+    pub passing_passes : (T budget : ℕ) → budget < cost N K step first T
         → (passing N K step first T budget ≤ T)
         × (budget < total N K step first (passing N K step first T budget))
         × ((t : ℕ) → t < passing N K step first T budget → total N K step first t ≤ budget)
     unfolding cost
-    passing-passes T budget h = (omega (arith, c.within, last-le T), go c.found, λ t l. ltb-false budget (total N K step first t) (c.before t (omega arith) l))
+    passing_passes T budget h = (omega (arith, c.within, last_le T), go c.found, λ t l. ltb-false budget (total N K step first t) (c.before t (omega arith) l))
       where
         u : ℕ
         u = passing N K step first T budget
 
-        c : FirstOf (λ t. ltb budget (total N K step first t)) (lastInstant N K step first T) 0 u
+        c : FirstOf (λ t. ltb budget (total N K step first t)) (last_instant N K step first T) 0 u
         c = passing-first T budget
 
-        go : (ltb budget (total N K step first u) ≡ true) ⊎ (u ≡ 0 + lastInstant N K step first T) → budget < total N K step first u
+        go : (ltb budget (total N K step first u) ≡ true) ⊎ (u ≡ 0 + last_instant N K step first T) → budget < total N K step first u
         go (inl e) = ltb-true budget (total N K step first u) e
-        go (inr e) = let p : u ≡ lastInstant N K step first T = omega arith in rw p h
+        go (inr e) = let p : u ≡ last_instant N K step first T = omega arith in rw p h
 
   module _ (first : ℕ) (inside : first < N) where
     pub leads-layer : (ks : List ℕ) (z : ℕ) → Leads N K step 0 first ks z → get_or (layer N K step first (length ks)) z false ≡ true
@@ -228,12 +228,12 @@ module _ (N K : ℕ) (step : ℕ → ℕ → ℕ → Option ℕ) where
         rw zero-add at (leads-on first ks 0 first z (get_or-set_same (replicate N false) first true false (omega (arith, length-replicate N false))) c)
 
     -- a situation is left after the last instant that counts just where T moves can be carried
-    pub reached : (T : ℕ) → (0 < count (layer N K step first (lastInstant N K step first T)))
+    pub reached : (T : ℕ) → (0 < count (layer N K step first (last_instant N K step first T)))
         ↔ ((ks : List ℕ) × (z : ℕ) × (length ks ≡ T) × Leads N K step 0 first ks z)
     reached T = (there (last_end first T), back (last_end first T))
       where
         u : ℕ
-        u = lastInstant N K step first T
+        u = last_instant N K step first T
 
         there : (count (layer N K step first u) ≡ 0) ⊎ (u ≡ T) → 0 < count (layer N K step first u)
             → (ks : List ℕ) × (z : ℕ) × (length ks ≡ T) × Leads N K step 0 first ks z
@@ -246,8 +246,8 @@ module _ (N K : ℕ) (step : ℕ → ℕ → ℕ → Option ℕ) where
         back : (count (layer N K step first u) ≡ 0) ⊎ (u ≡ T) → (ks : List ℕ) × (z : ℕ) × (length ks ≡ T) × Leads N K step 0 first ks z
             → 0 < count (layer N K step first u)
         back (inl e) w =
-            let p : u + (T - u) ≡ length w.0 = omega (arith, last-le first T, w.2) in
+            let p : u + (T - u) ≡ length w.0 = omega (arith, last_le first T, w.2) in
             absurd (count-empty (layer N K step first (length w.0)) w.1 (rw p at (empty-stays first u (T - u) e)) (leads-layer w.0 w.1 w.3))
         back (inr e) w =
             let p : u ≡ length w.0 = omega (arith, w.2) in
-            rw p (count-member (layer N K step first (length w.0)) w.1 (leads-layer w.0 w.1 w.3))
+            rw p (count_member (layer N K step first (length w.0)) w.1 (leads-layer w.0 w.1 w.3))

@@ -2,7 +2,7 @@
 use Prim.Native.Nat.{ℕ, ◌≤◌}
 use native.Mathlib.Omega.{arith}
 use mathlib.Core.Path.{◌≡◌, refl, ap, ◌∙◌}
-use Rattle.model.specs.Numbers.{Values, values, refusalValues, readingValues, writingValues, verdictValues, ruledValues, verdictCounts, ruledCounts}
+use Rattle.model.specs.Numbers.{Values, values, refusal_values, reading_values, writing_values, verdict_values, ruled_values, verdict_counts, ruled_counts}
 use Rattle.model.specs.Validation.{ruled}
 use Rattle.model.specs.declared.Reading.{Reading}
 use Rattle.model.specs.declared.Reading.TheVariants.{Sound, Unsound}
@@ -14,7 +14,7 @@ use Rattle.model.specs.declared.Refusal.{Refusal}
 use Rattle.model.specs.declared.Refusal.TheVariants.{TableFrame, TableVersion, TableCount, TableLength, TableField, TableGuard, TableSize, TableState, RecordingFrame, RecordingVersion, RecordingCount, RecordingRange, RecordingOrder, RuleRange, RuleSize, Scratch, WitnessRoom, WriteRoom, WitnessFrame, WitnessVersion, WitnessCount, WitnessRow}
 
 -- a refusal's number is 10 or more, and 17 for a state alone
-refusal-number : (r : Refusal) → (10 ≤ (refusalValues r).number) × ((refusalValues r).number ≡ 17 → r ≡ TableState (refusalValues r).second)
+refusal-number : (r : Refusal) → (10 ≤ (refusal_values r).number) × ((refusal_values r).number ≡ 17 → r ≡ TableState (refusal_values r).second)
 refusal-number TableFrame = (omega arith, λ e. absurd (omega arith))
 refusal-number TableVersion = (omega arith, λ e. absurd (omega arith))
 refusal-number (TableCount n) = (omega arith, λ e. absurd (omega arith))
@@ -38,28 +38,28 @@ refusal-number (WitnessVersion n) = (omega arith, λ e. absurd (omega arith))
 refusal-number (WitnessCount n) = (omega arith, λ e. absurd (omega arith))
 refusal-number (WitnessRow n) = (omega arith, λ e. absurd (omega arith))
 
-pub number-0 : (x : Reading) (n : ℕ) → readingValues x ≡ values 0 n 0 → x ≡ Sound
-number-0 Sound n e = refl
-number-0 (Unsound r) n e = absurd (omega (arith, ap (λ (v : Values). v.number) e, (refusal-number r).0))
+pub number_0 : (x : Reading) (n : ℕ) → reading_values x ≡ values 0 n 0 → x ≡ Sound
+number_0 Sound n e = refl
+number_0 (Unsound r) n e = absurd (omega (arith, ap (λ (v : Values). v.number) e, (refusal-number r).0))
 
-pub number-written : (w : Writing) (n : ℕ) → writingValues w ≡ values 0 n 0 → w ≡ Written n
+pub number-written : (w : Writing) (n : ℕ) → writing_values w ≡ values 0 n 0 → w ≡ Written n
 number-written (Written m) n e = ap Written (ap (λ (v : Values). v.second) e)
 number-written (Unwritten r) n e = absurd (omega (arith, ap (λ (v : Values). v.number) e, (refusal-number r).0))
 
-pub number-17 : (x : Reading) (s : ℕ) → readingValues x ≡ values 17 s 0 → x ≡ Unsound (TableState s)
-number-17 Sound s e = absurd (omega (arith, ap (λ (v : Values). v.number) e))
-number-17 (Unsound r) s e = ap Unsound ((refusal-number r).1 (ap (λ (v : Values). v.number) e) ∙ ap TableState (ap (λ (v : Values). v.second) e))
+pub number_17 : (x : Reading) (s : ℕ) → reading_values x ≡ values 17 s 0 → x ≡ Unsound (TableState s)
+number_17 Sound s e = absurd (omega (arith, ap (λ (v : Values). v.number) e))
+number_17 (Unsound r) s e = ap Unsound ((refusal-number r).1 (ap (λ (v : Values). v.number) e) ∙ ap TableState (ap (λ (v : Values). v.second) e))
 
 -- a verdict under a rule has the numbers and the counts of the verdict
 
-pub ruled-values : (v : Verdict) → ruledValues (ruled v) ≡ verdictValues v
+pub ruled-values : (v : Verdict) → ruled_values (ruled v) ≡ verdict_values v
 ruled-values (Accepted cost rows) = refl
-ruled-values (Rejected cost instant notYet no_more) = refl
+ruled-values (Rejected cost instant not_yet no_more) = refl
 ruled-values (Exhausted budget instant) = refl
 ruled-values (Refused r) = refl
 
-pub ruled-counts : (v : Verdict) → ruledCounts (ruled v) ≡ verdictCounts v
+pub ruled-counts : (v : Verdict) → ruled_counts (ruled v) ≡ verdict_counts v
 ruled-counts (Accepted cost rows) = refl
-ruled-counts (Rejected cost instant notYet no_more) = refl
+ruled-counts (Rejected cost instant not_yet no_more) = refl
 ruled-counts (Exhausted budget instant) = refl
 ruled-counts (Refused r) = refl

@@ -10,21 +10,21 @@ use lib.Dec.{ltb, eqb}
 use borrow.Author.Tests.{ltb-true, ltb-false, eqb-true, eqb-false, eq-eqb, ne_eqb}
 use Rattle.model.specs.Monitor.{Monitor}
 use Rattle.model.specs.Trace.{Packet}
-use Rattle.model.specs.Witness.{Row, kept, removed, added, noTransition}
-use Rattle.model.specs.Situation.{Move, keep, rest, add, move_of, moved, stepBy, tick, uncapped, recordedAt, triggerOf, restMove, firstAdd}
-use Rattle.model.specs.Validation.{rowFor, rows_by, rows_of}
-use Rattle.model.specs.Order.{Choice, keeping, nothing, adding, rowsOn, choice, Sooner, Before}
+use Rattle.model.specs.Witness.{Row, kept, removed, added, no_transition}
+use Rattle.model.specs.Situation.{Move, keep, rest, add, move_of, moved, step_by, tick, uncapped, recorded_at, trigger_of, rest_move, first_add}
+use Rattle.model.specs.Validation.{row_for, rows_by, rows_of}
+use Rattle.model.specs.Order.{Choice, keeping, nothing, adding, rows_on, choice, Sooner, Before}
 use Rattle.model.specs.declared.Situation.{Situation}
 use Rattle.model.proofs.Chains.{Moves, Less}
 
 -- the rows of one instant
 
-rowsOn-append : (t : ℕ) (a b : List Row) → rowsOn t (a ++ b) ≡ rowsOn t a ++ rowsOn t b
-unfolding rowsOn
-rowsOn-append t [] b = refl
-rowsOn-append t (r ∷ rs) b = go (eqb r.time t) (rowsOn-append t rs b)
+rows_on-append : (t : ℕ) (a b : List Row) → rows_on t (a ++ b) ≡ rows_on t a ++ rows_on t b
+unfolding rows_on
+rows_on-append t [] b = refl
+rows_on-append t (r ∷ rs) b = go (eqb r.time t) (rows_on-append t rs b)
   where
-    go : (here : Bool) → rowsOn t (rs ++ b) ≡ rowsOn t rs ++ rowsOn t b → cond here (r ∷ rowsOn t (rs ++ b)) (rowsOn t (rs ++ b)) ≡ cond here (r ∷ rowsOn t rs) (rowsOn t rs) ++ rowsOn t b
+    go : (here : Bool) → rows_on t (rs ++ b) ≡ rows_on t rs ++ rows_on t b → cond here (r ∷ rows_on t (rs ++ b)) (rows_on t (rs ++ b)) ≡ cond here (r ∷ rows_on t rs) (rows_on t rs) ++ rows_on t b
     go true e = ap (λ (l : List Row). r ∷ l) e
     go false e = e
 
@@ -33,48 +33,48 @@ abbrev pub At : ℕ → List Row → Type 0
 At t [] = Unit {0}
 At t (r ∷ rs) = (r.time ≡ t) × At t rs
 
-rowsOn-same : (t : ℕ) (rows : List Row) → At t rows → rowsOn t rows ≡ rows
-unfolding rowsOn
-rowsOn-same t [] h = refl
-rowsOn-same t (r ∷ rs) h = rw (eq-eqb r.time t h.0) (ap (λ (l : List Row). r ∷ l) (rowsOn-same t rs h.1))
+rows_on-same : (t : ℕ) (rows : List Row) → At t rows → rows_on t rows ≡ rows
+unfolding rows_on
+rows_on-same t [] h = refl
+rows_on-same t (r ∷ rs) h = rw (eq-eqb r.time t h.0) (ap (λ (l : List Row). r ∷ l) (rows_on-same t rs h.1))
 
-rowsOn-other : (t u : ℕ) (rows : List Row) → At t rows → (t ≡ u → ⊥) → rowsOn u rows ≡ []
-unfolding rowsOn
-rowsOn-other t u [] h n = refl
-rowsOn-other t u (r ∷ rs) h n = rw (ne_eqb r.time u (λ e. n (sym h.0 ∙ e))) (rowsOn-other t u rs h.1 n)
+rows_on_other : (t u : ℕ) (rows : List Row) → At t rows → (t ≡ u → ⊥) → rows_on u rows ≡ []
+unfolding rows_on
+rows_on_other t u [] h n = refl
+rows_on_other t u (r ∷ rs) h n = rw (ne_eqb r.time u (λ e. n (sym h.0 ∙ e))) (rows_on_other t u rs h.1 n)
 
-row-for-at : (mark t : ℕ) (o : Option ℕ) (j : ℕ) → At t (rowFor mark t o j)
-row-for-at mark t none j = tt
-row-for-at mark t (some k) j = (refl, tt)
+row_for_at : (mark t : ℕ) (o : Option ℕ) (j : ℕ) → At t (row_for mark t o j)
+row_for_at mark t none j = tt
+row_for_at mark t (some k) j = (refl, tt)
 
-pub rowsBy-at : (m : Monitor) (recorded : Option ℕ) (t : ℕ) (a : Move) → At t (rows_by m recorded t a)
+pub rows_by_at : (m : Monitor) (recorded : Option ℕ) (t : ℕ) (a : Move) → At t (rows_by m recorded t a)
 unfolding rows_by
-rowsBy-at m recorded t (keep j) = row-for-at kept t recorded j
-rowsBy-at m recorded t rest = row-for-at removed t recorded noTransition
-rowsBy-at m recorded t (add j) = row-for-at added t (triggerOf m j) j
+rows_by_at m recorded t (keep j) = row_for_at kept t recorded j
+rows_by_at m recorded t rest = row_for_at removed t recorded no_transition
+rows_by_at m recorded t (add j) = row_for_at added t (trigger_of m j) j
 
 module _ (m : Monitor) (recording : List Packet) (t k : ℕ) (ks : List ℕ) where
-  rowsOn-rowsOf : (u : ℕ) → rowsOn u (rows_of m recording t (k ∷ ks)) ≡ rowsOn u (rows_by m (recordedAt recording t) t (move_of k)) ++ rowsOn u (rows_of m recording (suc t) ks)
+  rows_on-rows_of : (u : ℕ) → rows_on u (rows_of m recording t (k ∷ ks)) ≡ rows_on u (rows_by m (recorded_at recording t) t (move_of k)) ++ rows_on u (rows_of m recording (suc t) ks)
   unfolding rows_of
-  rowsOn-rowsOf u = rowsOn-append u (rows_by m (recordedAt recording t) t (move_of k)) (rows_of m recording (suc t) ks)
+  rows_on-rows_of u = rows_on-append u (rows_by m (recorded_at recording t) t (move_of k)) (rows_of m recording (suc t) ks)
 
   -- at an instant that is not the first move's
-  rowsOf-behind : (u : ℕ) → (t ≡ u → ⊥) → rowsOn u (rows_of m recording t (k ∷ ks)) ≡ rowsOn u (rows_of m recording (suc t) ks)
-  rowsOf-behind u n =
-      rowsOn-rowsOf u
-      ∙ ap (λ (l : List Row). l ++ rowsOn u (rows_of m recording (suc t) ks)) (rowsOn-other t u (rows_by m (recordedAt recording t) t (move_of k)) (rowsBy-at m (recordedAt recording t) t (move_of k)) n)
+  rows_of-behind : (u : ℕ) → (t ≡ u → ⊥) → rows_on u (rows_of m recording t (k ∷ ks)) ≡ rows_on u (rows_of m recording (suc t) ks)
+  rows_of-behind u n =
+      rows_on-rows_of u
+      ∙ ap (λ (l : List Row). l ++ rows_on u (rows_of m recording (suc t) ks)) (rows_on_other t u (rows_by m (recorded_at recording t) t (move_of k)) (rows_by_at m (recorded_at recording t) t (move_of k)) n)
 
 -- moves have no rows before their first instant
-rowsOf-later : (m : Monitor) (recording : List Packet) (t u : ℕ) (ks : List ℕ) → u < t → rowsOn u (rows_of m recording t ks) ≡ []
-unfolding rows_of rowsOn
-rowsOf-later m recording t u [] h = refl
-rowsOf-later m recording t u (k ∷ ks) h = rowsOf-behind m recording t k ks u (λ e. omega arith) ∙ rowsOf-later m recording (suc t) u ks (omega arith)
+rows_of-later : (m : Monitor) (recording : List Packet) (t u : ℕ) (ks : List ℕ) → u < t → rows_on u (rows_of m recording t ks) ≡ []
+unfolding rows_of rows_on
+rows_of-later m recording t u [] h = refl
+rows_of-later m recording t u (k ∷ ks) h = rows_of-behind m recording t k ks u (λ e. omega arith) ∙ rows_of-later m recording (suc t) u ks (omega arith)
 
 -- at the first instant there are the first move's rows alone
-rowsOf-now : (m : Monitor) (recording : List Packet) (t k : ℕ) (ks : List ℕ) → rowsOn t (rows_of m recording t (k ∷ ks)) ≡ rows_by m (recordedAt recording t) t (move_of k)
-rowsOf-now m recording t k ks =
-    rowsOn-rowsOf m recording t k ks t
-    ∙ rw (rowsOf-later m recording (suc t) t ks (omega arith)) (append-nil _ ∙ rowsOn-same t (rows_by m (recordedAt recording t) t (move_of k)) (rowsBy-at m (recordedAt recording t) t (move_of k)))
+rows_of-now : (m : Monitor) (recording : List Packet) (t k : ℕ) (ks : List ℕ) → rows_on t (rows_of m recording t (k ∷ ks)) ≡ rows_by m (recorded_at recording t) t (move_of k)
+rows_of-now m recording t k ks =
+    rows_on-rows_of m recording t k ks t
+    ∙ rw (rows_of-later m recording (suc t) t ks (omega arith)) (append-nil _ ∙ rows_on-same t (rows_by m (recorded_at recording t) t (move_of k)) (rows_by_at m (recorded_at recording t) t (move_of k)))
 
 -- a move and its choice
 
@@ -84,35 +84,35 @@ chosen rest = nothing
 chosen (add j) = adding j
 
 -- an added row has a trigger
-choice-added : (t j : ℕ) (a : Option ℕ) (send : ℕ → Option Situation) {x : Situation} → map (tick uncapped) (bind a send) ≡ some x → choice (rowFor added t a j) ≡ adding j
+choice-added : (t j : ℕ) (a : Option ℕ) (send : ℕ → Option Situation) {x : Situation} → map (tick uncapped) (bind a send) ≡ some x → choice (row_for added t a j) ≡ adding j
 unfolding choice bind
 choice-added t j none send {x} e = let z : ◌≡◌ {A = ℕ} 0 1 = cc in absurd (omega arith)
 choice-added t j (some a) send e = refl
 
 -- a move that can be made comes to its choice
-choice-by : (m : Monitor) (recorded : Option ℕ) (t : ℕ) (a : Move) (s x : Situation) → stepBy m uncapped recorded s a ≡ some x → choice (rows_by m recorded t a) ≡ chosen a
-unfolding stepBy moved rows_by choice
-choice-by m none t (keep j) s x e = let z : ◌≡◌ {A = ℕ} 0 1 = cc in absurd (omega arith)
-choice-by m (some k) t (keep j) s x e = refl
-choice-by m none t rest s x e = refl
-choice-by m (some k) t rest s x e = refl
-choice-by m none t (add j) s x e = choice-added t j (triggerOf m j) _ e
-choice-by m (some k) t (add j) s x e = let z : ◌≡◌ {A = ℕ} 0 1 = cc in absurd (omega arith)
+choice_by : (m : Monitor) (recorded : Option ℕ) (t : ℕ) (a : Move) (s x : Situation) → step_by m uncapped recorded s a ≡ some x → choice (rows_by m recorded t a) ≡ chosen a
+unfolding step_by moved rows_by choice
+choice_by m none t (keep j) s x e = let z : ◌≡◌ {A = ℕ} 0 1 = cc in absurd (omega arith)
+choice_by m (some k) t (keep j) s x e = refl
+choice_by m none t rest s x e = refl
+choice_by m (some k) t rest s x e = refl
+choice_by m none t (add j) s x e = choice-added t j (trigger_of m j) _ e
+choice_by m (some k) t (add j) s x e = let z : ◌≡◌ {A = ℕ} 0 1 = cc in absurd (omega arith)
 
 -- the number of a move
 abbrev MoveNumber : ℕ → Move → Type 0
-MoveNumber k (keep j) = (k ≡ j) × (k < restMove)
-MoveNumber k rest = k ≡ restMove
-MoveNumber k (add j) = k ≡ firstAdd + j
+MoveNumber k (keep j) = (k ≡ j) × (k < rest_move)
+MoveNumber k rest = k ≡ rest_move
+MoveNumber k (add j) = k ≡ first_add + j
 
-move-number : (k : ℕ) → MoveNumber k (move_of k)
+move_number : (k : ℕ) → MoveNumber k (move_of k)
 unfolding move_of
-move-number k = go (ltb k restMove) (eqb k restMove) refl refl
+move_number k = go (ltb k rest_move) (eqb k rest_move) refl refl
   where
-    go : (low mid : Bool) → ltb k restMove ≡ low → eqb k restMove ≡ mid → MoveNumber k (cond low (keep k) (cond mid rest (add (k - firstAdd))))
-    go true mid e f = (refl, ltb-true k restMove e)
-    go false true e f = eqb-true k restMove f
-    go false false e f = let h : restMove ≤ k = ltb-false k restMove e in let n : k ≡ restMove → ⊥ = eqb-false k restMove f in omega arith
+    go : (low mid : Bool) → ltb k rest_move ≡ low → eqb k rest_move ≡ mid → MoveNumber k (cond low (keep k) (cond mid rest (add (k - first_add))))
+    go true mid e f = (refl, ltb-true k rest_move e)
+    go false true e f = eqb-true k rest_move f
+    go false false e f = let h : rest_move ≤ k = ltb-false k rest_move e in let n : k ≡ rest_move → ⊥ = eqb-false k rest_move f in omega arith
 
 -- a lower number is the sooner choice
 sooner-number : (k l : ℕ) (a b : Move) → MoveNumber k a → MoveNumber l b → k < l → Sooner (chosen a) (chosen b)
@@ -140,11 +140,11 @@ moves_before m recording t (k ∷ ks) [] s z r y p q h = absurd h
 moves_before m recording t (k ∷ ks) (l ∷ ls) s z r y p q (inl h) = (
   record {
     instant = suc t;
-    alike = λ u b. rowsOf-later m recording (suc t) u (k ∷ ks) b ∙ sym (rowsOf-later m recording (suc t) u (l ∷ ls) b);
+    alike = λ u b. rows_of-later m recording (suc t) u (k ∷ ks) b ∙ sym (rows_of-later m recording (suc t) u (l ∷ ls) b);
     sooner =
-        rw (rowsOf-now m recording (suc t) k ks, rowsOf-now m recording (suc t) l ls)
-        (rw (choice-by m (recordedAt recording (suc t)) (suc t) (move_of k) s p.0 p.2, choice-by m (recordedAt recording (suc t)) (suc t) (move_of l) r q.0 q.2)
-        (sooner-number k l (move_of k) (move_of l) (move-number k) (move-number l) h));
+        rw (rows_of-now m recording (suc t) k ks, rows_of-now m recording (suc t) l ls)
+        (rw (choice_by m (recorded_at recording (suc t)) (suc t) (move_of k) s p.0 p.2, choice_by m (recorded_at recording (suc t)) (suc t) (move_of l) r q.0 q.2)
+        (sooner-number k l (move_of k) (move_of l) (move_number k) (move_number l) h));
   },
   omega arith,
 )
@@ -152,8 +152,8 @@ moves_before m recording t (k ∷ ks) (l ∷ ls) s z r y p q (inr h) =
     let (b, late) = moves_before m recording (suc t) ks ls p.0 z q.0 y p.3 q.3 h.1 in (
       record {
         instant = b.instant;
-        alike = λ u c. let same = b.alike u c in cc (rowsOn-rowsOf m recording (suc t) k ks u, rowsOn-rowsOf m recording (suc t) l ls u);
-        sooner = rw (rowsOf-behind m recording (suc t) k ks b.instant (λ e. omega arith), rowsOf-behind m recording (suc t) l ls b.instant (λ e. omega arith)) b.sooner;
+        alike = λ u c. let same = b.alike u c in cc (rows_on-rows_of m recording (suc t) k ks u, rows_on-rows_of m recording (suc t) l ls u);
+        sooner = rw (rows_of-behind m recording (suc t) k ks b.instant (λ e. omega arith), rows_of-behind m recording (suc t) l ls b.instant (λ e. omega arith)) b.sooner;
       },
       omega arith,
     )

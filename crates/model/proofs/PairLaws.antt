@@ -16,27 +16,27 @@ use Rattle.model.specs.Readiness.{GuardAnswers, readiness}
 use Rattle.model.specs.Monitor.{Monitor, Config, Transition, tried}
 use Rattle.model.specs.Trace.{Packet}
 use Rattle.model.specs.Size.{size}
-use Rattle.model.specs.Situation.{InRange, configOf, situationOf, recordedAt, moveLimit, stepNumber, firstNumber}
-use Rattle.model.specs.Pairs.{howMany, pairs, sameAnswer, isAnswer, answer_in, isPair}
-use Rattle.model.specs.Validation.{possibleAfter, pairsAt}
+use Rattle.model.specs.Situation.{InRange, config_of, situation_of, recorded_at, move_limit, step_number, first_number}
+use Rattle.model.specs.Pairs.{how_many, pairs, same_answer, is_answer, answer_in, is_pair}
+use Rattle.model.specs.Validation.{possible_after, pairs_at}
 use Rattle.model.specs.CountedPairs.{Pair, OnceEach, Counted}
 use Rattle.model.specs.Sane.{Sane}
 use Rattle.model.specs.declared.Readiness.{Readiness}
 use Rattle.model.specs.declared.Readiness.TheVariants.{Yes, NotYet, NoMore}
 use Rattle.model.specs.declared.Situation.{Situation}
-use Rattle.model.proofs.Basics.{and_left, and_right, both_true, cond-some, getElem-within}
-use Rattle.model.proofs.SetLaws.{member-within}
+use Rattle.model.proofs.Basics.{and_left, and_right, both_true, cond-some, get_elem_within}
+use Rattle.model.proofs.SetLaws.{member_within}
 use Rattle.model.proofs.LayerLaws.{length-layer}
 use Rattle.model.proofs.Numbering.{forth}
 use Rattle.model.proofs.ReadinessLaws.{answers, answer-is}
-use Rattle.model.proofs.Capping.{largest-listed, same_answer, written_back}
+use Rattle.model.proofs.Capping.{largest-listed, same_answer_lem, written_back}
 
 -- lists of pairs
 
-member-append : (xs ys : List (ℕ × ℕ)) (p : ℕ × ℕ) → Memᴰ p (xs ++ ys) ↔ (Memᴰ p xs ⊎ Memᴰ p ys)
-member-append [] ys p = (λ h. inr h, λ h. ⊎_elim (λ i. absurd (Memᴰ.not-nil i)) (λ i. i) h)
-member-append (x ∷ xs) ys p =
-    let (forth, back) = member-append xs ys p in (
+member_append : (xs ys : List (ℕ × ℕ)) (p : ℕ × ℕ) → Memᴰ p (xs ++ ys) ↔ (Memᴰ p xs ⊎ Memᴰ p ys)
+member_append [] ys p = (λ h. inr h, λ h. ⊎_elim (λ i. absurd (Memᴰ.not-nil i)) (λ i. i) h)
+member_append (x ∷ xs) ys p =
+    let (forth, back) = member_append xs ys p in (
       λ h. ⊎_elim (λ e. inl (Memᴰ.head e)) (λ i. ⊎_elim (λ j. inl (Memᴰ.tail j)) (λ j. inr j) (forth i)) (Memᴰ.cases_cons h),
       λ h. ⊎_elim (λ i. ⊎_elim (λ e. Memᴰ.head e) (λ j. Memᴰ.tail (back (inl j))) (Memᴰ.cases_cons i)) (λ j. Memᴰ.tail (back (inr j))) h,
     )
@@ -44,7 +44,7 @@ member-append (x ∷ xs) ys p =
 once-append : (xs ys : List (ℕ × ℕ)) → OnceEach xs → OnceEach ys → ((p : ℕ × ℕ) → Memᴰ p xs → Memᴰ p ys → ⊥) → OnceEach (xs ++ ys)
 once-append [] ys o q apart = q
 once-append (x ∷ xs) ys o q apart = (
-  λ h. ⊎_elim (λ i. o.0 i) (λ i. apart x (Memᴰ.head refl) i) ((member-append xs ys x).0 h),
+  λ h. ⊎_elim (λ i. o.0 i) (λ i. apart x (Memᴰ.head refl) i) ((member_append xs ys x).0 h),
   once-append xs ys o.1 q (λ p i j. apart p (Memᴰ.tail i) j),
 )
 
@@ -65,40 +65,40 @@ without (y ∷ ys) x h = ⊎_elim here (λ i. behind (without ys x i)) (Memᴰ.c
       λ p i. ⊎_elim (λ q. inr (Memᴰ.head q)) (λ j. ⊎_elim (λ q. inl q) (λ k. inr (Memᴰ.tail k)) (others p j)) (Memᴰ.cases_cons i),
     )
 
-once-shorter : (xs ys : List (ℕ × ℕ)) → OnceEach xs → ((p : ℕ × ℕ) → Memᴰ p xs → Memᴰ p ys) → length xs ≤ length ys
-once-shorter [] ys o all = omega arith
-once-shorter (x ∷ xs) ys o all =
+once_shorter : (xs ys : List (ℕ × ℕ)) → OnceEach xs → ((p : ℕ × ℕ) → Memᴰ p xs → Memᴰ p ys) → length xs ≤ length ys
+once_shorter [] ys o all = omega arith
+once_shorter (x ∷ xs) ys o all =
     let (rest, long, others) = without ys x (all x (Memᴰ.head refl)) in
     let shorter : length xs ≤ length rest =
-    once-shorter xs rest o.1
+    once_shorter xs rest o.1
     (λ p i. ⊎_elim (λ e. absurd (o.0 (subst (λ (q : ℕ × ℕ). Memᴰ q xs) e i))) (λ j. j) (others p (all p (Memᴰ.tail i)))) in
     omega arith
 
 -- a count is determined by what is counted
-pub one-count : {P : ℕ → ℕ → Type 0} {a b : ℕ} → Counted P a → Counted P b → a ≡ b
-one-count x y =
-    let le : length x.list ≤ length y.list = once-shorter x.list y.list x.once (λ p i. (y.these p.0 p.1).1 ((x.these p.0 p.1).0 i)) in
-    let ge : length y.list ≤ length x.list = once-shorter y.list x.list y.once (λ p i. (x.these p.0 p.1).1 ((y.these p.0 p.1).0 i)) in
+pub one_count : {P : ℕ → ℕ → Type 0} {a b : ℕ} → Counted P a → Counted P b → a ≡ b
+one_count x y =
+    let le : length x.list ≤ length y.list = once_shorter x.list y.list x.once (λ p i. (y.these p.0 p.1).1 ((x.these p.0 p.1).0 i)) in
+    let ge : length y.list ≤ length x.list = once_shorter y.list x.list y.once (λ p i. (x.these p.0 p.1).1 ((y.these p.0 p.1).0 i)) in
     omega (arith, x.many, y.many)
 
 -- a pair's parts, by what it equals
 first_of : {n j x y : ℕ} → ◌≡◌ {A = ℕ × ℕ} (n, j) (x, y) → n ≡ x
 first_of e = ap (λ (p : ℕ × ℕ). p.0) e
 
-second-of : {n j x y : ℕ} → ◌≡◌ {A = ℕ × ℕ} (n, j) (x, y) → j ≡ y
-second-of e = ap (λ (p : ℕ × ℕ). p.1) e
+second_of : {n j x y : ℕ} → ◌≡◌ {A = ℕ × ℕ} (n, j) (x, y) → j ≡ y
+second_of e = ap (λ (p : ℕ × ℕ). p.1) e
 
 module _ (test : ℕ → ℕ → Bool) where
   -- the pairs of n that pass
   abbrev Of : (n l x y : ℕ) → Type 0
   Of n l x y = (x ≡ n) × (y < l) × (test n y ≡ true)
 
-  of_one : (n l : ℕ) → Counted (Of n l) (howMany (test n) l)
-  unfolding howMany
+  of_one : (n l : ℕ) → Counted (Of n l) (how_many (test n) l)
+  unfolding how_many
   of_one n zero = record { list = []; once = tt; these = λ x y. (λ h. absurd (Memᴰ.not-nil h), λ h. absurd (not-suc-le-zero h.1)); many = refl }
   of_one n (suc l) = by (of_one n l) (test n l) refl
     where
-      by : Counted (Of n l) (howMany (test n) l) → (passes : Bool) → test n l ≡ passes → Counted (Of n (suc l)) (howMany (test n) l + cond passes 1 0)
+      by : Counted (Of n l) (how_many (test n) l) → (passes : Bool) → test n l ≡ passes → Counted (Of n (suc l)) (how_many (test n) l + cond passes 1 0)
       by before true e =
           record {
             list = (n, l) ∷ before.list;
@@ -106,7 +106,7 @@ module _ (test : ℕ → ℕ → Bool) where
             these = λ x y. (
               λ h.
                   ⊎_elim
-                  (λ q. let same : y ≡ l = second-of q in (first_of q, omega arith, rw same e))
+                  (λ q. let same : y ≡ l = second_of q in (first_of q, omega arith, rw same e))
                   (λ i. let (a, b, p) = (before.these x y).0 i in (a, omega arith, p))
                   (Memᴰ.cases_cons h),
               λ (a, b, p). on x y a b p (dec_lt y l),
@@ -144,7 +144,7 @@ module _ (test : ℕ → ℕ → Bool) where
   passing zero l = record { list = []; once = tt; these = λ x y. (λ h. absurd (Memᴰ.not-nil h), λ h. absurd (not-suc-le-zero h.0)); many = refl }
   passing (suc n) l = by (passing n l) (of_one n l)
     where
-      by : Counted (Passing n l) (pairs test n l) → Counted (Of n l) (howMany (test n) l) → Counted (Passing (suc n) l) (pairs test n l + howMany (test n) l)
+      by : Counted (Passing n l) (pairs test n l) → Counted (Of n l) (how_many (test n) l) → Counted (Passing (suc n) l) (pairs test n l + how_many (test n) l)
       by before here =
           record {
             list = before.list ++ here.list;
@@ -159,8 +159,8 @@ module _ (test : ℕ → ℕ → Bool) where
                   ⊎_elim
                   (λ i. let (a, b, p) = (before.these x y).0 i in (omega arith, b, p))
                   (λ i. let (a, b, p) = (here.these x y).0 i in (omega arith, b, rw a p))
-                  ((member-append before.list here.list (x, y)).0 h),
-              λ (a, b, p). (member-append before.list here.list (x, y)).1 (on x y a b p (dec_lt x n)),
+                  ((member_append before.list here.list (x, y)).0 h),
+              λ (a, b, p). (member_append before.list here.list (x, y)).1 (on x y a b p (dec_lt x n)),
             );
             many = length-append before.list here.list ∙ omega (arith, before.many, here.many);
           }
@@ -169,8 +169,8 @@ module _ (test : ℕ → ℕ → Bool) where
           on x y a b p (yes h) = inl ((before.these x y).1 (h, b, p))
           on x y a b p (no h) = let same : x ≡ n = omega arith in inr ((here.these x y).1 (same, b, ap (λ (z : ℕ). test z y) (sym same) ∙ p))
 
-counted-as : {P Q : ℕ → ℕ → Type 0} {count : ℕ} → ((x y : ℕ) → P x y ↔ Q x y) → Counted P count → Counted Q count
-counted-as same c =
+counted_as : {P Q : ℕ → ℕ → Type 0} {count : ℕ} → ((x y : ℕ) → P x y ↔ Q x y) → Counted P count → Counted Q count
+counted_as same c =
     record {
       list = c.list;
       once = c.once;
@@ -180,7 +180,7 @@ counted-as same c =
 
 -- what an answer that is there says
 
-same-is : (a b : Readiness) → sameAnswer a b ≡ true → b ≡ a
+same-is : (a b : Readiness) → same_answer a b ≡ true → b ≡ a
 same-is Yes Yes e = refl
 same-is Yes NotYet e = absurd (false≢true e)
 same-is Yes NoMore e = absurd (false≢true e)
@@ -191,19 +191,19 @@ same-is NoMore Yes e = absurd (false≢true e)
 same-is NoMore NotYet e = absurd (false≢true e)
 same-is NoMore NoMore e = refl
 
-same_self : (a : Readiness) → sameAnswer a a ≡ true
+same_self : (a : Readiness) → same_answer a a ≡ true
 same_self Yes = refl
 same_self NotYet = refl
 same_self NoMore = refl
 
-is_some : (a : Readiness) (o : Option Readiness) → isAnswer a o ≡ true → o ≡ some a
+is_some : (a : Readiness) (o : Option Readiness) → is_answer a o ≡ true → o ≡ some a
 is_some a none e = absurd (false≢true e)
 is_some a (some b) e = ap {B = Option Readiness} some (same-is a b e)
 
-bind-some : {A B : Type 0} (o : Option A) (f : A → Option B) (b : B) → bind o f ≡ some b → (a : A) × (o ≡ some a) × (f a ≡ some b)
+bind_some : {A B : Type 0} (o : Option A) (f : A → Option B) (b : B) → bind o f ≡ some b → (a : A) × (o ≡ some a) × (f a ≡ some b)
 unfolding bind
-bind-some none f b e = absurd (none-ne-some b e)
-bind-some (some a) f b e = (a, refl, e)
+bind_some none f b e = absurd (none-ne-some b e)
+bind_some (some a) f b e = (a, refl, e)
 
 module _ (m : Monitor) (j k : ℕ) (c : Config) where
   -- transition j of kind k answers, from its state
@@ -213,7 +213,7 @@ module _ (m : Monitor) (j k : ℕ) (c : Config) where
   tried-some : (a : Readiness) → tried m j k c ≡ some a → (t : Transition) × Fits t × (readiness t.guard c.variables c.clocks ≡ a)
   unfolding tried
   tried-some a e =
-      let (t, listed, answer) = bind-some (get_elem? m.transitions j) _ a e in
+      let (t, listed, answer) = bind_some (get_elem? m.transitions j) _ a e in
       let (fits, is) = cond-some (eqb t.source c.state && eqb t.trigger k) (some (readiness t.guard c.variables c.clocks)) a answer in (
         t,
         (listed, eqb-true _ _ (and_left _ _ fits), eqb-true _ _ (and_right (eqb t.source c.state) _ fits)),
@@ -226,39 +226,39 @@ module _ (m : Monitor) (j k : ℕ) (c : Config) where
 
 module _ {m : Monitor} (sane : Sane m) (recording : List Packet) (instant : ℕ) (a : Readiness) where
   abbrev set : List Bool
-  set = possibleAfter m recording (instant - 1)
+  set = possible_after m recording (instant - 1)
 
   set-length : length set ≡ size m
-  set-length = length-layer (size m) moveLimit (stepNumber m recording) (firstNumber m) (instant - 1)
+  set-length = length-layer (size m) move_limit (step_number m recording) (first_number m) (instant - 1)
 
   abbrev test : ℕ → ℕ → Bool
-  test = isPair m set (recordedAt recording instant) a
+  test = is_pair m set (recorded_at recording instant) a
 
-  pair-passes : (n j : ℕ) → Pair m recording instant a n j → Passing test (size m) (length m.transitions) n j
+  pair_passes : (n j : ℕ) → Pair m recording instant a n j → Passing test (size m) (length m.transitions) n j
   unfolding answer_in bind
-  pair-passes n j p =
-      let s : Situation = situationOf m n in
-      let below : n < size m = omega (arith, member-within set n p.possible, set-length) in
+  pair_passes n j p =
+      let s : Situation = situation_of m n in
+      let below : n < size m = omega (arith, member_within set n p.possible, set-length) in
       let range : InRange m s = (forth sane n below).1 in
       let answer : a ≡ readiness p.transition.guard s.variables s.clocks =
       answer-is p.transition.guard s.variables s.clocks a (p.answers s.clocks range.clocks (written_back m s range)) in
-      let tries : tried m j p.transition.trigger (configOf s) ≡ some a =
-      some-tried m j p.transition.trigger (configOf s) p.transition (p.listed, p.from, refl) ∙ ap {B = Option Readiness} some (sym answer) in
-      let is : answer_in m (recordedAt recording instant) s j ≡ some a = rw (eq-eqb s.air 0 p.free, p.kind) tries in (
+      let tries : tried m j p.transition.trigger (config_of s) ≡ some a =
+      some-tried m j p.transition.trigger (config_of s) p.transition (p.listed, p.from, refl) ∙ ap {B = Option Readiness} some (sym answer) in
+      let is : answer_in m (recorded_at recording instant) s j ≡ some a = rw (eq-eqb s.air 0 p.free, p.kind) tries in (
         below,
-        getElem-within m.transitions j p.transition p.listed,
-        both_true (get_or set n false) _ p.possible (ap (isAnswer a) is ∙ same_self a),
+        get_elem_within m.transitions j p.transition p.listed,
+        both_true (get_or set n false) _ p.possible (ap (is_answer a) is ∙ same_self a),
       )
 
-  passes-pair : (n j : ℕ) → Passing test (size m) (length m.transitions) n j → Pair m recording instant a n j
+  passes_pair : (n j : ℕ) → Passing test (size m) (length m.transitions) n j → Pair m recording instant a n j
   unfolding answer_in
-  passes-pair n j (below, within, e) =
-      let s : Situation = situationOf m n in
+  passes_pair n j (below, within, e) =
+      let s : Situation = situation_of m n in
       let there : get_or set n false ≡ true = and_left _ _ e in
-      let is : answer_in m (recordedAt recording instant) s j ≡ some a = is_some a _ (and_right (get_or set n false) _ e) in
-      let (free, tries) = cond-some (eqb s.air 0) (bind (recordedAt recording instant) (λ k. tried m j k (configOf s))) a is in
-      let (k, heard, try) = bind-some (recordedAt recording instant) (λ k. tried m j k (configOf s)) a tries in
-      let (t, (listed, from, on), answer) = tried-some m j k (configOf s) a try in
+      let is : answer_in m (recorded_at recording instant) s j ≡ some a = is_some a _ (and_right (get_or set n false) _ e) in
+      let (free, tries) = cond-some (eqb s.air 0) (bind (recorded_at recording instant) (λ k. tried m j k (config_of s))) a is in
+      let (k, heard, try) = bind_some (recorded_at recording instant) (λ k. tried m j k (config_of s)) a tries in
+      let (t, (listed, from, on), answer) = tried-some m j k (config_of s) a try in
       record {
         possible = there;
         free = eqb-true s.air 0 free;
@@ -268,13 +268,13 @@ module _ {m : Monitor} (sane : Sane m) (recording : List Packet) (instant : ℕ)
         from = from;
         answers = λ clocks two writes.
             let same : readiness t.guard s.variables clocks ≡ a =
-            sym (same_answer m sane.clocks t.guard s.variables clocks two (sane.transition j t listed).closed (largest-listed m.transitions j t listed))
+            sym (same_answer_lem m sane.clocks t.guard s.variables clocks two (sane.transition j t listed).closed (largest-listed m.transitions j t listed))
             ∙ ap (readiness t.guard s.variables) writes
             ∙ answer in
             subst (GuardAnswers t.guard s.variables clocks) same (answers t.guard s.variables clocks);
       }
 
   -- the count is the number of pairs in R-10's words
-  pub counted-pairs : Counted (Pair m recording instant a) (pairsAt m recording a instant)
-  unfolding pairsAt
-  counted-pairs = counted-as (λ n j. (passes-pair n j, pair-passes n j)) (passing test (size m) (length m.transitions))
+  pub counted-pairs : Counted (Pair m recording instant a) (pairs_at m recording a instant)
+  unfolding pairs_at
+  counted-pairs = counted_as (λ n j. (passes_pair n j, pair_passes n j)) (passing test (size m) (length m.transitions))

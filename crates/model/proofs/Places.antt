@@ -7,8 +7,8 @@ use mathlib.Core.Path.{◌≡◌, refl, sym, ap, ap₂, subst, ◌∙◌}
 use mathlib.Core.List.{List, [], ◌∷◌, ◌++◌}
 use lib.ListN.{length, get_or, take, drop, replicate, length-append, length-take, length-drop, length-replicate, get_or-append}
 use lib.Seq.{ext_get_or, get_or-take, get_or-drop, get_or-append-add, length-take-le}
-use Rattle.model.specs.Bytes.{byte_at, word_at, word_bytes, longAt, longBytes, tab, joined, padded}
-use Rattle.model.proofs.Basics.{length-tab, getD-tab}
+use Rattle.model.specs.Bytes.{byte_at, word_at, word_bytes, long_at, long_bytes, tab, joined, padded}
+use Rattle.model.proofs.Basics.{length-tab, get_or-tab}
 
 abbrev pub AllBytes : List ℕ → Type 0
 AllBytes b = (i : ℕ) → byte_at b i < 256
@@ -18,18 +18,18 @@ abbrev pub Stands : List ℕ → ℕ → List ℕ → Type 0
 Stands b at l = (i : ℕ) → i < length l → byte_at b (at + i) ≡ byte_at l i
 
 module _ (b : List ℕ) where
-  pub stands-nil : (at : ℕ) → Stands b at []
-  stands-nil at i h = absurd (not-suc-le-zero h)
+  pub stands_nil : (at : ℕ) → Stands b at []
+  stands_nil at i h = absurd (not-suc-le-zero h)
 
-  pub stands-cons : (at x : ℕ) (l : List ℕ) → byte_at b at ≡ x → Stands b (at + 1) l → Stands b at (x ∷ l)
-  stands-cons at x l e s zero h = rw add-zero e
-  stands-cons at x l e s (suc i) h = ap (λ (k : ℕ). get_or b k 0) (omega arith) ∙ s i (omega arith)
+  pub stands_cons : (at x : ℕ) (l : List ℕ) → byte_at b at ≡ x → Stands b (at + 1) l → Stands b at (x ∷ l)
+  stands_cons at x l e s zero h = rw add-zero e
+  stands_cons at x l e s (suc i) h = ap (λ (k : ℕ). get_or b k 0) (omega arith) ∙ s i (omega arith)
 
-  pub stands-head : (at x : ℕ) (l : List ℕ) → Stands b at (x ∷ l) → byte_at b at ≡ x
-  stands-head at x l s = ap (λ (k : ℕ). get_or b k 0) (omega arith) ∙ s 0 (omega arith)
+  pub stands_head : (at x : ℕ) (l : List ℕ) → Stands b at (x ∷ l) → byte_at b at ≡ x
+  stands_head at x l s = ap (λ (k : ℕ). get_or b k 0) (omega arith) ∙ s 0 (omega arith)
 
-  pub stands-tail : (at x : ℕ) (l : List ℕ) → Stands b at (x ∷ l) → Stands b (at + 1) l
-  stands-tail at x l s i h = ap (λ (k : ℕ). get_or b k 0) (omega arith) ∙ s (suc i) (omega arith)
+  pub stands_tail : (at x : ℕ) (l : List ℕ) → Stands b at (x ∷ l) → Stands b (at + 1) l
+  stands_tail at x l s i h = ap (λ (k : ℕ). get_or b k 0) (omega arith) ∙ s (suc i) (omega arith)
 
   pub stands-append : (at : ℕ) (l r : List ℕ) → Stands b at l → Stands b (at + length l) r → Stands b at (l ++ r)
   stands-append at l r s t i h = split (dec_lt i (length l))
@@ -58,44 +58,44 @@ module _ (b : List ℕ) where
   pub stands-whole : (l : List ℕ) → length l ≡ length b → Stands b 0 l → l ≡ b
   stands-whole l e s = ext_get_or 0 l b e (λ i h. sym (s i h) ∙ ap (λ (k : ℕ). get_or b k 0) (zero-add i))
 
-  pub stands-part : (at n : ℕ) → Stands b at (take n (drop at b))
-  stands-part at n i h = sym (get_or-take n (drop at b) i 0 (omega (arith, length-take n (drop at b))) ∙ get_or-drop at b i 0)
+  pub stands_part : (at n : ℕ) → Stands b at (take n (drop at b))
+  stands_part at n i h = sym (get_or-take n (drop at b) i 0 (omega (arith, length-take n (drop at b))) ∙ get_or-drop at b i 0)
 
-  pub part-stands : (at : ℕ) (l : List ℕ) → at + length l ≤ length b → Stands b at l → take (length l) (drop at b) ≡ l
-  part-stands at l h s =
+  pub part_stands : (at : ℕ) (l : List ℕ) → at + length l ≤ length b → Stands b at l → take (length l) (drop at b) ≡ l
+  part_stands at l h s =
       let n : length (take (length l) (drop at b)) ≡ length l = length-take-le (length l) (drop at b) (omega (arith, length-drop at b)) in
-      ext_get_or 0 (take (length l) (drop at b)) l n (λ i p. sym (stands-part at (length l) i p) ∙ s i (omega arith))
+      ext_get_or 0 (take (length l) (drop at b)) l n (λ i p. sym (stands_part at (length l) i p) ∙ s i (omega arith))
 
 -- two-byte numbers
 
-pub word-within : (b : List ℕ) (at : ℕ) → AllBytes b → word_at b at < 65536
-word-within b at all = let x : byte_at b at < 256 = all at in let y : byte_at b (at + 1) < 256 = all (at + 1) in omega arith
+pub word_within : (b : List ℕ) (at : ℕ) → AllBytes b → word_at b at < 65536
+word_within b at all = let x : byte_at b at < 256 = all at in let y : byte_at b (at + 1) < 256 = all (at + 1) in omega arith
 
 pub word_stands : (b : List ℕ) (at : ℕ) → AllBytes b → Stands b at (word_bytes (word_at b at))
 word_stands b at all =
     let x : byte_at b at < 256 = all at in
     let y : byte_at b (at + 1) < 256 = all (at + 1) in
     let n : ℕ = word_at b at in
-    stands-cons b at (n / 256 % 256) (n % 256 ∷ []) (omega arith) (stands-cons b (at + 1) (n % 256) [] (omega arith) (stands-nil b (at + 1 + 1)))
+    stands_cons b at (n / 256 % 256) (n % 256 ∷ []) (omega arith) (stands_cons b (at + 1) (n % 256) [] (omega arith) (stands_nil b (at + 1 + 1)))
 
-pub word-at : (b : List ℕ) (at n : ℕ) → AllBytes b → word_at b at ≡ n → Stands b at (word_bytes n)
-word-at b at n all e = subst (λ (k : ℕ). Stands b at (word_bytes k)) e (word_stands b at all)
+pub word_at_lem : (b : List ℕ) (at n : ℕ) → AllBytes b → word_at b at ≡ n → Stands b at (word_bytes n)
+word_at_lem b at n all e = subst (λ (k : ℕ). Stands b at (word_bytes k)) e (word_stands b at all)
 
 pub word_back : (b : List ℕ) (at n : ℕ) → n < 65536 → Stands b at (word_bytes n) → word_at b at ≡ n
 word_back b at n h s =
-    let x : byte_at b at ≡ n / 256 % 256 = stands-head b at (n / 256 % 256) (n % 256 ∷ []) s in
-    let y : byte_at b (at + 1) ≡ n % 256 = stands-head b (at + 1) (n % 256) [] (stands-tail b at (n / 256 % 256) (n % 256 ∷ []) s) in
+    let x : byte_at b at ≡ n / 256 % 256 = stands_head b at (n / 256 % 256) (n % 256 ∷ []) s in
+    let y : byte_at b (at + 1) ≡ n % 256 = stands_head b (at + 1) (n % 256) [] (stands_tail b at (n / 256 % 256) (n % 256 ∷ []) s) in
     omega arith
 
 -- four-byte numbers
 
-pub long-at : (b : List ℕ) (at n : ℕ) → AllBytes b → longAt b at ≡ n → Stands b at (longBytes n)
-long-at b at n all e =
+pub long_at_lem : (b : List ℕ) (at n : ℕ) → AllBytes b → long_at b at ≡ n → Stands b at (long_bytes n)
+long_at_lem b at n all e =
     let high : byte_at b at < 256 = all at in
     let next : byte_at b (at + 1) < 256 = all (at + 1) in
-    let low : word_at b (at + 2) < 65536 = word-within b (at + 2) all in
+    let low : word_at b (at + 2) < 65536 = word_within b (at + 2) all in
     stands-append b at (n / 16777216 % 256 ∷ n / 65536 % 256 ∷ []) (word_bytes n)
-    (stands-cons b at (n / 16777216 % 256) (n / 65536 % 256 ∷ []) (omega arith) (stands-cons b (at + 1) (n / 65536 % 256) [] (omega arith) (stands-nil b (at + 1 + 1))))
+    (stands_cons b at (n / 16777216 % 256) (n / 65536 % 256 ∷ []) (omega arith) (stands_cons b (at + 1) (n / 65536 % 256) [] (omega arith) (stands_nil b (at + 1 + 1))))
     (subst (λ (l : List ℕ). Stands b (at + 2) l) (same_low (word_at b (at + 2)) n (omega arith)) (word_stands b (at + 2) all))
   where
     same_low : (w n : ℕ) → w ≡ n % 65536 → word_bytes w ≡ word_bytes n
@@ -104,7 +104,7 @@ long-at b at n all e =
         let low : w % 256 ≡ n % 256 = omega arith in
         λ i. high i ∷ low i ∷ []
 
-pub long-back : (b : List ℕ) (at n : ℕ) → n < 4294967296 → Stands b at (longBytes n) → longAt b at ≡ n
+pub long-back : (b : List ℕ) (at n : ℕ) → n < 4294967296 → Stands b at (long_bytes n) → long_at b at ≡ n
 long-back b at n h s =
     let first : byte_at b at ≡ n / 16777216 % 256 = ap (λ (k : ℕ). get_or b k 0) (omega arith) ∙ s 0 (omega arith) in
     let second : byte_at b (at + 1) ≡ n / 65536 % 256 = s 1 (omega arith) in
@@ -128,13 +128,13 @@ module _ (size : ℕ) (l : List ℕ) where
   unfolding padded
   length-padded h = simp (length-append, length-replicate) (omega arith)
 
-  pub getD-padded : (i : ℕ) → i < length l → byte_at (padded size l) i ≡ byte_at l i
+  pub get_or-padded : (i : ℕ) → i < length l → byte_at (padded size l) i ≡ byte_at l i
   unfolding padded
-  getD-padded i h = get_or-append l (replicate (size - length l) 0) 0 i h
+  get_or-padded i h = get_or-append l (replicate (size - length l) 0) 0 i h
 
-  pub getD-padded-past : (i : ℕ) → length l ≤ i → byte_at (padded size l) i ≡ 0
+  pub get_or_padded_past : (i : ℕ) → length l ≤ i → byte_at (padded size l) i ≡ 0
   unfolding padded
-  getD-padded-past i h =
+  get_or_padded_past i h =
       ap (λ (k : ℕ). get_or (l ++ replicate (size - length l) 0) k 0) (omega arith)
       ∙ get_or-append-add l (replicate (size - length l) 0) (i - length l) 0
       ∙ zeros (size - length l) (i - length l)
@@ -145,18 +145,18 @@ module _ (size : ℕ) (l : List ℕ) where
       zeros (suc n) (suc k) = zeros n k
 
 module _ (size : ℕ) (f : ℕ → ℕ) (n : ℕ) where
-  pub getD-column : (i : ℕ) → i < n → byte_at (padded size (tab f n)) i ≡ f i
-  getD-column i h = getD-padded size (tab f n) i (omega (arith, length-tab f n)) ∙ getD-tab f 0 n i h
+  pub get_or_column : (i : ℕ) → i < n → byte_at (padded size (tab f n)) i ≡ f i
+  get_or_column i h = get_or-padded size (tab f n) i (omega (arith, length-tab f n)) ∙ get_or-tab f 0 n i h
 
-  pub getD-column-past : (i : ℕ) → n ≤ i → byte_at (padded size (tab f n)) i ≡ 0
-  getD-column-past i h = getD-padded-past size (tab f n) i (omega (arith, length-tab f n))
+  pub get_or_column_past : (i : ℕ) → n ≤ i → byte_at (padded size (tab f n)) i ≡ 0
+  get_or_column_past i h = get_or_padded_past size (tab f n) i (omega (arith, length-tab f n))
 
 -- rows
 
 module _ (f : ℕ → List ℕ) where
   pub stands-joined : (b : List ℕ) (at n : ℕ) → ((i : ℕ) → i < n → Stands b (at + length (joined f i)) (f i)) → Stands b at (joined f n)
   unfolding joined
-  stands-joined b at zero h = stands-nil b at
+  stands-joined b at zero h = stands_nil b at
   stands-joined b at (suc n) h = stands-append b at (joined f n) (f n) (stands-joined b at n (λ i p. h i (omega arith))) (h n (omega arith))
 
   pub joined-stands : (b : List ℕ) (at n i : ℕ) → i < n → Stands b at (joined f n) → Stands b (at + length (joined f i)) (f i)
@@ -176,8 +176,8 @@ module _ (f : ℕ → List ℕ) where
       ∙ ap₂ (λ (x y : ℕ). x + y) (length-joined w n (λ i p. h i (omega arith))) (h n (omega arith))
       ∙ sym (mul-suc w n)
 
-  pub getD-joined : (w n : ℕ) → ((i : ℕ) → i < n → length (f i) ≡ w) → (i j : ℕ) → i < n → j < w → byte_at (joined f n) (w * i + j) ≡ byte_at (f i) j
-  getD-joined w n h i j p q =
+  pub get_or-joined : (w n : ℕ) → ((i : ℕ) → i < n → length (f i) ≡ w) → (i j : ℕ) → i < n → j < w → byte_at (joined f n) (w * i + j) ≡ byte_at (f i) j
+  get_or-joined w n h i j p q =
       let e : length (joined f i) ≡ w * i = length-joined w i (λ k r. h k (omega arith)) in
       ap (λ (k : ℕ). get_or (joined f n) k 0) (omega arith)
       ∙ joined-stands (joined f n) 0 n i p (stands_self (joined f n)) j (omega (arith, h i p))
@@ -193,12 +193,12 @@ module _ {A : Type 0} where
   pub tab-alike : (f g : ℕ → A) (n m : ℕ) → n ≡ m → ((i : ℕ) → i < m → f i ≡ g i) → tab f n ≡ tab g m
   tab-alike f g n m e h = ap (tab f) e ∙ tab-same f g m h
 
-  pub tab-cons : (f : ℕ → A) (n : ℕ) → tab f (suc n) ≡ f 0 ∷ tab (λ i. f (suc i)) n
+  pub tab_cons : (f : ℕ → A) (n : ℕ) → tab f (suc n) ≡ f 0 ∷ tab (λ i. f (suc i)) n
   unfolding tab
-  tab-cons f zero = refl
-  tab-cons f (suc n) = ap (λ (l : List A). l ++ (f (suc n) ∷ [])) (tab-cons f n)
+  tab_cons f zero = refl
+  tab_cons f (suc n) = ap (λ (l : List A). l ++ (f (suc n) ∷ [])) (tab_cons f n)
 
-  pub tab-getD : (d : A) (l : List A) → tab (λ i. get_or l i d) (length l) ≡ l
-  tab-getD d l =
+  pub tab-get_or : (d : A) (l : List A) → tab (λ i. get_or l i d) (length l) ≡ l
+  tab-get_or d l =
       ext_get_or d (tab (λ i. get_or l i d) (length l)) l (length-tab (λ i. get_or l i d) (length l))
-      (λ i h. getD-tab (λ i. get_or l i d) d (length l) i (omega (arith, length-tab (λ i. get_or l i d) (length l))))
+      (λ i h. get_or-tab (λ i. get_or l i d) d (length l) i (omega (arith, length-tab (λ i. get_or l i d) (length l))))

@@ -10,18 +10,18 @@ use lib.ListN.{length}
 use lib.Dec.{eqb}
 use borrow.Author.Tests.{eqb-true, eq-eqb}
 use Rattle.model.specs.Monitor.{Monitor, Transition}
-use Rattle.model.specs.Reach.{Reached, initial, led, among, targets, reachedIn, is_reached}
+use Rattle.model.specs.Reach.{Reached, initial, led, among, targets, reached_in, is_reached}
 use Rattle.model.proofs.Basics.{or_cases, or_left, or_right}
 
 -- lists of states
 
-among-head : (s x : ℕ) (l : List ℕ) → s ≡ x → among s (x ∷ l) ≡ true
+among_head : (s x : ℕ) (l : List ℕ) → s ≡ x → among s (x ∷ l) ≡ true
 unfolding among
-among-head s x l e = or_left (eqb s x) (among s l) (eq-eqb s x e)
+among_head s x l e = or_left (eqb s x) (among s l) (eq-eqb s x e)
 
-among-tail : (s x : ℕ) (l : List ℕ) → among s l ≡ true → among s (x ∷ l) ≡ true
+among_tail : (s x : ℕ) (l : List ℕ) → among s l ≡ true → among s (x ∷ l) ≡ true
 unfolding among
-among-tail s x l e = or_right (eqb s x) (among s l) e
+among_tail s x l e = or_right (eqb s x) (among s l) e
 
 among_cases : (s x : ℕ) (l : List ℕ) → among s (x ∷ l) ≡ true → (s ≡ x) ⊎ (among s l ≡ true)
 unfolding among
@@ -43,11 +43,11 @@ module _ (a : List ℕ) where
   targets-there (x ∷ ts) t i e = ⊎_elim (here (among x.source a) refl) (λ j. behind (among x.source a) (targets-there ts t j e)) (Memᴰ.cases_cons i)
     where
       here : (b : Bool) → among x.source a ≡ b → t ≡ x → among t.target (cond b (x.target ∷ targets ts a) (targets ts a)) ≡ true
-      here true f q = among-head t.target x.target (targets ts a) (ap (λ (y : Transition). y.target) q)
+      here true f q = among_head t.target x.target (targets ts a) (ap (λ (y : Transition). y.target) q)
       here false f q = absurd (false≢true (sym f ∙ ap (λ (y : Transition). among y.source a) (sym q) ∙ e))
 
       behind : (b : Bool) → among t.target (targets ts a) ≡ true → among t.target (cond b (x.target ∷ targets ts a) (targets ts a)) ≡ true
-      behind true h = among-tail t.target x.target (targets ts a) h
+      behind true h = among_tail t.target x.target (targets ts a) h
       behind false h = h
 
   -- the transition by which a state is there
@@ -96,31 +96,31 @@ targets-more a b w (x ∷ ts) = go (among x.source a) (among x.source b) (w x.so
 -- any number of steps
 
 module _ (ts : List Transition) where
-  pub zero-there : (n : ℕ) → among 0 (reachedIn n ts) ≡ true
-  unfolding reachedIn
-  zero-there zero = among-head 0 0 [] refl
-  zero-there (suc n) = among-head 0 0 (targets ts (reachedIn n ts)) refl
+  pub zero_there : (n : ℕ) → among 0 (reached_in n ts) ≡ true
+  unfolding reached_in
+  zero_there zero = among_head 0 0 [] refl
+  zero_there (suc n) = among_head 0 0 (targets ts (reached_in n ts)) refl
 
-  step-there : (n : ℕ) (t : Transition) → Memᴰ t ts → among t.source (reachedIn n ts) ≡ true → among t.target (reachedIn (suc n) ts) ≡ true
-  unfolding reachedIn
-  step-there n t i e = among-tail t.target 0 (targets ts (reachedIn n ts)) (targets-there (reachedIn n ts) ts t i e)
+  step-there : (n : ℕ) (t : Transition) → Memᴰ t ts → among t.source (reached_in n ts) ≡ true → among t.target (reached_in (suc n) ts) ≡ true
+  unfolding reached_in
+  step-there n t i e = among_tail t.target 0 (targets ts (reached_in n ts)) (targets-there (reached_in n ts) ts t i e)
 
-  pub step_back : (n s : ℕ) → among s (reachedIn (suc n) ts) ≡ true → (s ≡ 0) ⊎ ((t : Transition) × Memᴰ t ts × (among t.source (reachedIn n ts) ≡ true) × (s ≡ t.target))
-  unfolding reachedIn
-  step_back n s e = ⊎_elim (λ q. inl q) (λ h. inr (targets-back (reachedIn n ts) ts s h)) (among_cases s 0 (targets ts (reachedIn n ts)) e)
+  pub step_back : (n s : ℕ) → among s (reached_in (suc n) ts) ≡ true → (s ≡ 0) ⊎ ((t : Transition) × Memᴰ t ts × (among t.source (reached_in n ts) ≡ true) × (s ≡ t.target))
+  unfolding reached_in
+  step_back n s e = ⊎_elim (λ q. inl q) (λ h. inr (targets-back (reached_in n ts) ts s h)) (among_cases s 0 (targets ts (reached_in n ts)) e)
 
-  pub zero-only : (s : ℕ) → among s (reachedIn 0 ts) ≡ true → s ≡ 0
-  unfolding reachedIn
-  zero-only s e = ⊎_elim (λ q. q) (λ h. absurd (among_none s h)) (among_cases s 0 [] e)
+  pub zero_only : (s : ℕ) → among s (reached_in 0 ts) ≡ true → s ≡ 0
+  unfolding reached_in
+  zero_only s e = ⊎_elim (λ q. q) (λ h. absurd (among_none s h)) (among_cases s 0 [] e)
 
-  rising : (n : ℕ) → Within (reachedIn n ts) (reachedIn (suc n) ts)
-  rising zero s e = let q : s ≡ 0 = zero-only s e in rw q (zero-there 1)
+  rising : (n : ℕ) → Within (reached_in n ts) (reached_in (suc n) ts)
+  rising zero s e = let q : s ≡ 0 = zero_only s e in rw q (zero_there 1)
   rising (suc n) s e =
-      ⊎_elim (λ q. rw q (zero-there (suc (suc n)))) (λ w. rw w.3 (step-there (suc n) w.0 w.1 (rising n w.0.source w.2))) (step_back n s e)
+      ⊎_elim (λ q. rw q (zero_there (suc (suc n)))) (λ w. rw w.3 (step-there (suc n) w.0 w.1 (rising n w.0.source w.2))) (step_back n s e)
 
   -- each further step adds a transition, or no step adds anything
-  growing : (n : ℕ) → (reachedIn (suc n) ts ≡ reachedIn n ts) ⊎ (n < length (targets ts (reachedIn n ts)))
-  unfolding reachedIn
+  growing : (n : ℕ) → (reached_in (suc n) ts ≡ reached_in n ts) ⊎ (n < length (targets ts (reached_in n ts)))
+  unfolding reached_in
   growing zero = go (targets ts (0 ∷ []))
     where
       go : (l : List ℕ) → (0 ∷ l ≡ 0 ∷ []) ⊎ (0 < length l)
@@ -129,25 +129,25 @@ module _ (ts : List Transition) where
   growing (suc n) =
       ⊎_elim (λ e. inl (ap (λ (l : List ℕ). 0 ∷ l) (sym e)))
       (λ more. ⊎_elim (λ e. inl (ap (λ (l : List ℕ). 0 ∷ targets ts l) e)) (λ h. inr (omega arith)) (growing n))
-      (targets-more (reachedIn n ts) (reachedIn (suc n) ts) (rising n) ts)
+      (targets-more (reached_in n ts) (reached_in (suc n) ts) (rising n) ts)
 
-  settled : reachedIn (suc (length ts)) ts ≡ reachedIn (length ts) ts
-  settled = ⊎_elim (λ e. e) (λ h. absurd (omega (arith, targets-few (reachedIn (length ts) ts) ts))) (growing (length ts))
+  settled : reached_in (suc (length ts)) ts ≡ reached_in (length ts) ts
+  settled = ⊎_elim (λ e. e) (λ h. absurd (omega (arith, targets-few (reached_in (length ts) ts) ts))) (growing (length ts))
 
 module _ (m : Monitor) where
-  reached-found : {s : ℕ} → Reached m s → is_reached m s ≡ true
+  reached_found : {s : ℕ} → Reached m s → is_reached m s ≡ true
   unfolding is_reached
-  reached-found initial = zero-there m.transitions (length m.transitions)
-  reached-found (led t i r) =
+  reached_found initial = zero_there m.transitions (length m.transitions)
+  reached_found (led t i r) =
       let all : List Transition = m.transitions in
-      subst (λ (l : List ℕ). among t.target l ≡ true) (settled all) (step-there all (length all) t i (reached-found r))
+      subst (λ (l : List ℕ). among t.target l ≡ true) (settled all) (step-there all (length all) t i (reached_found r))
 
-  reached-in : (n s : ℕ) → among s (reachedIn n m.transitions) ≡ true → Reached m s
-  reached-in zero s e = rw (zero-only m.transitions s e) initial
-  reached-in (suc n) s e =
-      ⊎_elim (λ q. rw q initial) (λ w. rw w.3 (led w.0 w.1 (reached-in n w.0.source w.2))) (step_back m.transitions n s e)
+  reached_in_lem : (n s : ℕ) → among s (reached_in n m.transitions) ≡ true → Reached m s
+  reached_in_lem zero s e = rw (zero_only m.transitions s e) initial
+  reached_in_lem (suc n) s e =
+      ⊎_elim (λ q. rw q initial) (λ w. rw w.3 (led w.0 w.1 (reached_in_lem n w.0.source w.2))) (step_back m.transitions n s e)
 
   -- a path of transitions leads to a state exactly if the test finds it
-  pub reached-test : (s : ℕ) → Reached m s ↔ (is_reached m s ≡ true)
+  pub reached_test : (s : ℕ) → Reached m s ↔ (is_reached m s ≡ true)
   unfolding is_reached
-  reached-test s = (λ r. reached-found r, reached-in (length m.transitions) s)
+  reached_test s = (λ r. reached_found r, reached_in_lem (length m.transitions) s)

@@ -10,31 +10,31 @@ use mathlib.Core.Option.{Option, none, some, map, some-ne-none, some-injective}
 use lib.ListN.{length}
 use lib.Dec.{eqb}
 use borrow.Author.Tests.{eqb-true, eqb-false, leb-true, ltb-true, eq-eqb}
-use Rattle.model.specs.Limits.{transitionLimit}
-use Rattle.model.specs.Monitor.{Monitor, wait, toUnit}
+use Rattle.model.specs.Limits.{transition_limit}
+use Rattle.model.specs.Monitor.{Monitor, wait, to_unit}
 use Rattle.model.specs.Trace.{Packet}
 use Rattle.model.specs.Recording.{end_of}
-use Rattle.model.specs.Witness.{Row, kept, removed, added, noTransition, marked, isRemoved, inForm, follows, inPlace}
-use Rattle.model.specs.Rules.{Progress, begin, noneBefore, isNext, noneAt, others, sends, keeps, removes, adds, account, broken}
+use Rattle.model.specs.Witness.{Row, kept, removed, added, no_transition, marked, is_removed, in_form, follows, in_place}
+use Rattle.model.specs.Rules.{Progress, begin, none_before, is_next, none_at, others, sends, keeps, removes, adds, account, broken}
 use Rattle.model.specs.Order.{EndsBy}
-use Rattle.model.specs.Situation.{Move, keep, rest, add, move_of, moveLimit, uncapped, firstBy, triggerOf, recordedAt, restMove, firstAdd}
+use Rattle.model.specs.Situation.{Move, keep, rest, add, move_of, move_limit, uncapped, first_by, trigger_of, recorded_at, rest_move, first_add}
 use Rattle.model.specs.Validation.{rows_by, HasRows, rows_of}
 use Rattle.model.specs.declared.Situation.{Situation}
 use Rattle.model.proofs.Basics.{and_left, and_right, cond-some}
 use Rattle.model.specs.Sane.{Sane, SaneRecording}
-use Rattle.model.specs.Edition.{latestTime}
+use Rattle.model.specs.Edition.{latest_time}
 use Rattle.model.specs.declared.Edition.{Edition}
 use Rattle.model.proofs.Chains.{Moves}
-use Rattle.model.proofs.Instants.{moveOf-keep, moveOf-add, fires-trigger, trigger-number}
-use Rattle.model.proofs.MoveRows.{Rising, Coming, quiet, heard, coming, Tied, tied-first, situationAt, accounts, one-row, instant}
-use Rattle.model.proofs.RowLaws.{InForm, in-form, passed, sends-fires, first-row}
+use Rattle.model.proofs.Instants.{move_of-keep, move_of-add, fires-trigger, trigger-number}
+use Rattle.model.proofs.MoveRows.{Rising, Coming, quiet, heard, coming, Tied, tied_first, situation_at, accounts, one_row, instant}
+use Rattle.model.proofs.RowLaws.{InForm, in_form_lem, passed, sends-fires, first-row}
 
 -- what a row that keeps the rules says
 
 -- a kept or added row fires a transition with its kind
 record Sent (m : Monitor) (r : Row) (q : Progress) : Type 0 where
   before : q.before ≡ some r
-  trigger : triggerOf m r.transition ≡ some r.kind
+  trigger : trigger_of m r.transition ≡ some r.kind
 
 sends-sent : (m : Monitor) (p : Progress) (r : Row) (left : List Packet) (q : Progress) → sends m p r left ≡ some q → Sent m r q
 sends-sent m p r left q e =
@@ -43,31 +43,31 @@ sends-sent m p r left q e =
 
 -- what a row is accounted for as
 data Accounted (m : Monitor) (p : Progress) (r : Row) (q : Progress) : Type 0 where
-  as-kept : r.mark ≡ kept → isNext p.left r ≡ true → Sent m r q → Accounted m p r q
-  as-removed : r.mark ≡ removed → isNext p.left r ≡ true → q.before ≡ some r → Accounted m p r q
-  as_added : r.mark ≡ added → noneAt p.left r.time ≡ true → Sent m r q → Accounted m p r q
+  as_kept : r.mark ≡ kept → is_next p.left r ≡ true → Sent m r q → Accounted m p r q
+  as_removed : r.mark ≡ removed → is_next p.left r ≡ true → q.before ≡ some r → Accounted m p r q
+  as_added : r.mark ≡ added → none_at p.left r.time ≡ true → Sent m r q → Accounted m p r q
 
 accounted : (edition : Edition) (m : Monitor) (p : Progress) (r : Row) (q : Progress) → account edition m p r ≡ some q → Accounted m p r q
 unfolding account keeps removes adds
 accounted edition m p r q e = go (eqb r.mark kept) refl (passed edition m p r q e).by
   where
     form : InForm r
-    form = in-form edition p.before r (passed edition m p r q e).placed
+    form = in_form_lem edition p.before r (passed edition m p r q e).placed
 
-    not-kept : (r.mark ≡ kept → ⊥) → (b : Bool) → isRemoved r ≡ b → cond b (removes m p r) (adds m p r) ≡ some q → Accounted m p r q
+    not-kept : (r.mark ≡ kept → ⊥) → (b : Bool) → is_removed r ≡ b → cond b (removes m p r) (adds m p r) ≡ some q → Accounted m p r q
     not-kept n true f h =
-        let x = cond-some (isNext p.left r && toUnit m r.kind) _ q h in
-        as-removed (eqb-true r.mark removed f) (and_left (isNext p.left r) (toUnit m r.kind) x.0) (ap (λ y. y.before) (sym (some-injective _ q x.1)))
+        let x = cond-some (is_next p.left r && to_unit m r.kind) _ q h in
+        as_removed (eqb-true r.mark removed f) (and_left (is_next p.left r) (to_unit m r.kind) x.0) (ap (λ y. y.before) (sym (some-injective _ q x.1)))
     not-kept n false f h =
-        let x = cond-some (noneAt p.left r.time) _ q h in
+        let x = cond-some (none_at p.left r.time) _ q h in
         let g : r.mark ≡ removed → ⊥ = eqb-false r.mark removed f in
         as_added (omega (arith, form.mark)) x.0 (sends-sent m p r p.left q x.1)
 
-    go : (b : Bool) → eqb r.mark kept ≡ b → cond b (keeps m p r) (cond (isRemoved r) (removes m p r) (adds m p r)) ≡ some q → Accounted m p r q
+    go : (b : Bool) → eqb r.mark kept ≡ b → cond b (keeps m p r) (cond (is_removed r) (removes m p r) (adds m p r)) ≡ some q → Accounted m p r q
     go true f h =
-        let x = cond-some (isNext p.left r) _ q h in
-        as-kept (eqb-true r.mark kept f) x.0 (sends-sent m p r (others p.left) q x.1)
-    go false f h = not-kept (eqb-false r.mark kept f) (isRemoved r) refl h
+        let x = cond-some (is_next p.left r) _ q h in
+        as_kept (eqb-true r.mark kept f) x.0 (sends-sent m p r (others p.left) q x.1)
+    go false f h = not-kept (eqb-false r.mark kept f) (is_removed r) refl h
 
 -- rows that break no rule
 
@@ -84,34 +84,34 @@ StartsAfter t [] = Unit {0}
 StartsAfter t (r ∷ rs) = t < r.time
 
 -- times rise
-starts-after : (edition : Edition) (m : Monitor) (q : Progress) (r : Row) (i : ℕ) (rs : List Row) → q.before ≡ some r → broken edition m q i rs ≡ none → StartsAfter r.time rs
-starts-after edition m q r i [] b e = tt
-starts-after edition m q r i (s ∷ rs) b e =
+starts_after : (edition : Edition) (m : Monitor) (q : Progress) (r : Row) (i : ℕ) (rs : List Row) → q.before ≡ some r → broken edition m q i rs ≡ none → StartsAfter r.time rs
+starts_after edition m q r i [] b e = tt
+starts_after edition m q r i (s ∷ rs) b e =
     let x = first-row edition m q i s rs e in
-    ltb-true r.time s.time (and_right (inForm edition s) (follows r s) (subst (λ o. inPlace edition o s ≡ true) b (passed edition m q s x.0 x.1).placed))
+    ltb-true r.time s.time (and_right (in_form edition s) (follows r s) (subst (λ o. in_place edition o s ≡ true) b (passed edition m q s x.0 x.1).placed))
 
-not-next : (t : ℕ) (l : List Packet) (r : Row) → Rising t l → r.time ≤ t → isNext l r ≡ true → ⊥
-not-next t [] r h g e = false≢true e
-not-next t (p ∷ l) r h g e = let f : p.time ≡ r.time = eqb-true p.time r.time (and_left (eqb p.time r.time) (eqb p.kind r.kind) e) in omega arith
+not_next : (t : ℕ) (l : List Packet) (r : Row) → Rising t l → r.time ≤ t → is_next l r ≡ true → ⊥
+not_next t [] r h g e = false≢true e
+not_next t (p ∷ l) r h g e = let f : p.time ≡ r.time = eqb-true p.time r.time (and_left (eqb p.time r.time) (eqb p.kind r.kind) e) in omega arith
 
-as-marked : (r : Row) (mark t k j : ℕ) → r.mark ≡ mark → r.time ≡ t → r.kind ≡ k → r.transition ≡ j → marked mark t k j ≡ r
-as-marked r mark t k j a b c d = sym (λ i. marked (a i) (b i) (c i) (d i))
+as_marked : (r : Row) (mark t k j : ℕ) → r.mark ≡ mark → r.time ≡ t → r.kind ≡ k → r.transition ≡ j → marked mark t k j ≡ r
+as_marked r mark t k j a b c d = sym (λ i. marked (a i) (b i) (c i) (d i))
 
 -- the rows of instant t + 1 are those of one move there
 record Split (edition : Edition) (m : Monitor) (recording : List Packet) (t : ℕ) (p : Progress) (rows : List Row) : Type 0 where
   move : ℕ
-  small : move < moveLimit
-  fits : HasRows m (recordedAt recording (suc t)) (move_of move)
+  small : move < move_limit
+  fits : HasRows m (recorded_at recording (suc t)) (move_of move)
   next : Progress
-  comes : accounts edition m p (rows_by m (recordedAt recording (suc t)) (suc t) (move_of move)) ≡ some next
+  comes : accounts edition m p (rows_by m (recorded_at recording (suc t)) (suc t) (move_of move)) ≡ some next
   more : List Row
-  parts : rows_by m (recordedAt recording (suc t)) (suc t) (move_of move) ++ more ≡ rows
+  parts : rows_by m (recorded_at recording (suc t)) (suc t) (move_of move) ++ more ≡ rows
   index : ℕ
   unbroken : broken edition m next index more ≡ none
   later : StartsAfter (suc t) more
 
 module _ (edition : Edition) (m : Monitor) (recording : List Packet) (table : Sane m) (t : ℕ) (p : Progress) (tied : Tied recording t p) where
-  split_by : (rows : List Row) (recorded : Option ℕ) (n : ℕ) (a : Move) → recordedAt recording (suc t) ≡ recorded → move_of n ≡ a → n < moveLimit
+  split_by : (rows : List Row) (recorded : Option ℕ) (n : ℕ) (a : Move) → recorded_at recording (suc t) ≡ recorded → move_of n ≡ a → n < move_limit
       → HasRows m recorded a → (q : Progress) → accounts edition m p (rows_by m recorded (suc t) a) ≡ some q
       → (more : List Row) → rows_by m recorded (suc t) a ++ more ≡ rows → (i : ℕ) → broken edition m q i more ≡ none → StartsAfter (suc t) more
       → Split edition m recording t p rows
@@ -130,60 +130,60 @@ module _ (edition : Edition) (m : Monitor) (recording : List Packet) (table : Sa
       }
 
   -- no row where none is recorded
-  silent : (rows : List Row) (i : ℕ) → recordedAt recording (suc t) ≡ none → broken edition m p i rows ≡ none → StartsAfter (suc t) rows → Split edition m recording t p rows
+  silent : (rows : List Row) (i : ℕ) → recorded_at recording (suc t) ≡ none → broken edition m p i rows ≡ none → StartsAfter (suc t) rows → Split edition m recording t p rows
   unfolding accounts rows_by move_of
-  silent rows i e u b = split_by rows none restMove rest e refl (omega arith) tt p refl rows refl i u b
+  silent rows i e u b = split_by rows none rest_move rest e refl (omega arith) tt p refl rows refl i u b
 
-  kept-first : (i : ℕ) (r : Row) (rs : List Row) (q : Progress) (k : ℕ) → recordedAt recording (suc t) ≡ some k → r.time ≡ suc t → r.kind ≡ k
+  kept-first : (i : ℕ) (r : Row) (rs : List Row) (q : Progress) (k : ℕ) → recorded_at recording (suc t) ≡ some k → r.time ≡ suc t → r.kind ≡ k
       → r.mark ≡ kept → account edition m p r ≡ some q → broken edition m q i rs ≡ none → Sent m r q → Split edition m recording t p (r ∷ rs)
   unfolding rows_by
   kept-first i r rs q k e f g h c u s =
-      split_by (r ∷ rs) (some k) r.transition (keep r.transition) e (moveOf-keep r.transition small) (omega (arith, small)) tt q
-      (one-row edition m p (marked kept (suc t) k r.transition) ∙ ap (account edition m p) same ∙ c) rs (ap (λ x. x ∷ rs) same) i u
-      (subst (λ x. StartsAfter x rs) f (starts-after edition m q r i rs s.before u))
+      split_by (r ∷ rs) (some k) r.transition (keep r.transition) e (move_of-keep r.transition small) (omega (arith, small)) tt q
+      (one_row edition m p (marked kept (suc t) k r.transition) ∙ ap (account edition m p) same ∙ c) rs (ap (λ x. x ∷ rs) same) i u
+      (subst (λ x. StartsAfter x rs) f (starts_after edition m q r i rs s.before u))
     where
-      small : r.transition < transitionLimit
+      small : r.transition < transition_limit
       small = trigger-number m table r.transition r.kind s.trigger
 
       same : marked kept (suc t) k r.transition ≡ r
-      same = as-marked r kept (suc t) k r.transition h f g refl
+      same = as_marked r kept (suc t) k r.transition h f g refl
 
-  added-first : (i : ℕ) (r : Row) (rs : List Row) (q : Progress) → recordedAt recording (suc t) ≡ none → r.time ≡ suc t
+  added-first : (i : ℕ) (r : Row) (rs : List Row) (q : Progress) → recorded_at recording (suc t) ≡ none → r.time ≡ suc t
       → r.mark ≡ added → account edition m p r ≡ some q → broken edition m q i rs ≡ none → Sent m r q → Split edition m recording t p (r ∷ rs)
   unfolding rows_by
   added-first i r rs q e f h c u s =
-      split_by (r ∷ rs) none (firstAdd + r.transition) (add r.transition) e (moveOf-add r.transition)
+      split_by (r ∷ rs) none (first_add + r.transition) (add r.transition) e (move_of-add r.transition)
       (omega (arith, trigger-number m table r.transition r.kind s.trigger)) (r.kind, s.trigger) q
-      (rw s.trigger (one-row edition m p (marked added (suc t) r.kind r.transition) ∙ ap (account edition m p) same ∙ c)) rs (rw s.trigger (ap (λ x. x ∷ rs) same)) i u
-      (subst (λ x. StartsAfter x rs) f (starts-after edition m q r i rs s.before u))
+      (rw s.trigger (one_row edition m p (marked added (suc t) r.kind r.transition) ∙ ap (account edition m p) same ∙ c)) rs (rw s.trigger (ap (λ x. x ∷ rs) same)) i u
+      (subst (λ x. StartsAfter x rs) f (starts_after edition m q r i rs s.before u))
     where
       same : marked added (suc t) r.kind r.transition ≡ r
-      same = as-marked r added (suc t) r.kind r.transition h f refl refl
+      same = as_marked r added (suc t) r.kind r.transition h f refl refl
 
-  removed-first : (i : ℕ) (r : Row) (rs : List Row) (q : Progress) (k : ℕ) → recordedAt recording (suc t) ≡ some k → r.time ≡ suc t → r.kind ≡ k
+  removed-first : (i : ℕ) (r : Row) (rs : List Row) (q : Progress) (k : ℕ) → recorded_at recording (suc t) ≡ some k → r.time ≡ suc t → r.kind ≡ k
       → r.mark ≡ removed → account edition m p r ≡ some q → broken edition m q i rs ≡ none → q.before ≡ some r → Split edition m recording t p (r ∷ rs)
   unfolding rows_by move_of
   removed-first i r rs q k e f g h c u b =
-      split_by (r ∷ rs) (some k) restMove rest e refl (omega arith) tt q
-      (one-row edition m p (marked removed (suc t) k noTransition) ∙ ap (account edition m p) same ∙ c) rs (ap (λ x. x ∷ rs) same) i u
-      (subst (λ x. StartsAfter x rs) f (starts-after edition m q r i rs b u))
+      split_by (r ∷ rs) (some k) rest_move rest e refl (omega arith) tt q
+      (one_row edition m p (marked removed (suc t) k no_transition) ∙ ap (account edition m p) same ∙ c) rs (ap (λ x. x ∷ rs) same) i u
+      (subst (λ x. StartsAfter x rs) f (starts_after edition m q r i rs b u))
     where
-      same : marked removed (suc t) k noTransition ≡ r
-      same = as-marked r removed (suc t) k noTransition h f g ((in-form edition p.before r (passed edition m p r q c).placed).transition h)
+      same : marked removed (suc t) k no_transition ≡ r
+      same = as_marked r removed (suc t) k no_transition h f g ((in_form_lem edition p.before r (passed edition m p r q c).placed).transition h)
 
   -- the kind of the next recorded row
-  next-kind : (r : Row) (k : ℕ) (l : List Packet) → p.left ≡ record { time = suc t; kind = k } ∷ l → isNext p.left r ≡ true → r.kind ≡ k
-  next-kind r k l e f = sym (eqb-true k r.kind (and_right (eqb (suc t) r.time) (eqb k r.kind) (subst (λ x. isNext x r ≡ true) e f)))
+  next_kind : (r : Row) (k : ℕ) (l : List Packet) → p.left ≡ record { time = suc t; kind = k } ∷ l → is_next p.left r ≡ true → r.kind ≡ k
+  next_kind r k l e f = sym (eqb-true k r.kind (and_right (eqb (suc t) r.time) (eqb k r.kind) (subst (λ x. is_next x r ≡ true) e f)))
 
   here : (i : ℕ) (r : Row) (rs : List Row) (q : Progress) → r.time ≡ suc t → account edition m p r ≡ some q → broken edition m q i rs ≡ none
       → Coming recording t p.left → Accounted m p r q → Split edition m recording t p (r ∷ rs)
-  here i r rs q e c u (quiet f a) (as-kept g n s) = absurd (not-next (suc t) p.left r a.rising (omega arith) n)
-  here i r rs q e c u (quiet f a) (as-removed g n b) = absurd (not-next (suc t) p.left r a.rising (omega arith) n)
+  here i r rs q e c u (quiet f a) (as_kept g n s) = absurd (not_next (suc t) p.left r a.rising (omega arith) n)
+  here i r rs q e c u (quiet f a) (as_removed g n b) = absurd (not_next (suc t) p.left r a.rising (omega arith) n)
   here i r rs q e c u (quiet f a) (as_added g n s) = added-first i r rs q f e g c u s
-  here i r rs q e c u (heard k l f x a) (as-kept g n s) = kept-first i r rs q k f e (next-kind r k l x n) g c u s
-  here i r rs q e c u (heard k l f x a) (as-removed g n b) = removed-first i r rs q k f e (next-kind r k l x n) g c u b
+  here i r rs q e c u (heard k l f x a) (as_kept g n s) = kept-first i r rs q k f e (next_kind r k l x n) g c u s
+  here i r rs q e c u (heard k l f x a) (as_removed g n b) = removed-first i r rs q k f e (next_kind r k l x n) g c u b
   here i r rs q e c u (heard k l f x a) (as_added g n s) =
-      absurd (false≢true (sym (ap not (eq-eqb (suc t) r.time (sym e))) ∙ subst (λ y. noneAt y r.time ≡ true) x n))
+      absurd (false≢true (sym (ap not (eq-eqb (suc t) r.time (sym e))) ∙ subst (λ y. none_at y r.time ≡ true) x n))
 
   split : (i : ℕ) (rows : List Row) → broken edition m p i rows ≡ none → StartsAfter t rows → Split edition m recording t p rows
   split i [] u a = go (coming recording t p.left tied.ahead)
@@ -201,35 +201,35 @@ module _ (edition : Edition) (m : Monitor) (recording : List Packet) (table : Sa
       go (no n) (quiet e b) = silent (r ∷ rs) i e u (omega arith)
       go (no n) (heard k l e f b) =
           absurd
-          (let g : r.time ≤ suc t = leb-true r.time (suc t) (subst (λ y. noneBefore y r.time ≡ true) f (passed edition m p r first.0 first.1).turn) in
+          (let g : r.time ≤ suc t = leb-true r.time (suc t) (subst (λ y. none_before y r.time ≡ true) f (passed edition m p r first.0 first.1).turn) in
           omega arith)
 
-module _ (edition : Edition) (m : Monitor) (recording : List Packet) (table : Sane m) (sane : SaneRecording m recording) (fits : end_of recording ≤ latestTime edition) where
+module _ (edition : Edition) (m : Monitor) (recording : List Packet) (table : Sane m) (sane : SaneRecording m recording) (fits : end_of recording ≤ latest_time edition) where
   rows-moves : (left t : ℕ) (p : Progress) (i : ℕ) (rows : List Row) → left + t ≡ end_of recording → Tied recording t p → broken edition m p i rows ≡ none
       → EndsBy (end_of recording) rows → StartsAfter t rows
-      → (ks : List ℕ) × (z : Situation) × (length ks ≡ left) × Moves m recording t (situationAt t p) ks z × (rows_of m recording (suc t) ks ≡ rows)
+      → (ks : List ℕ) × (z : Situation) × (length ks ≡ left) × Moves m recording t (situation_at t p) ks z × (rows_of m recording (suc t) ks ≡ rows)
   unfolding rows_of
-  rows-moves zero t p i [] e tied u ends a = ([], situationAt t p, refl, refl, refl)
+  rows-moves zero t p i [] e tied u ends a = ([], situation_at t p, refl, refl, refl)
   rows-moves zero t p i (r ∷ rs) e tied u ends a = absurd (omega (arith, ends r (Memᴰ.head refl)))
   rows-moves (suc left) t p i rows e tied u ends a =
       let s = split edition m recording table t p tied i rows u a in
       let now = instant edition m recording t p (omega arith) tied (move_of s.move) s.fits in
       let x = rows-moves left (suc t) s.next s.index s.more (omega arith) (now.next s.next s.comes) s.unbroken (later-ends s) s.later in
-      (s.move ∷ x.0, x.1, ap suc x.2, (situationAt (suc t) s.next, s.small, now.step ∙ ap (map (situationAt (suc t))) s.comes, x.3), joins s x.0 x.4)
+      (s.move ∷ x.0, x.1, ap suc x.2, (situation_at (suc t) s.next, s.small, now.step ∙ ap (map (situation_at (suc t))) s.comes, x.3), joins s x.0 x.4)
     where
       later-ends : (s : Split edition m recording t p rows) → EndsBy (end_of recording) s.more
-      later-ends s r h = ends r (subst (Memᴰ r) s.parts (Memᴰ.append_right (rows_by m (recordedAt recording (suc t)) (suc t) (move_of s.move)) h))
+      later-ends s r h = ends r (subst (Memᴰ r) s.parts (Memᴰ.append_right (rows_by m (recorded_at recording (suc t)) (suc t) (move_of s.move)) h))
 
       joins : (s : Split edition m recording t p rows) (ks : List ℕ) → rows_of m recording (suc (suc t)) ks ≡ s.more
-          → rows_by m (recordedAt recording (suc t)) (suc t) (move_of s.move) ++ rows_of m recording (suc (suc t)) ks ≡ rows
-      joins s ks h = ap (λ l. rows_by m (recordedAt recording (suc t)) (suc t) (move_of s.move) ++ l) h ∙ s.parts
+          → rows_by m (recorded_at recording (suc t)) (suc t) (move_of s.move) ++ rows_of m recording (suc (suc t)) ks ≡ rows
+      joins s ks h = ap (λ l. rows_by m (recorded_at recording (suc t)) (suc t) (move_of s.move) ++ l) h ∙ s.parts
 
-pub permitted-moves : (edition : Edition) (m : Monitor) (recording : List Packet) → Sane m → SaneRecording m recording → end_of recording ≤ latestTime edition → (rows : List Row)
+pub permitted-moves : (edition : Edition) (m : Monitor) (recording : List Packet) → Sane m → SaneRecording m recording → end_of recording ≤ latest_time edition → (rows : List Row)
     → broken edition m (begin recording) 0 rows ≡ none → EndsBy (end_of recording) rows
-    → (ks : List ℕ) × (z : Situation) × (length ks ≡ end_of recording) × Moves m recording 0 (firstBy uncapped) ks z × (rows_of m recording 1 ks ≡ rows)
+    → (ks : List ℕ) × (z : Situation) × (length ks ≡ end_of recording) × Moves m recording 0 (first_by uncapped) ks z × (rows_of m recording 1 ks ≡ rows)
 permitted-moves edition m recording table sane fits rows u ends =
-    rows-moves edition m recording table sane fits (end_of recording) 0 (begin recording) 0 rows (omega arith) (tied-first m recording sane) u ends (go rows u)
+    rows-moves edition m recording table sane fits (end_of recording) 0 (begin recording) 0 rows (omega arith) (tied_first m recording sane) u ends (go rows u)
   where
     go : (l : List Row) → broken edition m (begin recording) 0 l ≡ none → StartsAfter 0 l
     go [] h = tt
-    go (r ∷ l) h = let x = first-row edition m (begin recording) 0 r l h in (in-form edition none r (passed edition m (begin recording) r x.0 x.1).placed).time
+    go (r ∷ l) h = let x = first-row edition m (begin recording) 0 r l h in (in_form_lem edition none r (passed edition m (begin recording) r x.0 x.1).placed).time

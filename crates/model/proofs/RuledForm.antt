@@ -3,41 +3,41 @@ use Prim.Native.Nat.{ℕ, ◌≤◌}
 use mathlib.Core.Path.{◌≡◌}
 use mathlib.Core.List.{List, [], ◌∷◌}
 use lib.Dec.{leb}
-use Rattle.model.specs.Limits.{deviceLimit, windowLimit, sizeLimit}
+use Rattle.model.specs.Limits.{device_limit, window_limit, size_limit}
 use Rattle.model.specs.First.{unless, first_of}
 use Rattle.model.specs.Guard.{Guard, always, at_most, at_least, variable, negation, conjunction}
 use Rattle.model.specs.Rule.{Rule}
 use Rattle.model.specs.Monitor.{Monitor, under}
 use Rattle.model.specs.Trace.{Packet, Spaced, PacketTrace}
 use Rattle.model.specs.Size.{size}
-use Rattle.model.specs.Table.{monitorAt}
-use Rattle.model.specs.Recording.{recordingAnswer, packetsAt, SoundRecording}
-use Rattle.model.specs.Ruled.{monitorUnder, ruleAnswer, ruledAnswer, SoundUnder}
+use Rattle.model.specs.Table.{monitor_at}
+use Rattle.model.specs.Recording.{recording_answer, packets_at, SoundRecording}
+use Rattle.model.specs.Ruled.{monitor_under, rule_answer, ruled_answer, SoundUnder}
 use Rattle.model.specs.Sane.{Closed, Sane, SaneRecording}
 use Rattle.model.specs.declared.Reading.{Reading}
 use Rattle.model.specs.declared.Reading.TheVariants.{Sound}
 use Rattle.model.specs.declared.Refusal.TheVariants.{RuleRange, RuleSize}
 use Rattle.model.proofs.Tests.{test, le_test}
-use Rattle.model.proofs.TableForm.{sane-table}
-use Rattle.model.proofs.RecordingForm.{sound-table, sane-recording}
+use Rattle.model.proofs.TableForm.{sane_table}
+use Rattle.model.proofs.RecordingForm.{sound_table, sane_recording}
 
 -- what neither 25 nor 26 refuses
 pub record RuleFacts (m : Monitor) : Type 0 where
-  pub device : m.rule.device ≤ deviceLimit
+  pub device : m.rule.device ≤ device_limit
   pub some : 1 ≤ m.rule.window
-  pub window : m.rule.window ≤ windowLimit
+  pub window : m.rule.window ≤ window_limit
   pub most : m.rule.most ≤ m.rule.window
-  pub small : size m ≤ sizeLimit
+  pub small : size m ≤ size_limit
 
-pub rule-facts : (m : Monitor) → ruleAnswer m ≡ Sound → RuleFacts m
-unfolding ruleAnswer
-rule-facts m e =
+pub rule_facts : (m : Monitor) → rule_answer m ≡ Sound → RuleFacts m
+unfolding rule_answer
+rule_facts m e =
     let all : List Reading =
-    unless (leb m.rule.device deviceLimit) RuleRange
+    unless (leb m.rule.device device_limit) RuleRange
     ∷ unless (leb 1 m.rule.window) RuleRange
-    ∷ unless (leb m.rule.window windowLimit) RuleRange
+    ∷ unless (leb m.rule.window window_limit) RuleRange
     ∷ unless (leb m.rule.most m.rule.window) RuleRange
-    ∷ unless (leb (size m) sizeLimit) RuleSize
+    ∷ unless (leb (size m) size_limit) RuleSize
     ∷ [] in
     record {
       device = le_test _ _ RuleRange (test all e 0);
@@ -65,29 +65,29 @@ trace-under rule m (p ∷ ps) h = (h.0, spaced-under rule m p ps h.1)
 
 module _ (rule : Rule) (table recording : List ℕ) (sound : SoundUnder rule table recording) where
   -- the numbers before 25 do not apply either
-  pub recording-sound : SoundRecording table recording
-  unfolding ruledAnswer
-  recording-sound = let all : List Reading = recordingAnswer table recording ∷ ruleAnswer (monitorUnder rule table) ∷ [] in test all sound 0
+  pub recording_sound : SoundRecording table recording
+  unfolding ruled_answer
+  recording_sound = let all : List Reading = recording_answer table recording ∷ rule_answer (monitor_under rule table) ∷ [] in test all sound 0
 
-  pub facts-under : RuleFacts (monitorUnder rule table)
-  unfolding ruledAnswer
-  facts-under =
-      let all : List Reading = recordingAnswer table recording ∷ ruleAnswer (monitorUnder rule table) ∷ [] in rule-facts (monitorUnder rule table) (test all sound 1)
+  pub facts_under : RuleFacts (monitor_under rule table)
+  unfolding ruled_answer
+  facts_under =
+      let all : List Reading = recording_answer table recording ∷ rule_answer (monitor_under rule table) ∷ [] in rule_facts (monitor_under rule table) (test all sound 1)
 
-  pub sane-under : Sane (monitorUnder rule table)
+  pub sane-under : Sane (monitor_under rule table)
   sane-under =
-      let sane : Sane (monitorAt table) = sane-table table (sound-table table recording recording-sound) in
+      let sane : Sane (monitor_at table) = sane_table table (sound_table table recording recording_sound) in
       record {
         states = sane.states;
         clocks = sane.clocks;
         few = sane.few;
         transition = λ j t e.
             let s = sane.transition j t e in
-            record { target = s.target; trigger = s.trigger; closed = closed-under rule (monitorAt table) t.guard s.closed };
-        window = facts-under.some;
+            record { target = s.target; trigger = s.trigger; closed = closed-under rule (monitor_at table) t.guard s.closed };
+        window = facts_under.some;
       }
 
-  pub sane-recording-under : SaneRecording (monitorUnder rule table) (packetsAt recording)
-  sane-recording-under =
-      let sane : SaneRecording (monitorAt table) (packetsAt recording) = sane-recording table recording recording-sound in
-      record { trace = trace-under rule (monitorAt table) (packetsAt recording) sane.trace; few = sane.few; last = sane.last }
+  pub sane_recording_under : SaneRecording (monitor_under rule table) (packets_at recording)
+  sane_recording_under =
+      let sane : SaneRecording (monitor_at table) (packets_at recording) = sane_recording table recording recording_sound in
+      record { trace = trace-under rule (monitor_at table) (packets_at recording) sane.trace; few = sane.few; last = sane.last }

@@ -10,8 +10,8 @@ use Rattle.model.specs.Trace.{Packet, Spaced, PacketTrace}
 
 module _ (m : Monitor) where
   -- the first instant after a packet at which the air is free
-  abbrev pub freeAfter : Packet → ℕ
-  freeAfter p = p.time + airtime m p.kind + 1
+  abbrev pub free_after : Packet → ℕ
+  free_after p = p.time + airtime m p.kind + 1
 
   -- a packet trace whose packets come at or after an instant
   abbrev pub TraceFrom : ℕ → List Packet → Type 0
@@ -22,16 +22,16 @@ module _ (m : Monitor) where
   trace-from [] = (λ x. x, λ x. x)
   trace-from (p ∷ r) = (λ x. x, λ x. x)
 
-  pub from-earlier : (n a : ℕ) (tr : List Packet) → a ≤ n → TraceFrom n tr → TraceFrom a tr
-  from-earlier n a [] h x = tt
-  from-earlier n a (p ∷ r) h x = (omega arith, x.1)
+  pub from_earlier : (n a : ℕ) (tr : List Packet) → a ≤ n → TraceFrom n tr → TraceFrom a tr
+  from_earlier n a [] h x = tt
+  from_earlier n a (p ∷ r) h x = (omega arith, x.1)
 
   -- .. and none at that instant
   pub from_next : (n : ℕ) (tr : List Packet) → TraceFrom n tr → ((p : Packet) → Memᴰ p tr → p.time ≡ n → ⊥) → TraceFrom (suc n) tr
   from_next n [] x lacks = tt
   from_next n (p ∷ r) x lacks = let other : p.time ≡ n → ⊥ = lacks p (Memᴰ.head refl) in (omega (arith, x.0), x.1)
 
-  pub spaced-from : (p : Packet) (r : List Packet) → Spaced m p r ↔ TraceFrom (freeAfter p) r
+  pub spaced-from : (p : Packet) (r : List Packet) → Spaced m p r ↔ TraceFrom (free_after p) r
   spaced-from p [] = (λ x. x, λ x. x)
   spaced-from p (q ∷ r) = (λ x. (omega arith, x.1), λ x. (omega arith, x.1))
 
@@ -39,12 +39,12 @@ module _ (m : Monitor) where
   from-time n [] x p i = absurd (Memᴰ.not-nil i)
   from-time n (q ∷ r) x p i =
       ⊎_elim (λ e. omega (arith, ap (λ (a : Packet). a.time) e))
-      (λ j. omega (arith, from-time (freeAfter q) r ((spaced-from q r).0 x.1) p j)) (Memᴰ.cases_cons i)
+      (λ j. omega (arith, from-time (free_after q) r ((spaced-from q r).0 x.1) p j)) (Memᴰ.cases_cons i)
 
   -- a packet at the time of the first is the first, and a later one is among the others
 
-  pub only-first : (p : Packet) (r : List Packet) → TraceFrom (freeAfter p) r → (q : Packet) → q.time ≡ p.time → Memᴰ q (p ∷ r) → q ≡ p
-  only-first p r after q e i = ⊎_elim (λ h. h) (λ j. absurd (omega (arith, from-time (freeAfter p) r after q j))) (Memᴰ.cases_cons i)
+  pub only-first : (p : Packet) (r : List Packet) → TraceFrom (free_after p) r → (q : Packet) → q.time ≡ p.time → Memᴰ q (p ∷ r) → q ≡ p
+  only-first p r after q e i = ⊎_elim (λ h. h) (λ j. absurd (omega (arith, from-time (free_after p) r after q j))) (Memᴰ.cases_cons i)
 
 pub behind-first : (p : Packet) (r : List Packet) (q : Packet) → p.time < q.time → Memᴰ q (p ∷ r) → Memᴰ q r
 behind-first p r q h i = ⊎_elim (λ e. absurd (omega (arith, ap (λ (a : Packet). a.time) e))) (λ j. j) (Memᴰ.cases_cons i)

@@ -10,54 +10,54 @@ use mathlib.Core.Option.{some}
 use lib.ListN.{length, take, drop, length-take, length-drop}
 use lib.Seq.{length-take-le}
 use lib.Dec.{leb, ltb}
-use Rattle.model.specs.Limits.{tableVersions, stateLimit, variableLimit, clockLimit, kindLimit, transitionLimit, guardLimit, sizeLimit}
+use Rattle.model.specs.Limits.{table_versions, state_limit, variable_limit, clock_limit, kind_limit, transition_limit, guard_limit, size_limit}
 use Rattle.model.specs.Bytes.{byte_at, tab, joined}
 use Rattle.model.specs.First.{unless, first_of}
 use Rattle.model.specs.Frame.{framed}
-use Rattle.model.specs.Guard.{up_to, guardAt, ends_at, guard_of}
-use Rattle.model.specs.Kinds.{versionAt, kindAt, kindRecord}
-use Rattle.model.specs.Rule.{noRule}
+use Rattle.model.specs.Guard.{up_to, guard_at, ends_at, guard_of}
+use Rattle.model.specs.Kinds.{version_at, kind_at, kind_record}
+use Rattle.model.specs.Rule.{no_rule}
 use Rattle.model.specs.Monitor.{Transition}
-use Rattle.model.specs.Size.{tableSize, size}
-use Rattle.model.specs.Reach.{statesAnswer}
-use Rattle.model.specs.Table.{guardIn, transitionIn, monitorOf, statesAt, variablesAt, clocksAt, kindsAt, transitionsAt, tableCounts, countsOf, kindRecords, apart, guardLengthAt, transitionFields, guardRecord, transitionRecord, transitionRecords, transitionAt, guardPlace, deviceColumn, table_parts, scanWith, tableScan, wholeAnswer, answerWith, tableAnswer, SoundTable, monitorAt}
+use Rattle.model.specs.Size.{table_size, size}
+use Rattle.model.specs.Reach.{states_answer}
+use Rattle.model.specs.Table.{guard_in, transition_in, monitor_of, states_at, variables_at, clocks_at, kinds_at, transitions_at, table_counts, counts_of, kind_records, apart, guard_length_at, transition_fields, guard_record, transition_record, transition_records, transition_at, guard_place, device_column, table_parts, scan_with, table_scan, whole_answer, answer_with, table_answer, SoundTable, monitor_at}
 use Rattle.model.specs.declared.Reading.{Reading}
 use Rattle.model.specs.declared.Reading.TheVariants.{Sound}
 use Rattle.model.specs.declared.Refusal.{Refusal}
 use Rattle.model.specs.declared.Refusal.TheVariants.{TableFrame, TableVersion, TableCount, TableLength, TableField, TableGuard, TableSize}
-use Rattle.model.proofs.Basics.{unless-sound, length-tab, getElem-tab, getElem-within}
+use Rattle.model.proofs.Basics.{unless-sound, length-tab, get_elem_tab, get_elem_within}
 use Rattle.model.specs.Sane.{Sane, SaneTransition}
 use Rattle.model.specs.declared.Edition.TheVariants.{One}
-use Rattle.model.proofs.Tests.{test, le_test, lt_test, eq_test, tests, Framed, framed-facts, passed-each}
+use Rattle.model.proofs.Tests.{test, le_test, lt_test, eq_test, tests, Framed, framed_facts, passed_each}
 use Rattle.model.proofs.KindForm.{SoundKind, sound-kind}
-use Rattle.model.proofs.Places.{stands-part, length-padded, getD-padded, getD-column, length-joined, getD-joined}
-use Rattle.model.proofs.GuardForm.{closed-names, guard-names, guard-moved, moved-guard, ends_read}
+use Rattle.model.proofs.Places.{stands_part, length-padded, get_or-padded, get_or_column, length-joined, get_or-joined}
+use Rattle.model.proofs.GuardForm.{closed_names, guard_names, guard-moved, moved-guard, ends_read}
 
 -- the limits of the counts
 pub record SoundCounts (b : List ℕ) : Type 0 where
-  pub states-some : 1 ≤ statesAt b
-  pub states : statesAt b ≤ stateLimit
-  pub variables : variablesAt b ≤ variableLimit
-  pub clocks : clocksAt b ≤ clockLimit
-  pub kinds-some : 1 ≤ kindsAt b
-  pub kinds : kindsAt b ≤ kindLimit
-  pub transitions : transitionsAt b ≤ transitionLimit
+  pub states-some : 1 ≤ states_at b
+  pub states : states_at b ≤ state_limit
+  pub variables : variables_at b ≤ variable_limit
+  pub clocks : clocks_at b ≤ clock_limit
+  pub kinds-some : 1 ≤ kinds_at b
+  pub kinds : kinds_at b ≤ kind_limit
+  pub transitions : transitions_at b ≤ transition_limit
 
-abbrev pub countTests : (states variables clocks kinds transitions : ℕ) → List (Bool × Refusal)
-countTests states variables clocks kinds transitions =
+abbrev pub count_tests : (states variables clocks kinds transitions : ℕ) → List (Bool × Refusal)
+count_tests states variables clocks kinds transitions =
     (leb 1 states, TableCount 3)
-    ∷ (leb states stateLimit, TableCount 3)
-    ∷ (leb variables variableLimit, TableCount 4)
-    ∷ (leb clocks clockLimit, TableCount 5)
+    ∷ (leb states state_limit, TableCount 3)
+    ∷ (leb variables variable_limit, TableCount 4)
+    ∷ (leb clocks clock_limit, TableCount 5)
     ∷ (leb 1 kinds, TableCount 6)
-    ∷ (leb kinds kindLimit, TableCount 6)
-    ∷ (leb transitions transitionLimit, TableCount 7)
+    ∷ (leb kinds kind_limit, TableCount 6)
+    ∷ (leb transitions transition_limit, TableCount 7)
     ∷ []
 
-counts : (b : List ℕ) → tableCounts b ≡ Sound → SoundCounts b
-unfolding countsOf
+counts : (b : List ℕ) → table_counts b ≡ Sound → SoundCounts b
+unfolding counts_of
 counts b e =
-    let l : List Reading = tests (countTests (statesAt b) (variablesAt b) (clocksAt b) (kindsAt b) (transitionsAt b)) in
+    let l : List Reading = tests (count_tests (states_at b) (variables_at b) (clocks_at b) (kinds_at b) (transitions_at b)) in
     record {
       states-some = le_test _ _ (TableCount 3) (test l e 0);
       states = le_test _ _ (TableCount 3) (test l e 1);
@@ -70,50 +70,50 @@ counts b e =
 
 -- the transition record at an offset
 pub record SoundTransition (b : List ℕ) (at : ℕ) : Type 0 where
-  pub source : byte_at b at < statesAt b
-  pub target : byte_at b (at + 1) < statesAt b
-  pub trigger : byte_at b (at + 2) < kindsAt b
-  pub sets : byte_at b (at + 3) < 2 ^ variablesAt b
-  pub clears : byte_at b (at + 4) < 2 ^ variablesAt b
-  pub resets : byte_at b (at + 5) < 2 ^ clocksAt b
-  pub disjoint : apart (variablesAt b) (byte_at b (at + 3)) (byte_at b (at + 4)) ≡ true
-  pub some : 1 ≤ guardLengthAt b at
-  pub few : guardLengthAt b at ≤ guardLimit
-  pub fits : at + 7 + guardLengthAt b at ≤ length b
-  pub guard : ends_at (guardAt guardLimit (variablesAt b) (clocksAt b) b (at + 7) (at + 7 + guardLengthAt b at)) (at + 7 + guardLengthAt b at) ≡ true
+  pub source : byte_at b at < states_at b
+  pub target : byte_at b (at + 1) < states_at b
+  pub trigger : byte_at b (at + 2) < kinds_at b
+  pub sets : byte_at b (at + 3) < 2 ^ variables_at b
+  pub clears : byte_at b (at + 4) < 2 ^ variables_at b
+  pub resets : byte_at b (at + 5) < 2 ^ clocks_at b
+  pub disjoint : apart (variables_at b) (byte_at b (at + 3)) (byte_at b (at + 4)) ≡ true
+  pub some : 1 ≤ guard_length_at b at
+  pub few : guard_length_at b at ≤ guard_limit
+  pub fits : at + 7 + guard_length_at b at ≤ length b
+  pub guard : ends_at (guard_at guard_limit (variables_at b) (clocks_at b) b (at + 7) (at + 7 + guard_length_at b at)) (at + 7 + guard_length_at b at) ≡ true
 
-abbrev pub fieldTests : List ℕ → ℕ → List (Bool × Refusal)
-fieldTests b at =
-    (ltb (byte_at b at) (statesAt b), TableField at)
-    ∷ (ltb (byte_at b (at + 1)) (statesAt b), TableField at)
-    ∷ (ltb (byte_at b (at + 2)) (kindsAt b), TableField at)
-    ∷ (ltb (byte_at b (at + 3)) (2 ^ variablesAt b), TableField at)
-    ∷ (ltb (byte_at b (at + 4)) (2 ^ variablesAt b), TableField at)
-    ∷ (ltb (byte_at b (at + 5)) (2 ^ clocksAt b), TableField at)
-    ∷ (apart (variablesAt b) (byte_at b (at + 3)) (byte_at b (at + 4)), TableField at)
+abbrev pub field_tests : List ℕ → ℕ → List (Bool × Refusal)
+field_tests b at =
+    (ltb (byte_at b at) (states_at b), TableField at)
+    ∷ (ltb (byte_at b (at + 1)) (states_at b), TableField at)
+    ∷ (ltb (byte_at b (at + 2)) (kinds_at b), TableField at)
+    ∷ (ltb (byte_at b (at + 3)) (2 ^ variables_at b), TableField at)
+    ∷ (ltb (byte_at b (at + 4)) (2 ^ variables_at b), TableField at)
+    ∷ (ltb (byte_at b (at + 5)) (2 ^ clocks_at b), TableField at)
+    ∷ (apart (variables_at b) (byte_at b (at + 3)) (byte_at b (at + 4)), TableField at)
     ∷ []
 
-abbrev pub guardTests : List ℕ → ℕ → List (Bool × Refusal)
-guardTests b at =
-    (leb 1 (guardLengthAt b at), TableGuard at)
-    ∷ (leb (guardLengthAt b at) guardLimit, TableGuard at)
-    ∷ (leb (at + 7 + guardLengthAt b at) (length b), TableLength at)
-    ∷ (ends_at (guardAt guardLimit (variablesAt b) (clocksAt b) b (at + 7) (at + 7 + guardLengthAt b at)) (at + 7 + guardLengthAt b at), TableGuard at)
+abbrev pub guard_tests : List ℕ → ℕ → List (Bool × Refusal)
+guard_tests b at =
+    (leb 1 (guard_length_at b at), TableGuard at)
+    ∷ (leb (guard_length_at b at) guard_limit, TableGuard at)
+    ∷ (leb (at + 7 + guard_length_at b at) (length b), TableLength at)
+    ∷ (ends_at (guard_at guard_limit (variables_at b) (clocks_at b) b (at + 7) (at + 7 + guard_length_at b at)) (at + 7 + guard_length_at b at), TableGuard at)
     ∷ []
 
-pub sound-transition : (b : List ℕ) (at : ℕ) → transitionRecord b at ≡ Sound → SoundTransition b at
-unfolding transitionRecord transitionFields guardRecord
+pub sound-transition : (b : List ℕ) (at : ℕ) → transition_record b at ≡ Sound → SoundTransition b at
+unfolding transition_record transition_fields guard_record
 sound-transition b at e =
-    let parsed : Bool = ends_at (guardAt guardLimit (variablesAt b) (clocksAt b) b (at + 7) (at + 7 + guardLengthAt b at)) (at + 7 + guardLengthAt b at) in
-    let separate : Bool = apart (variablesAt b) (byte_at b (at + 3)) (byte_at b (at + 4)) in
+    let parsed : Bool = ends_at (guard_at guard_limit (variables_at b) (clocks_at b) b (at + 7) (at + 7 + guard_length_at b at)) (at + 7 + guard_length_at b at) in
+    let separate : Bool = apart (variables_at b) (byte_at b (at + 3)) (byte_at b (at + 4)) in
     let l : List Reading =
     unless (leb (at + 7) (length b)) (TableLength at)
-    ∷ transitionFields b at
-    ∷ guardRecord b at
+    ∷ transition_fields b at
+    ∷ guard_record b at
     ∷ []
     in
-    let guards : List Reading = tests (guardTests b at) in
-    let fields : List Reading = tests (fieldTests b at) in
+    let guards : List Reading = tests (guard_tests b at) in
+    let fields : List Reading = tests (field_tests b at) in
     let f : first_of fields ≡ Sound = test l e 1 in
     let g : first_of guards ≡ Sound = test l e 2 in
     record {
@@ -133,164 +133,164 @@ sound-transition b at e =
 -- every transition record from number i on
 
 transitions-sound :
-    (n : ℕ) (b : List ℕ) (i j : ℕ) → transitionRecords n b (transitionAt b i) ≡ Sound → i ≤ j → j < i + n → SoundTransition b (transitionAt b j)
-unfolding transitionRecords transitionAt
+    (n : ℕ) (b : List ℕ) (i j : ℕ) → transition_records n b (transition_at b i) ≡ Sound → i ≤ j → j < i + n → SoundTransition b (transition_at b j)
+unfolding transition_records transition_at
 transitions-sound zero b i j e p q = absurd (omega arith)
 transitions-sound (suc n) b i j e p q =
-    let l : List Reading = transitionRecord b (transitionAt b i) ∷ transitionRecords n b (transitionAt b (suc i)) ∷ [] in
+    let l : List Reading = transition_record b (transition_at b i) ∷ transition_records n b (transition_at b (suc i)) ∷ [] in
     split (ℕ_discrete i j) (test l e 0) (λ r. transitions-sound n b (suc i) j (test l e 1) r (omega arith))
   where
-    split : Dec (i ≡ j) → transitionRecord b (transitionAt b i) ≡ Sound → (suc i ≤ j → SoundTransition b (transitionAt b j)) → SoundTransition b (transitionAt b j)
-    split (yes s) here again = sound-transition b (transitionAt b j) (ap (λ (x : ℕ). transitionRecord b (transitionAt b x)) (sym s) ∙ here)
+    split : Dec (i ≡ j) → transition_record b (transition_at b i) ≡ Sound → (suc i ≤ j → SoundTransition b (transition_at b j)) → SoundTransition b (transition_at b j)
+    split (yes s) here again = sound-transition b (transition_at b j) (ap (λ (x : ℕ). transition_record b (transition_at b x)) (sym s) ∙ here)
     split (no s) here again = again (omega arith)
 
-transitions-end : (n : ℕ) (b : List ℕ) (i : ℕ) → transitionRecords n b (transitionAt b i) ≡ Sound → transitionAt b (i + n) ≡ length b
-unfolding transitionRecords transitionAt
-transitions-end zero b i e = ap (λ (x : ℕ). transitionAt b x) (add-zero i) ∙ eq_test (transitionAt b i) (length b) (TableLength (transitionAt b i)) e
+transitions-end : (n : ℕ) (b : List ℕ) (i : ℕ) → transition_records n b (transition_at b i) ≡ Sound → transition_at b (i + n) ≡ length b
+unfolding transition_records transition_at
+transitions-end zero b i e = ap (λ (x : ℕ). transition_at b x) (add-zero i) ∙ eq_test (transition_at b i) (length b) (TableLength (transition_at b i)) e
 transitions-end (suc n) b i e =
-    let l : List Reading = transitionRecord b (transitionAt b i) ∷ transitionRecords n b (transitionAt b (suc i)) ∷ [] in
+    let l : List Reading = transition_record b (transition_at b i) ∷ transition_records n b (transition_at b (suc i)) ∷ [] in
     let next : i + suc n ≡ suc i + n = omega arith in
-    ap (λ (x : ℕ). transitionAt b x) next ∙ transitions-end n b (suc i) (test l e 1)
+    ap (λ (x : ℕ). transition_at b x) next ∙ transitions-end n b (suc i) (test l e 1)
 
 -- all that a sound scan ensures of a table's bytes, its kinds having these devices
 pub record TableFacts (devices b : List ℕ) : Type 0 where
-  pub head : Framed One b 8 1 tableVersions
+  pub head : Framed One b 8 1 table_versions
   pub counts : SoundCounts b
-  pub kind : (i : ℕ) → i < kindsAt b → SoundKind b (kindAt (versionAt b) i) (byte_at devices i)
-  pub transition : (j : ℕ) → j < transitionsAt b → SoundTransition b (transitionAt b j)
-  pub end : transitionAt b (transitionsAt b) ≡ length b
+  pub kind : (i : ℕ) → i < kinds_at b → SoundKind b (kind_at (version_at b) i) (byte_at devices i)
+  pub transition : (j : ℕ) → j < transitions_at b → SoundTransition b (transition_at b j)
+  pub end : transition_at b (transitions_at b) ≡ length b
 
-abbrev scanTests : (devices b : List ℕ) → List Reading
-scanTests devices b =
-    framed One b 8 1 tableVersions TableFrame TableVersion
-    ∷ tableCounts b
-    ∷ kindRecords devices b
-    ∷ transitionRecords (transitionsAt b) b (transitionAt b 0)
+abbrev scan_tests : (devices b : List ℕ) → List Reading
+scan_tests devices b =
+    framed One b 8 1 table_versions TableFrame TableVersion
+    ∷ table_counts b
+    ∷ kind_records devices b
+    ∷ transition_records (transitions_at b) b (transition_at b 0)
     ∷ []
 
-pub scan-facts : (devices b : List ℕ) → scanWith devices b ≡ Sound → TableFacts devices b
-unfolding scanWith kindRecords
-scan-facts devices b s =
-    let l : List Reading = scanTests devices b in
-    let kind : ℕ → Reading = λ i. kindRecord b (kindAt (versionAt b) i) (byte_at devices i) in
+pub scan_facts : (devices b : List ℕ) → scan_with devices b ≡ Sound → TableFacts devices b
+unfolding scan_with kind_records
+scan_facts devices b s =
+    let l : List Reading = scan_tests devices b in
+    let kind : ℕ → Reading = λ i. kind_record b (kind_at (version_at b) i) (byte_at devices i) in
     record {
-      head = framed-facts One b 8 1 tableVersions TableFrame TableVersion (test l s 0);
+      head = framed_facts One b 8 1 table_versions TableFrame TableVersion (test l s 0);
       counts = counts b (test l s 1);
-      kind = λ i h. sound-kind b (kindAt (versionAt b) i) (byte_at devices i) (passed-each kind (kindsAt b) (test l s 2) i h);
-      transition = λ j h. transitions-sound (transitionsAt b) b 0 j (test l s 3) (omega arith) (omega arith);
-      end = ap (λ (x : ℕ). transitionAt b x) (sym (zero-add (transitionsAt b))) ∙ transitions-end (transitionsAt b) b 0 (test l s 3);
+      kind = λ i h. sound-kind b (kind_at (version_at b) i) (byte_at devices i) (passed_each kind (kinds_at b) (test l s 2) i h);
+      transition = λ j h. transitions-sound (transitions_at b) b 0 j (test l s 3) (omega arith) (omega arith);
+      end = ap (λ (x : ℕ). transition_at b x) (sym (zero-add (transitions_at b))) ∙ transitions-end (transitions_at b) b 0 (test l s 3);
     }
 
-pub scan-sound : (devices b : List ℕ) → answerWith devices b ≡ Sound → scanWith devices b ≡ Sound
-unfolding answerWith
-scan-sound devices b e = let l : List Reading = scanWith devices b ∷ wholeAnswer (monitorAt b) ∷ [] in test l e 0
+pub scan_sound : (devices b : List ℕ) → answer_with devices b ≡ Sound → scan_with devices b ≡ Sound
+unfolding answer_with
+scan_sound devices b e = let l : List Reading = scan_with devices b ∷ whole_answer (monitor_at b) ∷ [] in test l e 0
 
-pub table-facts : (b : List ℕ) → SoundTable b → TableFacts (deviceColumn b) b
-unfolding tableAnswer
-table-facts b e = scan-facts (deviceColumn b) b (scan-sound (deviceColumn b) b e)
+pub table_facts : (b : List ℕ) → SoundTable b → TableFacts (device_column b) b
+unfolding table_answer
+table_facts b e = scan_facts (device_column b) b (scan_sound (device_column b) b e)
 
-pub table-small : (b : List ℕ) → SoundTable b → tableSize (monitorAt b) ≤ sizeLimit
-unfolding tableAnswer answerWith tableScan wholeAnswer
-table-small b e =
-    let all : List Reading = tableScan b ∷ wholeAnswer (monitorAt b) ∷ [] in
-    let whole : List Reading = unless (leb (tableSize (monitorAt b)) sizeLimit) TableSize ∷ statesAnswer (monitorAt b) ∷ [] in
+pub table_small : (b : List ℕ) → SoundTable b → table_size (monitor_at b) ≤ size_limit
+unfolding table_answer answer_with table_scan whole_answer
+table_small b e =
+    let all : List Reading = table_scan b ∷ whole_answer (monitor_at b) ∷ [] in
+    let whole : List Reading = unless (leb (table_size (monitor_at b)) size_limit) TableSize ∷ states_answer (monitor_at b) ∷ [] in
     le_test _ _ TableSize (test whole (test all e 1) 0)
 
 -- a table's monitor has no rule, and so no larger N
 
-pub plain-rule : (b : List ℕ) → (monitorAt b).rule ≡ noRule
-unfolding monitorOf
-plain-rule b = refl
+pub plain_rule : (b : List ℕ) → (monitor_at b).rule ≡ no_rule
+unfolding monitor_of
+plain_rule b = refl
 
-pub plain_size : (b : List ℕ) → size (monitorAt b) ≡ tableSize (monitorAt b)
-unfolding size monitorOf
+pub plain_size : (b : List ℕ) → size (monitor_at b) ≡ table_size (monitor_at b)
+unfolding size monitor_of
 plain_size b = omega arith
 
 -- the parts, where the counts reach
 
-guardPlace-length : (b : List ℕ) (j : ℕ) → guardLengthAt b (transitionAt b j) ≤ guardLimit → length (guardPlace b j) ≡ guardLimit
-unfolding guardPlace
-guardPlace-length b j h =
-    let n : ℕ = guardLengthAt b (transitionAt b j) in
-    length-padded guardLimit (take n (drop (transitionAt b j + 7) b)) (omega (arith, length-take n (drop (transitionAt b j + 7) b)))
+guard_place-length : (b : List ℕ) (j : ℕ) → guard_length_at b (transition_at b j) ≤ guard_limit → length (guard_place b j) ≡ guard_limit
+unfolding guard_place
+guard_place-length b j h =
+    let n : ℕ = guard_length_at b (transition_at b j) in
+    length-padded guard_limit (take n (drop (transition_at b j + 7) b)) (omega (arith, length-take n (drop (transition_at b j + 7) b)))
 
 module _ {devices : List ℕ} (b : List ℕ) (facts : TableFacts devices b) where
-  pub places : (j : ℕ) → j < transitionsAt b → length (guardPlace b j) ≡ guardLimit
-  places j h = guardPlace-length b j (facts.transition j h).few
+  pub places : (j : ℕ) → j < transitions_at b → length (guard_place b j) ≡ guard_limit
+  places j h = guard_place-length b j (facts.transition j h).few
 
-  pub places-length : length (joined (guardPlace b) (transitionsAt b)) ≡ guardLimit * transitionsAt b
-  places-length = length-joined (guardPlace b) guardLimit (transitionsAt b) places
+  pub places_length : length (joined (guard_place b) (transitions_at b)) ≡ guard_limit * transitions_at b
+  places_length = length-joined (guard_place b) guard_limit (transitions_at b) places
 
-  pub guard-place : (j : ℕ) → j < transitionsAt b → (i : ℕ) → i < guardLimit → byte_at (table_parts b).guards (guardLimit * j + i) ≡ byte_at (guardPlace b j) i
+  pub guard-place : (j : ℕ) → j < transitions_at b → (i : ℕ) → i < guard_limit → byte_at (table_parts b).guards (guard_limit * j + i) ≡ byte_at (guard_place b j) i
   unfolding table_parts
   guard-place j h i p =
-      getD-padded (guardLimit * transitionLimit) (joined (guardPlace b) (transitionsAt b)) (guardLimit * j + i) (omega (arith, places-length))
-      ∙ getD-joined (guardPlace b) guardLimit (transitionsAt b) places j i h p
+      get_or-padded (guard_limit * transition_limit) (joined (guard_place b) (transitions_at b)) (guard_limit * j + i) (omega (arith, places_length))
+      ∙ get_or-joined (guard_place b) guard_limit (transitions_at b) places j i h p
 
-  pub guard-byte :
-      (j : ℕ) → j < transitionsAt b → (i : ℕ) → i < guardLengthAt b (transitionAt b j)
-      → byte_at (table_parts b).guards (guardLimit * j + i) ≡ byte_at b (transitionAt b j + 7 + i)
-  unfolding guardPlace
-  guard-byte j h i p =
-      let t : SoundTransition b (transitionAt b j) = facts.transition j h in
-      let few : guardLengthAt b (transitionAt b j) ≤ guardLimit = t.few in
-      let fits : transitionAt b j + 7 + guardLengthAt b (transitionAt b j) ≤ length b = t.fits in
-      let n : ℕ = guardLengthAt b (transitionAt b j) in
-      let g : List ℕ = take n (drop (transitionAt b j + 7) b) in
-      let e : length g ≡ n = length-take-le n (drop (transitionAt b j + 7) b) (omega (arith, length-drop (transitionAt b j + 7) b)) in
-      guard-place j h i (omega arith) ∙ getD-padded guardLimit g i (omega arith) ∙ sym (stands-part b (transitionAt b j + 7) n i (omega arith))
+  pub guard_byte :
+      (j : ℕ) → j < transitions_at b → (i : ℕ) → i < guard_length_at b (transition_at b j)
+      → byte_at (table_parts b).guards (guard_limit * j + i) ≡ byte_at b (transition_at b j + 7 + i)
+  unfolding guard_place
+  guard_byte j h i p =
+      let t : SoundTransition b (transition_at b j) = facts.transition j h in
+      let few : guard_length_at b (transition_at b j) ≤ guard_limit = t.few in
+      let fits : transition_at b j + 7 + guard_length_at b (transition_at b j) ≤ length b = t.fits in
+      let n : ℕ = guard_length_at b (transition_at b j) in
+      let g : List ℕ = take n (drop (transition_at b j + 7) b) in
+      let e : length g ≡ n = length-take-le n (drop (transition_at b j + 7) b) (omega (arith, length-drop (transition_at b j + 7) b)) in
+      guard-place j h i (omega arith) ∙ get_or-padded guard_limit g i (omega arith) ∙ sym (stands_part b (transition_at b j + 7) n i (omega arith))
 
   pub guard-again :
-      (j : ℕ) → j < transitionsAt b
-      → guardIn (table_parts b) j
-      ≡ guard_of (guardAt guardLimit (variablesAt b) (clocksAt b) b (transitionAt b j + 7) (transitionAt b j + 7 + guardLengthAt b (transitionAt b j)))
-  unfolding guardIn table_parts
+      (j : ℕ) → j < transitions_at b
+      → guard_in (table_parts b) j
+      ≡ guard_of (guard_at guard_limit (variables_at b) (clocks_at b) b (transition_at b j + 7) (transition_at b j + 7 + guard_length_at b (transition_at b j)))
+  unfolding guard_in table_parts
   guard-again j h =
-      let vs : ℕ = variablesAt b in
-      let cs : ℕ = clocksAt b in
-      let at : ℕ = transitionAt b j + 7 in
-      let n : ℕ = guardLengthAt b (transitionAt b j) in
-      let few : n ≤ guardLimit = (facts.transition j h).few in
-      ap (λ (k : ℕ). guard_of (guardAt guardLimit vs cs (table_parts b).guards (guardLimit * j) (guardLimit * j + k))) (getD-column transitionLimit (λ i. byte_at b (transitionAt b i + 6)) (transitionsAt b) j h)
-      ∙ ap guard_of (guard-moved vs cs b (table_parts b).guards at (guardLimit * j) n (λ i p. sym (guard-byte j h i p)) guardLimit guardLimit few few)
-      ∙ moved-guard at (guardLimit * j) (guardAt guardLimit vs cs b at (at + n))
+      let vs : ℕ = variables_at b in
+      let cs : ℕ = clocks_at b in
+      let at : ℕ = transition_at b j + 7 in
+      let n : ℕ = guard_length_at b (transition_at b j) in
+      let few : n ≤ guard_limit = (facts.transition j h).few in
+      ap (λ (k : ℕ). guard_of (guard_at guard_limit vs cs (table_parts b).guards (guard_limit * j) (guard_limit * j + k))) (get_or_column transition_limit (λ i. byte_at b (transition_at b i + 6)) (transitions_at b) j h)
+      ∙ ap guard_of (guard-moved vs cs b (table_parts b).guards at (guard_limit * j) n (λ i p. sym (guard_byte j h i p)) guard_limit guard_limit few few)
+      ∙ moved-guard at (guard_limit * j) (guard_at guard_limit vs cs b at (at + n))
 
   -- the guard at its place in the bytes, as read
   pub guard-sound :
-      (j : ℕ) → j < transitionsAt b
-      → guardAt guardLimit (variablesAt b) (clocksAt b) b (transitionAt b j + 7) (transitionAt b j + 7 + guardLengthAt b (transitionAt b j))
-      ≡ up_to (guardIn (table_parts b) j) (transitionAt b j + 7 + guardLengthAt b (transitionAt b j))
+      (j : ℕ) → j < transitions_at b
+      → guard_at guard_limit (variables_at b) (clocks_at b) b (transition_at b j + 7) (transition_at b j + 7 + guard_length_at b (transition_at b j))
+      ≡ up_to (guard_in (table_parts b) j) (transition_at b j + 7 + guard_length_at b (transition_at b j))
   guard-sound j h =
-      let at : ℕ = transitionAt b j + 7 in
-      let end : ℕ = at + guardLengthAt b (transitionAt b j) in
-      rw (guard-again j h) (ends_read (guardAt guardLimit (variablesAt b) (clocksAt b) b at end) end (facts.transition j h).guard)
+      let at : ℕ = transition_at b j + 7 in
+      let end : ℕ = at + guard_length_at b (transition_at b j) in
+      rw (guard-again j h) (ends_read (guard_at guard_limit (variables_at b) (clocks_at b) b at end) end (facts.transition j h).guard)
 
-  pub sane-transition : (j : ℕ) → j < transitionsAt b → SaneTransition (monitorAt b) (transitionIn (table_parts b) j)
-  unfolding transitionIn monitorOf table_parts
+  pub sane-transition : (j : ℕ) → j < transitions_at b → SaneTransition (monitor_at b) (transition_in (table_parts b) j)
+  unfolding transition_in monitor_of table_parts
   sane-transition j h =
-      let t : SoundTransition b (transitionAt b j) = facts.transition j h in
-      let at : ℕ = transitionAt b j + 7 in
-      let end : ℕ = at + guardLengthAt b (transitionAt b j) in
+      let t : SoundTransition b (transition_at b j) = facts.transition j h in
+      let at : ℕ = transition_at b j + 7 in
+      let end : ℕ = at + guard_length_at b (transition_at b j) in
       record {
-        target = rw (getD-column transitionLimit (λ i. byte_at b (transitionAt b i + 1)) (transitionsAt b) j h) t.target;
-        trigger = rw (length-tab (λ k. byte_at (table_parts b).airtimes k) (kindsAt b), getD-column transitionLimit (λ i. byte_at b (transitionAt b i + 2)) (transitionsAt b) j h) t.trigger;
-        closed = closed-names (monitorAt b) (guardIn (table_parts b) j) (guard-names (variablesAt b) (clocksAt b) b end guardLimit at (guardIn (table_parts b) j) end (guard-sound j h));
+        target = rw (get_or_column transition_limit (λ i. byte_at b (transition_at b i + 1)) (transitions_at b) j h) t.target;
+        trigger = rw (length-tab (λ k. byte_at (table_parts b).airtimes k) (kinds_at b), get_or_column transition_limit (λ i. byte_at b (transition_at b i + 2)) (transitions_at b) j h) t.trigger;
+        closed = closed_names (monitor_at b) (guard_in (table_parts b) j) (guard_names (variables_at b) (clocks_at b) b end guard_limit at (guard_in (table_parts b) j) end (guard-sound j h));
       }
 
-pub sane-table : (b : List ℕ) → SoundTable b → Sane (monitorAt b)
-unfolding monitorOf table_parts
-sane-table b s =
-    let facts : TableFacts (deviceColumn b) b = table-facts b s in
+pub sane_table : (b : List ℕ) → SoundTable b → Sane (monitor_at b)
+unfolding monitor_of table_parts
+sane_table b s =
+    let facts : TableFacts (device_column b) b = table_facts b s in
     let counts : SoundCounts b = facts.counts in
-    let n : length (tab (transitionIn (table_parts b)) (transitionsAt b)) ≡ transitionsAt b = length-tab (transitionIn (table_parts b)) (transitionsAt b) in
+    let n : length (tab (transition_in (table_parts b)) (transitions_at b)) ≡ transitions_at b = length-tab (transition_in (table_parts b)) (transitions_at b) in
     record {
       states = counts.states-some;
       clocks = counts.clocks;
       few = rw n counts.transitions;
       transition = λ j t e.
-          let h : j < transitionsAt b = rw n at (getElem-within (tab (transitionIn (table_parts b)) (transitionsAt b)) j t e) in
-          let f : some (transitionIn (table_parts b) j) ≡ some t = sym (getElem-tab (transitionIn (table_parts b)) (transitionsAt b) j h) ∙ e in
-          let same : transitionIn (table_parts b) j ≡ t = cc in
-          subst (λ (x : Transition). SaneTransition (monitorAt b) x) same (sane-transition b facts j h);
+          let h : j < transitions_at b = rw n at (get_elem_within (tab (transition_in (table_parts b)) (transitions_at b)) j t e) in
+          let f : some (transition_in (table_parts b) j) ≡ some t = sym (get_elem_tab (transition_in (table_parts b)) (transitions_at b) j h) ∙ e in
+          let same : transition_in (table_parts b) j ≡ t = cc in
+          subst (λ (x : Transition). SaneTransition (monitor_at b) x) same (sane-transition b facts j h);
       window = omega arith;
     }

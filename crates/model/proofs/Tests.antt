@@ -10,19 +10,19 @@ use lib.Dec.{leb, ltb, eqb}
 use borrow.Author.Tests.{leb-true, ltb-true, eqb-true}
 use Rattle.model.specs.Bytes.{byte_at, tab}
 use Rattle.model.specs.First.{unless, and_then, first_of}
-use Rattle.model.specs.Edition.{size_width, size_at, versionOf, versionPlace, countPlace, rowsPlace}
-use Rattle.model.specs.Frame.{isVersion, framed, rowsSize, framedRows}
+use Rattle.model.specs.Edition.{size_width, size_at, version_of, version_place, count_place, rows_place}
+use Rattle.model.specs.Frame.{is_version, framed, rows_size, framed_rows}
 use Rattle.model.specs.declared.Edition.{Edition}
 use Rattle.model.specs.declared.Refusal.{Refusal}
 use Rattle.model.specs.declared.Reading.{Reading}
 use Rattle.model.specs.declared.Reading.TheVariants.{Sound, Unsound}
-use Rattle.model.proofs.Basics.{and_left, and_right, unless-sound, andThen-left, andThen-right, getD-tab}
+use Rattle.model.proofs.Basics.{and_left, and_right, unless-sound, and_then-left, and_then-right, get_or-tab}
 
 -- test number i, counted from 0
 pub test : (l : List Reading) → first_of l ≡ Sound → (i : ℕ) → get_or l i Sound ≡ Sound
 test [] e i = refl
-test (x ∷ l) e zero = andThen-left x (first_of l) e
-test (x ∷ l) e (suc i) = test l (andThen-right x (first_of l) e) i
+test (x ∷ l) e zero = and_then-left x (first_of l) e
+test (x ∷ l) e (suc i) = test l (and_then-right x (first_of l) e) i
 
 pub le_test : (a b : ℕ) (r : Refusal) → unless (leb a b) r ≡ Sound → a ≤ b
 le_test a b r e = leb-true a b (unless-sound (leb a b) r e)
@@ -40,26 +40,26 @@ tests (x ∷ l) = unless x.0 x.1 ∷ tests l
 
 -- what a frame that passes ensures
 
-abbrev pub frameTests : Edition → List ℕ → (least oldest latest : ℕ) → (frame version : Refusal) → List (Bool × Refusal)
-frameTests edition b least oldest latest f v =
+abbrev pub frame_tests : Edition → List ℕ → (least oldest latest : ℕ) → (frame version : Refusal) → List (Bool × Refusal)
+frame_tests edition b least oldest latest f v =
     (leb least (length b), f)
     ∷ (eqb (size_at edition b 0 + size_width edition) (length b), f)
-    ∷ (isVersion oldest latest (byte_at b (versionPlace edition)), v)
+    ∷ (is_version oldest latest (byte_at b (version_place edition)), v)
     ∷ []
 
 pub record Framed (edition : Edition) (b : List ℕ) (least oldest latest : ℕ) : Type 0 where
   pub frame : least ≤ length b
   pub framed : size_at edition b 0 + size_width edition ≡ length b
-  pub numbered : oldest ≤ byte_at b (versionPlace edition)
-  pub known : byte_at b (versionPlace edition) ≤ latest
+  pub numbered : oldest ≤ byte_at b (version_place edition)
+  pub known : byte_at b (version_place edition) ≤ latest
 
-pub framed-facts : (edition : Edition) (b : List ℕ) (least oldest latest : ℕ) (f v : Refusal) → framed edition b least oldest latest f v ≡ Sound
+pub framed_facts : (edition : Edition) (b : List ℕ) (least oldest latest : ℕ) (f v : Refusal) → framed edition b least oldest latest f v ≡ Sound
     → Framed edition b least oldest latest
 unfolding framed
-framed-facts edition b least oldest latest f v e =
-    let l : List Reading = tests (frameTests edition b least oldest latest f v) in
-    let n : ℕ = byte_at b (versionPlace edition) in
-    let version : isVersion oldest latest n ≡ true = unless-sound (isVersion oldest latest n) v (test l e 2) in
+framed_facts edition b least oldest latest f v e =
+    let l : List Reading = tests (frame_tests edition b least oldest latest f v) in
+    let n : ℕ = byte_at b (version_place edition) in
+    let version : is_version oldest latest n ≡ true = unless-sound (is_version oldest latest n) v (test l e 2) in
     record {
       frame = le_test _ _ f (test l e 0);
       framed = eq_test _ _ f (test l e 1);
@@ -69,22 +69,22 @@ framed-facts edition b least oldest latest f v e =
 
 -- .. and one with rows of one width
 pub record FramedRows (edition : Edition) (b : List ℕ) (width limit : ℕ) : Type 0 where
-  pub head : Framed edition b (rowsPlace edition) (versionOf edition) (versionOf edition)
-  pub version : byte_at b (versionPlace edition) ≡ versionOf edition
-  pub count : size_at edition b (countPlace edition) ≤ limit
-  pub sized : size_at edition b 0 ≡ rowsSize edition width (size_at edition b (countPlace edition))
+  pub head : Framed edition b (rows_place edition) (version_of edition) (version_of edition)
+  pub version : byte_at b (version_place edition) ≡ version_of edition
+  pub count : size_at edition b (count_place edition) ≤ limit
+  pub sized : size_at edition b 0 ≡ rows_size edition width (size_at edition b (count_place edition))
 
-pub rows-facts : (edition : Edition) (b : List ℕ) (width limit : ℕ) (f v c : Refusal) → framedRows edition b width limit f v c ≡ Sound → FramedRows edition b width limit
-unfolding framedRows
-rows-facts edition b width limit f v c e =
+pub rows_facts : (edition : Edition) (b : List ℕ) (width limit : ℕ) (f v c : Refusal) → framed_rows edition b width limit f v c ≡ Sound → FramedRows edition b width limit
+unfolding framed_rows
+rows_facts edition b width limit f v c e =
     let l : List Reading =
-    framed edition b (rowsPlace edition) (versionOf edition) (versionOf edition) f v
-    ∷ unless (leb (size_at edition b (countPlace edition)) limit) c
-    ∷ unless (eqb (size_at edition b 0) (rowsSize edition width (size_at edition b (countPlace edition)))) c
+    framed edition b (rows_place edition) (version_of edition) (version_of edition) f v
+    ∷ unless (leb (size_at edition b (count_place edition)) limit) c
+    ∷ unless (eqb (size_at edition b 0) (rows_size edition width (size_at edition b (count_place edition)))) c
     ∷ []
     in
-    let head : Framed edition b (rowsPlace edition) (versionOf edition) (versionOf edition) =
-    framed-facts edition b (rowsPlace edition) (versionOf edition) (versionOf edition) f v (test l e 0)
+    let head : Framed edition b (rows_place edition) (version_of edition) (version_of edition) =
+    framed_facts edition b (rows_place edition) (version_of edition) (version_of edition) f v (test l e 0)
     in
     record {
       head = head;
@@ -93,12 +93,12 @@ rows-facts edition b width limit f v c e =
       sized = eq_test _ _ c (test l e 2);
     }
 
-pub sound-unsound : (r : Refusal) → Sound ≡ Unsound r → ⊥
-sound-unsound r e = let z : ◌≡◌ {A = ℕ} 0 1 = cc in omega arith
+pub sound_unsound : (r : Refusal) → Sound ≡ Unsound r → ⊥
+sound_unsound r e = let z : ◌≡◌ {A = ℕ} 0 1 = cc in omega arith
 
-pub then-sound : (x : Reading) → and_then x Sound ≡ x
-then-sound Sound = refl
-then-sound (Unsound r) = refl
+pub then_sound : (x : Reading) → and_then x Sound ≡ x
+then_sound Sound = refl
+then_sound (Unsound r) = refl
 
 -- tests one behind the other, by number
 
@@ -109,10 +109,10 @@ first-last (Sound ∷ l) x = first-last l x
 first-last (Unsound r ∷ l) x = refl
 
 module _ (f : ℕ → Reading) where
-  pub first-passed : (n : ℕ) → ((i : ℕ) → i < n → f i ≡ Sound) → first_of (tab f n) ≡ Sound
+  pub first_passed : (n : ℕ) → ((i : ℕ) → i < n → f i ≡ Sound) → first_of (tab f n) ≡ Sound
   unfolding tab
-  first-passed zero h = refl
-  first-passed (suc n) h = first-last (tab f n) (f n) ∙ rw (first-passed n (λ i l. h i (omega arith)), h n (omega arith))
+  first_passed zero h = refl
+  first_passed (suc n) h = first-last (tab f n) (f n) ∙ rw (first_passed n (λ i l. h i (omega arith)), h n (omega arith))
 
   pub first-refused : (n i : ℕ) (r : Refusal) → i < n → ((k : ℕ) → k < i → f k ≡ Sound) → f i ≡ Unsound r → first_of (tab f n) ≡ Unsound r
   unfolding tab
@@ -121,19 +121,19 @@ module _ (f : ℕ → Reading) where
     where
       go : Dec (i < n) → (i < n → first_of (tab f n) ≡ Unsound r) → and_then (first_of (tab f n)) (f n) ≡ Unsound r
       go (yes k) again = rw (again k)
-      go (no k) again = let q : i ≡ n = omega arith in rw (first-passed n (λ j p. h j (omega arith)), ← q, e)
+      go (no k) again = let q : i ≡ n = omega arith in rw (first_passed n (λ j p. h j (omega arith)), ← q, e)
 
-  pub passed-each : (n : ℕ) → first_of (tab f n) ≡ Sound → (i : ℕ) → i < n → f i ≡ Sound
-  passed-each n e i l = sym (getD-tab f Sound n i l) ∙ test (tab f n) e i
+  pub passed_each : (n : ℕ) → first_of (tab f n) ≡ Sound → (i : ℕ) → i < n → f i ≡ Sound
+  passed_each n e i l = sym (get_or-tab f Sound n i l) ∙ test (tab f n) e i
 
-  pub refused-which : (n : ℕ) (r : Refusal) → first_of (tab f n) ≡ Unsound r → (i : ℕ) × (i < n) × ((k : ℕ) → k < i → f k ≡ Sound) × (f i ≡ Unsound r)
+  pub refused_which : (n : ℕ) (r : Refusal) → first_of (tab f n) ≡ Unsound r → (i : ℕ) × (i < n) × ((k : ℕ) → k < i → f k ≡ Sound) × (f i ≡ Unsound r)
   unfolding tab
-  refused-which zero r e = absurd (sound-unsound r e)
-  refused-which (suc n) r e = go (first_of (tab f n)) refl (λ h. refused-which n r h) (sym (first-last (tab f n) (f n)) ∙ e)
+  refused_which zero r e = absurd (sound_unsound r e)
+  refused_which (suc n) r e = go (first_of (tab f n)) refl (λ h. refused_which n r h) (sym (first-last (tab f n) (f n)) ∙ e)
     where
       Which : ℕ → Type 0
       Which n = (i : ℕ) × (i < n) × ((k : ℕ) → k < i → f k ≡ Sound) × (f i ≡ Unsound r)
 
       go : (x : Reading) → first_of (tab f n) ≡ x → (first_of (tab f n) ≡ Unsound r → Which n) → and_then x (f n) ≡ Unsound r → Which (suc n)
-      go Sound p again h = (n, omega arith, passed-each n p, h)
+      go Sound p again h = (n, omega arith, passed_each n p, h)
       go (Unsound q) p again h = let w : Which n = again (p ∙ h) in (w.0, omega (arith, w.1), w.2, w.3)

@@ -14,9 +14,9 @@ use Rattle.model.specs.Monitor.{Monitor}
 use Rattle.model.specs.Trace.{Packet}
 use Rattle.model.specs.Size.{size}
 use Rattle.model.specs.Recording.{end_of}
-use Rattle.model.specs.Situation.{moveLimit, stepNumber, firstNumber}
+use Rattle.model.specs.Situation.{move_limit, step_number, first_number}
 use Rattle.model.specs.Layers.{count, is_empty, total, cost}
-use Rattle.model.specs.Validation.{verdict, preferred, costOf, last_of, passing_of, total_of, possibleAfter, pairsAt}
+use Rattle.model.specs.Validation.{verdict, preferred, cost_of, last_of, passing_of, total_of, possible_after, pairs_at}
 use Rattle.model.specs.declared.Readiness.TheVariants.{NotYet, NoMore}
 use Rattle.model.specs.declared.Verdict.TheVariants.{Accepted, Rejected, Exhausted}
 use Rattle.model.proofs.SetLaws.{FirstOf}
@@ -51,28 +51,28 @@ first-is test n r t f within before found = by (dec_lt r t) (dec_lt t r)
 module _ (m : Monitor) (recording : List Packet) where
   -- a situation is left after each of the instants 0 to t
   abbrev pub LeftUpTo : ℕ → Type 0
-  LeftUpTo t = (i : ℕ) → i ≤ t → 0 < count (possibleAfter m recording i)
+  LeftUpTo t = (i : ℕ) → i ≤ t → 0 < count (possible_after m recording i)
 
-  last-at : (t : ℕ) → t ≤ end_of recording → ((i : ℕ) → i < t → 0 < count (possibleAfter m recording i))
-      → (count (possibleAfter m recording t) ≡ 0) ⊎ (t ≡ end_of recording) → last_of m recording ≡ t
-  last-at t within left ended =
-      first-is (λ i. is_empty (possibleAfter m recording i)) (end_of recording) (last_of m recording) t
-      (last-first (size m) moveLimit (stepNumber m recording) (firstNumber m) (end_of recording))
+  last_at : (t : ℕ) → t ≤ end_of recording → ((i : ℕ) → i < t → 0 < count (possible_after m recording i))
+      → (count (possible_after m recording t) ≡ 0) ⊎ (t ≡ end_of recording) → last_of m recording ≡ t
+  last_at t within left ended =
+      first-is (λ i. is_empty (possible_after m recording i)) (end_of recording) (last_of m recording) t
+      (last-first (size m) move_limit (step_number m recording) (first_number m) (end_of recording))
       within
-      (λ i h. ne_eqb (count (possibleAfter m recording i)) 0 (λ e. let l = left i h in omega arith))
+      (λ i h. ne_eqb (count (possible_after m recording i)) 0 (λ e. let l = left i h in omega arith))
       (test ended)
     where
-      test : (count (possibleAfter m recording t) ≡ 0) ⊎ (t ≡ end_of recording)
-          → (is_empty (possibleAfter m recording t) ≡ true) ⊎ (t ≡ end_of recording)
-      test (inl e) = inl (eq-eqb (count (possibleAfter m recording t)) 0 e)
+      test : (count (possible_after m recording t) ≡ 0) ⊎ (t ≡ end_of recording)
+          → (is_empty (possible_after m recording t) ≡ true) ⊎ (t ≡ end_of recording)
+      test (inl e) = inl (eq-eqb (count (possible_after m recording t)) 0 e)
       test (inr e) = inr e
 
   past-last : (t : ℕ) → LeftUpTo t → t < end_of recording → t < last_of m recording
   past-last t left h = by (dec_lt t (last_of m recording))
     where
-      ended : (is_empty (possibleAfter m recording (last_of m recording)) ≡ true) ⊎ (last_of m recording ≡ 0 + end_of recording) → last_of m recording ≤ t → ⊥
+      ended : (is_empty (possible_after m recording (last_of m recording)) ≡ true) ⊎ (last_of m recording ≡ 0 + end_of recording) → last_of m recording ≤ t → ⊥
       ended (inl e) l =
-          let z = eqb-true (count (possibleAfter m recording (last_of m recording))) 0 e in
+          let z = eqb-true (count (possible_after m recording (last_of m recording))) 0 e in
           let p = left (last_of m recording) l in
           omega arith
       ended (inr e) l = omega arith
@@ -81,63 +81,63 @@ module _ (m : Monitor) (recording : List Packet) where
       by (yes a) = a
       by (no a) =
           absurd
-          (ended (last-first (size m) moveLimit (stepNumber m recording) (firstNumber m) (end_of recording)).found (omega arith))
+          (ended (last-first (size m) move_limit (step_number m recording) (first_number m) (end_of recording)).found (omega arith))
 
-  total-suc : (t : ℕ) → total_of m recording (suc t) ≡ total_of m recording t + count (possibleAfter m recording t)
+  total_suc : (t : ℕ) → total_of m recording (suc t) ≡ total_of m recording t + count (possible_after m recording t)
   unfolding total
-  total-suc t = refl
+  total_suc t = refl
 
-  total-grows : (d t : ℕ) → total_of m recording t ≤ total_of m recording (d + t)
-  total-grows zero t = subst (λ (n : ℕ). total_of m recording t ≤ total_of m recording n) (sym (zero-add t)) (le_refl (total_of m recording t))
-  total-grows (suc d) t =
-      let h = total-grows d t in
-      let e = total-suc (d + t) in
+  total_grows : (d t : ℕ) → total_of m recording t ≤ total_of m recording (d + t)
+  total_grows zero t = subst (λ (n : ℕ). total_of m recording t ≤ total_of m recording n) (sym (zero-add t)) (le_refl (total_of m recording t))
+  total_grows (suc d) t =
+      let h = total_grows d t in
+      let e = total_suc (d + t) in
       let s : suc (d + t) ≡ suc d + t = omega arith in
       subst (λ (n : ℕ). total_of m recording t ≤ total_of m recording n) s (omega arith)
 
-  total-le-later : (t u : ℕ) → t ≤ u → total_of m recording t ≤ total_of m recording u
-  total-le-later t u h =
-      subst (λ (n : ℕ). total_of m recording t ≤ total_of m recording n) (omega arith) (total-grows (u - t) t)
+  total_le_later : (t u : ℕ) → t ≤ u → total_of m recording t ≤ total_of m recording u
+  total_le_later t u h =
+      subst (λ (n : ℕ). total_of m recording t ≤ total_of m recording n) (omega arith) (total_grows (u - t) t)
 
   -- the budget is passed at instant t + 1
-  pub exhausted-at : (budget t : ℕ) → t < end_of recording → LeftUpTo t → total_of m recording t ≤ budget → budget < total_of m recording (suc t)
+  pub exhausted_at : (budget t : ℕ) → t < end_of recording → LeftUpTo t → total_of m recording t ≤ budget → budget < total_of m recording (suc t)
       → verdict m recording budget ≡ Exhausted budget (suc t)
   unfolding verdict cost
-  exhausted-at budget t h left fits past =
-      let over : ltb budget (costOf m recording) ≡ true =
-      lt-ltb budget (costOf m recording) (le_trans past (total-le-later (suc t) (last_of m recording) (past-last t left h)))
+  exhausted_at budget t h left fits past =
+      let over : ltb budget (cost_of m recording) ≡ true =
+      lt-ltb budget (cost_of m recording) (le_trans past (total_le_later (suc t) (last_of m recording) (past-last t left h)))
       in
       rw (over, verdict)
       (ap (λ (i : ℕ). Exhausted budget i)
       (first-is (λ i. ltb budget (total_of m recording i)) (last_of m recording) (passing_of m recording budget) (suc t)
-      (passing-first (size m) moveLimit (stepNumber m recording) (firstNumber m) (end_of recording) budget)
+      (passing-first (size m) move_limit (step_number m recording) (first_number m) (end_of recording) budget)
       (past-last t left h)
-      (λ i e. le-ltb budget (total_of m recording i) (le_trans (total-le-later i t (omega arith)) fits))
+      (λ i e. le-ltb budget (total_of m recording i) (le_trans (total_le_later i t (omega arith)) fits))
       (inl (lt-ltb budget (total_of m recording (suc t)) past))))
 
   -- no situation is left after instant t + 1
-  pub rejected-at : (budget t : ℕ) → t < end_of recording → LeftUpTo t → total_of m recording (suc t) ≤ budget → count (possibleAfter m recording (suc t)) ≡ 0
-      → verdict m recording budget ≡ Rejected (total_of m recording (suc t)) (suc t) (pairsAt m recording NotYet (suc t)) (pairsAt m recording NoMore (suc t))
+  pub rejected_at : (budget t : ℕ) → t < end_of recording → LeftUpTo t → total_of m recording (suc t) ≤ budget → count (possible_after m recording (suc t)) ≡ 0
+      → verdict m recording budget ≡ Rejected (total_of m recording (suc t)) (suc t) (pairs_at m recording NotYet (suc t)) (pairs_at m recording NoMore (suc t))
   unfolding verdict cost
-  rejected-at budget t h left fits none =
-      let last : last_of m recording ≡ suc t = last-at (suc t) h (λ i e. left i (omega arith)) (inl none) in
-      let whole : costOf m recording ≡ total_of m recording (suc t) = ap (total_of m recording) last in
-      let within : ltb budget (costOf m recording) ≡ false = le-ltb budget (costOf m recording) (omega arith) in
-      let empty : is_empty (possibleAfter m recording (last_of m recording)) ≡ true =
-      eq-eqb (count (possibleAfter m recording (last_of m recording))) 0 (ap (λ (i : ℕ). count (possibleAfter m recording i)) last ∙ none)
+  rejected_at budget t h left fits none =
+      let last : last_of m recording ≡ suc t = last_at (suc t) h (λ i e. left i (omega arith)) (inl none) in
+      let whole : cost_of m recording ≡ total_of m recording (suc t) = ap (total_of m recording) last in
+      let within : ltb budget (cost_of m recording) ≡ false = le-ltb budget (cost_of m recording) (omega arith) in
+      let empty : is_empty (possible_after m recording (last_of m recording)) ≡ true =
+      eq-eqb (count (possible_after m recording (last_of m recording))) 0 (ap (λ (i : ℕ). count (possible_after m recording i)) last ∙ none)
       in
       rw (within, empty, verdict)
-      (ap₂ (λ (c i : ℕ). Rejected c i (pairsAt m recording NotYet i) (pairsAt m recording NoMore i)) whole last)
+      (ap₂ (λ (c i : ℕ). Rejected c i (pairs_at m recording NotYet i) (pairs_at m recording NoMore i)) whole last)
 
   -- a situation is left after the last instant
-  pub accepted-at : (budget : ℕ) → LeftUpTo (end_of recording) → total_of m recording (end_of recording) ≤ budget
+  pub accepted_at : (budget : ℕ) → LeftUpTo (end_of recording) → total_of m recording (end_of recording) ≤ budget
       → verdict m recording budget ≡ Accepted (total_of m recording (end_of recording)) (length (preferred m recording))
   unfolding verdict cost
-  accepted-at budget left fits =
-      let last : last_of m recording ≡ end_of recording = last-at (end_of recording) (le_refl (end_of recording)) (λ i e. left i (omega arith)) (inr refl) in
-      let whole : costOf m recording ≡ total_of m recording (end_of recording) = ap (total_of m recording) last in
-      let within : ltb budget (costOf m recording) ≡ false = le-ltb budget (costOf m recording) (omega arith) in
-      let some : is_empty (possibleAfter m recording (last_of m recording)) ≡ false =
-      ne_eqb (count (possibleAfter m recording (last_of m recording))) 0 (λ e. let l = left (last_of m recording) (omega arith) in omega arith)
+  accepted_at budget left fits =
+      let last : last_of m recording ≡ end_of recording = last_at (end_of recording) (le_refl (end_of recording)) (λ i e. left i (omega arith)) (inr refl) in
+      let whole : cost_of m recording ≡ total_of m recording (end_of recording) = ap (total_of m recording) last in
+      let within : ltb budget (cost_of m recording) ≡ false = le-ltb budget (cost_of m recording) (omega arith) in
+      let some : is_empty (possible_after m recording (last_of m recording)) ≡ false =
+      ne_eqb (count (possible_after m recording (last_of m recording))) 0 (λ e. let l = left (last_of m recording) (omega arith) in omega arith)
       in
       rw (within, some, verdict) (ap (λ (c : ℕ). Accepted c (length (preferred m recording))) whole)

@@ -10,21 +10,21 @@ use mathlib.Core.Option.{Option, none, some}
 use lib.ListN.{get_or}
 use lib.Dec.{ltb}
 use borrow.Author.Tests.{lt-ltb, le-ltb}
-use Rattle.model.specs.Layers.{firstFrom, layer, into, leadsInto, leads, alive}
-use Rattle.model.proofs.SetLaws.{FirstOf, firstFrom-first, firstFrom-hit, firstFrom-miss, leadsInto-member, member-within}
-use Rattle.model.proofs.LayerLaws.{layer-suc}
-use Rattle.model.proofs.LeastLaws.{alive-suc, length-alive, leads-enters, leastInto, leastInto-leads}
+use Rattle.model.specs.Layers.{first_from, layer, into, leads_into, leads, alive}
+use Rattle.model.proofs.SetLaws.{FirstOf, first_from-first, first_from_hit, first_from_miss, leads_into_member, member_within}
+use Rattle.model.proofs.LayerLaws.{layer_suc}
+use Rattle.model.proofs.LeastLaws.{alive_suc, length-alive, leads_enters, least_into, least_into-leads}
 
 -- tests that agree have the same first
-pub firstFrom-same : (f g : ℕ → Bool) (n t : ℕ) → ((i : ℕ) → i < t + n → f i ≡ g i) → firstFrom f n t ≡ firstFrom g n t
-unfolding firstFrom
-firstFrom-same f g zero t same = refl
-firstFrom-same f g (suc n) t same =
-    by (f t) (g t) refl refl (same t (omega arith)) (firstFrom-same f g n (suc t) (λ i h. same i (omega arith)))
+pub first_from-same : (f g : ℕ → Bool) (n t : ℕ) → ((i : ℕ) → i < t + n → f i ≡ g i) → first_from f n t ≡ first_from g n t
+unfolding first_from
+first_from-same f g zero t same = refl
+first_from-same f g (suc n) t same =
+    by (f t) (g t) refl refl (same t (omega arith)) (first_from-same f g n (suc t) (λ i h. same i (omega arith)))
   where
-    by : (a b : Bool) → f t ≡ a → g t ≡ b → f t ≡ g t → firstFrom f n (suc t) ≡ firstFrom g n (suc t) → firstFrom f (suc n) t ≡ firstFrom g (suc n) t
-    by true true p q e later = firstFrom-hit f n t p ∙ sym (firstFrom-hit g n t q)
-    by false false p q e later = firstFrom-miss f n t p ∙ later ∙ sym (firstFrom-miss g n t q)
+    by : (a b : Bool) → f t ≡ a → g t ≡ b → f t ≡ g t → first_from f n (suc t) ≡ first_from g n (suc t) → first_from f (suc n) t ≡ first_from g (suc n) t
+    by true true p q e later = first_from_hit f n t p ∙ sym (first_from_hit g n t q)
+    by false false p q e later = first_from_miss f n t p ∙ later ∙ sym (first_from_miss g n t q)
     by true false p q e later = absurd (true≢false (sym p ∙ e ∙ q))
     by false true p q e later = absurd (true≢false (sym q ∙ sym e ∙ p))
 
@@ -35,7 +35,7 @@ module _ (N K : ℕ) (step : ℕ → ℕ → ℕ → Option ℕ) (first : ℕ) w
 
   -- a step from a possible situation arrives at a possible one, so only the end matters
   pub into-same : (left t n k : ℕ) (test : ℕ → Bool) → Pruned left (suc t) test → n < N → get_or (layer N K step first t) n false ≡ true → k < K
-      → into test (step (suc t) n k) ≡ leadsInto (alive N K step left (suc t)) (step (suc t) n k)
+      → into test (step (suc t) n k) ≡ leads_into (alive N K step left (suc t)) (step (suc t) n k)
   into-same left t n k test pruned inside here few = by (step (suc t) n k) refl
     where
       meet : (a b : Bool) → (b ≡ true → a ≡ true) → (a && b) ≡ b
@@ -45,50 +45,50 @@ module _ (N K : ℕ) (step : ℕ → ℕ → ℕ → Option ℕ) (first : ℕ) w
 
       arrive : (z : ℕ) → step (suc t) n k ≡ some z → get_or (alive N K step left (suc t)) z false ≡ true → get_or (layer N K step first (suc t)) z false ≡ true
       arrive z e h =
-          (layer-suc N K step first t z).1 (n, k, inside, here, few, e, subst (λ (l : ℕ). z < l) (length-alive N K step left (suc t)) (member-within (alive N K step left (suc t)) z h))
+          (layer_suc N K step first t z).1 (n, k, inside, here, few, e, subst (λ (l : ℕ). z < l) (length-alive N K step left (suc t)) (member_within (alive N K step left (suc t)) z h))
 
-      by : (o : Option ℕ) → step (suc t) n k ≡ o → into test o ≡ leadsInto (alive N K step left (suc t)) o
+      by : (o : Option ℕ) → step (suc t) n k ≡ o → into test o ≡ leads_into (alive N K step left (suc t)) o
       by none e = refl
       by (some z) e = pruned z ∙ meet (get_or (layer N K step first (suc t)) z false) (get_or (alive N K step left (suc t)) z false) (arrive z e)
 
   -- the least move into a pruned set is the least into the set from which the end can be reached
-  pub least-same : (left t n : ℕ) (test : ℕ → Bool) → Pruned left (suc t) test → n < N → get_or (layer N K step first t) n false ≡ true
-      → firstFrom (λ k. into test (step (suc t) n k)) K 0 ≡ leastInto N K step (alive N K step left (suc t)) t n
-  least-same left t n test pruned inside here =
-      firstFrom-same (λ k. into test (step (suc t) n k)) (λ k. leadsInto (alive N K step left (suc t)) (step (suc t) n k)) K 0
+  pub least_same : (left t n : ℕ) (test : ℕ → Bool) → Pruned left (suc t) test → n < N → get_or (layer N K step first t) n false ≡ true
+      → first_from (λ k. into test (step (suc t) n k)) K 0 ≡ least_into N K step (alive N K step left (suc t)) t n
+  least_same left t n test pruned inside here =
+      first_from-same (λ k. into test (step (suc t) n k)) (λ k. leads_into (alive N K step left (suc t)) (step (suc t) n k)) K 0
       (λ k h. into-same left t n k test pruned inside here (omega arith))
 
   -- a least move is found exactly where some move leads into the set
-  least-found : (s : List Bool) (t n : ℕ) → ltb (leastInto N K step s t n) K ≡ leads N K step s (suc t) n K
-  least-found s t n = by (leads N K step s (suc t) n K) refl
+  least_found : (s : List Bool) (t n : ℕ) → ltb (least_into N K step s t n) K ≡ leads N K step s (suc t) n K
+  least_found s t n = by (leads N K step s (suc t) n K) refl
     where
-      found : FirstOf (λ k. leadsInto s (step (suc t) n k)) K 0 (leastInto N K step s t n)
-      found = firstFrom-first (λ k. leadsInto s (step (suc t) n k)) K 0
+      found : FirstOf (λ k. leads_into s (step (suc t) n k)) K 0 (least_into N K step s t n)
+      found = first_from-first (λ k. leads_into s (step (suc t) n k)) K 0
 
-      no_less : leads N K step s (suc t) n K ≡ false → leastInto N K step s t n < K → ⊥
+      no_less : leads N K step s (suc t) n K ≡ false → least_into N K step s t n < K → ⊥
       no_less e h = ended found.found
         where
-          ended : (leadsInto s (step (suc t) n (leastInto N K step s t n)) ≡ true) ⊎ (leastInto N K step s t n ≡ 0 + K) → ⊥
+          ended : (leads_into s (step (suc t) n (least_into N K step s t n)) ≡ true) ⊎ (least_into N K step s t n ≡ 0 + K) → ⊥
           ended (inl p) =
-              let (x, q, r) = (leadsInto-member s (step (suc t) n (leastInto N K step s t n))).0 p in
-              true≢false (sym ((leads-enters N K step s (suc t) n K).1 (leastInto N K step s t n, x, h, q, r)) ∙ e)
+              let (x, q, r) = (leads_into_member s (step (suc t) n (least_into N K step s t n))).0 p in
+              true≢false (sym ((leads_enters N K step s (suc t) n K).1 (least_into N K step s t n, x, h, q, r)) ∙ e)
           ended (inr p) = omega arith
 
-      by : (b : Bool) → leads N K step s (suc t) n K ≡ b → ltb (leastInto N K step s t n) K ≡ leads N K step s (suc t) n K
+      by : (b : Bool) → leads N K step s (suc t) n K ≡ b → ltb (least_into N K step s t n) K ≡ leads N K step s (suc t) n K
       by true e =
-          let (j, x, few, q, r) = (leads-enters N K step s (suc t) n K).0 e in
-          let (y, le, p, z) = leastInto-leads N K step s t n j few ((leadsInto-member s (step (suc t) n j)).1 (x, q, r)) in
-          lt-ltb (leastInto N K step s t n) K (omega arith) ∙ sym e
-      by false e = not-less (dec_lt (leastInto N K step s t n) K) ∙ sym e
+          let (j, x, few, q, r) = (leads_enters N K step s (suc t) n K).0 e in
+          let (y, le, p, z) = least_into-leads N K step s t n j few ((leads_into_member s (step (suc t) n j)).1 (x, q, r)) in
+          lt-ltb (least_into N K step s t n) K (omega arith) ∙ sym e
+      by false e = not-less (dec_lt (least_into N K step s t n) K) ∙ sym e
         where
-          not-less : Dec (leastInto N K step s t n < K) → ltb (leastInto N K step s t n) K ≡ false
+          not-less : Dec (least_into N K step s t n < K) → ltb (least_into N K step s t n) K ≡ false
           not-less (yes h) = absurd (no_less e h)
-          not-less (no h) = le-ltb (leastInto N K step s t n) K (omega arith)
+          not-less (no h) = le-ltb (least_into N K step s t n) K (omega arith)
 
   -- such a move is there exactly where the end can be reached
-  pub least-alive : (left t n : ℕ) (test : ℕ → Bool) → Pruned left (suc t) test → n < N → get_or (layer N K step first t) n false ≡ true
-      → ltb (firstFrom (λ k. into test (step (suc t) n k)) K 0) K ≡ get_or (alive N K step (suc left) t) n false
-  least-alive left t n test pruned inside here =
-      ap (λ (k : ℕ). ltb k K) (least-same left t n test pruned inside here)
-      ∙ least-found (alive N K step left (suc t)) t n
-      ∙ sym (alive-suc N K step left t n inside)
+  pub least_alive : (left t n : ℕ) (test : ℕ → Bool) → Pruned left (suc t) test → n < N → get_or (layer N K step first t) n false ≡ true
+      → ltb (first_from (λ k. into test (step (suc t) n k)) K 0) K ≡ get_or (alive N K step (suc left) t) n false
+  least_alive left t n test pruned inside here =
+      ap (λ (k : ℕ). ltb k K) (least_same left t n test pruned inside here)
+      ∙ least_found (alive N K step left (suc t)) t n
+      ∙ sym (alive_suc N K step left t n inside)

@@ -5,72 +5,72 @@ use mathlib.Core.Path.{◌≡◌, refl, sym, ap, ◌∙◌}
 use mathlib.Core.List.{List, [], ◌∷◌}
 use lib.Dec.{leb}
 use borrow.Author.Tests.{le-leb}
-use Rattle.model.specs.Limits.{deviceLimit, sizeLimit}
+use Rattle.model.specs.Limits.{device_limit, size_limit}
 use Rattle.model.specs.First.{first_of}
-use Rattle.model.specs.Rule.{ruleOf}
+use Rattle.model.specs.Rule.{rule_of}
 use Rattle.model.specs.Monitor.{Monitor}
 use Rattle.model.specs.Size.{size}
-use Rattle.model.specs.Table.{monitorOf, monitorAt}
-use Rattle.model.specs.Recording.{recordingAnswer, packetsAt}
-use Rattle.model.specs.Ruled.{monitorUnder, ruleAnswer, ruledAnswer}
+use Rattle.model.specs.Table.{monitor_of, monitor_at}
+use Rattle.model.specs.Recording.{recording_answer, packets_at}
+use Rattle.model.specs.Ruled.{monitor_under, rule_answer, ruled_answer}
 use Rattle.model.specs.Witness.{rows_at}
-use Rattle.model.specs.Rules.{checked, checkAnswer, checkAnswerUnder}
+use Rattle.model.specs.Rules.{checked, check_answer, check_answer_under}
 use Rattle.model.specs.Without.{AsWithout}
 use Rattle.model.specs.declared.Reading.{Reading}
 use Rattle.model.specs.declared.Reading.TheVariants.{Sound, Unsound}
-use Rattle.model.proofs.TableForm.{table-small, plain_size}
-use Rattle.model.proofs.RecordingForm.{sound-table}
-use Rattle.model.proofs.DeviceFree.{withDevices, same_size, same-validation, same-scratch, same-room, same-checking}
+use Rattle.model.proofs.TableForm.{table_small, plain_size}
+use Rattle.model.proofs.RecordingForm.{sound_table}
+use Rattle.model.proofs.DeviceFree.{with_devices, same_size, same-validation, same-scratch, same-room, same-checking}
 
-module _ (d : ℕ) (few : d ≤ deviceLimit) (table : List ℕ) where
+module _ (d : ℕ) (few : d ≤ device_limit) (table : List ℕ) where
   abbrev m : Monitor
-  m = monitorAt table
+  m = monitor_at table
 
   -- the monitor differs from the table's own in the rule's device alone
-  same-monitor : monitorUnder (ruleOf d 1 1) table ≡ withDevices m.devices d m
-  unfolding monitorOf
-  same-monitor = refl
+  same_monitor : monitor_under (rule_of d 1 1) table ≡ with_devices m.devices d m
+  unfolding monitor_of
+  same_monitor = refl
 
   one : m.rule.window ≡ 1
-  unfolding monitorOf
+  unfolding monitor_of
   one = refl
 
   any : 1 ≤ m.rule.most
-  unfolding monitorOf
+  unfolding monitor_of
   any = omega arith
 
-  small : size (monitorUnder (ruleOf d 1 1) table) ≡ size m
-  small = ap size same-monitor ∙ same_size m.devices d m
+  small : size (monitor_under (rule_of d 1 1) table) ≡ size m
+  small = ap size same_monitor ∙ same_size m.devices d m
 
-  rule-passes : (recording : List ℕ) → recordingAnswer table recording ≡ Sound → ruleAnswer (monitorUnder (ruleOf d 1 1) table) ≡ Sound
-  unfolding ruleAnswer
-  rule-passes recording e =
-      let within : size (monitorUnder (ruleOf d 1 1) table) ≤ sizeLimit = omega (arith, small, plain_size table, table-small table (sound-table table recording e)) in
-      rw (le-leb d deviceLimit few, le-leb (size (monitorUnder (ruleOf d 1 1) table)) sizeLimit within)
+  rule_passes : (recording : List ℕ) → recording_answer table recording ≡ Sound → rule_answer (monitor_under (rule_of d 1 1) table) ≡ Sound
+  unfolding rule_answer
+  rule_passes recording e =
+      let within : size (monitor_under (rule_of d 1 1) table) ≤ size_limit = omega (arith, small, plain_size table, table_small table (sound_table table recording e)) in
+      rw (le-leb d device_limit few, le-leb (size (monitor_under (rule_of d 1 1) table)) size_limit within)
 
-  same_answer : (recording : List ℕ) → ruledAnswer (ruleOf d 1 1) table recording ≡ recordingAnswer table recording
-  unfolding ruledAnswer
-  same_answer recording = by (recordingAnswer table recording) refl
+  same_answer_lem : (recording : List ℕ) → ruled_answer (rule_of d 1 1) table recording ≡ recording_answer table recording
+  unfolding ruled_answer
+  same_answer_lem recording = by (recording_answer table recording) refl
     where
-      by : (x : Reading) → recordingAnswer table recording ≡ x → first_of (recordingAnswer table recording ∷ ruleAnswer (monitorUnder (ruleOf d 1 1) table) ∷ []) ≡ recordingAnswer table recording
-      by Sound e = rw (e, rule-passes recording e)
+      by : (x : Reading) → recording_answer table recording ≡ x → first_of (recording_answer table recording ∷ rule_answer (monitor_under (rule_of d 1 1) table) ∷ []) ≡ recording_answer table recording
+      by Sound e = rw (e, rule_passes recording e)
       by (Unsound r) e = rw e
 
-  pub as-without : AsWithout (ruleOf d 1 1) table
-  unfolding checkAnswer checkAnswerUnder
-  as-without =
+  pub as_without : AsWithout (rule_of d 1 1) table
+  unfolding check_answer check_answer_under
+  as_without =
       record {
         same_size = small;
-        verdict = λ edition recording budget scratchLength roomLength.
-            rw (same_answer recording, same-monitor)
-            (same-validation m.devices d m one any (recordingAnswer table recording) edition (packetsAt recording) budget scratchLength roomLength);
+        verdict = λ edition recording budget scratch_length room_length.
+            rw (same_answer_lem recording, same_monitor)
+            (same-validation m.devices d m one any (recording_answer table recording) edition (packets_at recording) budget scratch_length room_length);
         scratch = λ edition recording budget scratch room.
-            rw (same_answer recording, same-monitor)
-            (same-scratch m.devices d m one any (recordingAnswer table recording) edition (packetsAt recording) budget scratch room);
+            rw (same_answer_lem recording, same_monitor)
+            (same-scratch m.devices d m one any (recording_answer table recording) edition (packets_at recording) budget scratch room);
         room = λ edition recording budget scratch room.
-            rw (same_answer recording, same-monitor)
-            (same-room m.devices d m one any (recordingAnswer table recording) edition (packetsAt recording) budget scratch room);
+            rw (same_answer_lem recording, same_monitor)
+            (same-room m.devices d m one any (recording_answer table recording) edition (packets_at recording) budget scratch room);
         checking = λ edition recording witness.
-            rw (same_answer recording, same-monitor)
-            (ap (λ (x : Reading). checked x (rows_at edition witness)) (same-checking m.devices d m one any (recordingAnswer table recording) edition recording witness));
+            rw (same_answer_lem recording, same_monitor)
+            (ap (λ (x : Reading). checked x (rows_at edition witness)) (same-checking m.devices d m one any (recording_answer table recording) edition recording witness));
       }

@@ -6,142 +6,142 @@ use mathlib.Core.List.{List, [], ◌∷◌, ◌++◌, append_assoc, append-nil}
 use mathlib.Core.Option.{Option, none, some}
 use lib.ListN.{length, get_or, get_elem?, length-append}
 use borrow.Author.Tests.{le-leb, eq-eqb}
-use Rattle.model.specs.Limits.{witnessPlaces}
+use Rattle.model.specs.Limits.{witness_places}
 use Rattle.model.specs.Bytes.{byte_at, word_at, word_bytes, tab, joined}
-use Rattle.model.specs.Edition.{size_width, size_at, versionOf, countPlace, versionPlace, rowsPlace, mostRows}
-use Rattle.model.specs.Frame.{framed, rowsSize, framedRows, rowsFrame}
-use Rattle.model.specs.Witness.{Row, misformed, Formed, witnessCountAt, rowPlace, rowAt, rows_at, badRow, witnessFrame, witnessAnswer, SoundForm, witnessParts, rowBytes, rowsBytes, witnessBytes, row_in, rowsIn}
+use Rattle.model.specs.Edition.{size_width, size_at, version_of, count_place, version_place, rows_place, most_rows}
+use Rattle.model.specs.Frame.{framed, rows_size, framed_rows, rows_frame}
+use Rattle.model.specs.Witness.{Row, misformed, Formed, witness_count_at, row_place, row_at, rows_at, bad_row, witness_frame, witness_answer, SoundForm, witness_parts, row_bytes, rows_bytes, witness_bytes, row_in, rows_in}
 use Rattle.model.specs.Same.{SameWitness, WitnessZero}
 use Rattle.model.specs.declared.Edition.{Edition}
 use Rattle.model.specs.declared.WitnessParts.{WitnessParts}
 use Rattle.model.specs.declared.Reading.{Reading}
 use Rattle.model.specs.declared.Reading.TheVariants.{Sound}
 use Rattle.model.specs.declared.Refusal.TheVariants.{WitnessFrame, WitnessVersion, WitnessCount}
-use Rattle.model.proofs.Basics.{length-tab, getElem-getD}
-use Rattle.model.proofs.Tests.{test, then-sound, FramedRows, rows-facts}
-use Rattle.model.proofs.Places.{AllBytes, Stands, stands-nil, stands-cons, stands-left, stands-right, stands-append, stands-moved, stands_self, stands-whole, word-at, word_back, getD-column, getD-column-past, stands-joined, joined-stands, length-joined, tab-same, tab-getD}
-use Rattle.model.proofs.EditionLaws.{size-at, size_back, rows-sizeable, frame-length, stands-headed, headed-size, headed-version, headed-count, headed-rows}
+use Rattle.model.proofs.Basics.{length-tab, get_elem_get_or}
+use Rattle.model.proofs.Tests.{test, then_sound, FramedRows, rows_facts}
+use Rattle.model.proofs.Places.{AllBytes, Stands, stands_nil, stands_cons, stands-left, stands-right, stands-append, stands-moved, stands_self, stands-whole, word_at_lem, word_back, get_or_column, get_or_column_past, stands-joined, joined-stands, length-joined, tab-same, tab-get_or}
+use Rattle.model.proofs.EditionLaws.{size_at_lem, size_back, rows_sizeable, frame_length, stands_headed, headed_size, headed_version, headed_count, headed_rows}
 
 -- all that a witness in form ensures of its bytes
 pub record WitnessFacts (edition : Edition) (b : List ℕ) : Type 0 where
-  pub rows : FramedRows edition b 5 (mostRows edition)
+  pub rows : FramedRows edition b 5 (most_rows edition)
   pub formed : Formed edition (rows_at edition b)
 
-pub witness-facts : (edition : Edition) (b : List ℕ) → SoundForm edition b → WitnessFacts edition b
-unfolding witnessAnswer witnessFrame
-witness-facts edition b e =
-    let l : List Reading = witnessFrame edition b ∷ badRow (misformed edition none 0 (rows_at edition b)) ∷ [] in
+pub witness_facts : (edition : Edition) (b : List ℕ) → SoundForm edition b → WitnessFacts edition b
+unfolding witness_answer witness_frame
+witness_facts edition b e =
+    let l : List Reading = witness_frame edition b ∷ bad_row (misformed edition none 0 (rows_at edition b)) ∷ [] in
     record {
-      rows = rows-facts edition b 5 (mostRows edition) WitnessFrame (WitnessVersion (versionPlace edition)) (WitnessCount (countPlace edition)) (test l e 0);
+      rows = rows_facts edition b 5 (most_rows edition) WitnessFrame (WitnessVersion (version_place edition)) (WitnessCount (count_place edition)) (test l e 0);
       formed = good (misformed edition none 0 (rows_at edition b)) (test l e 1);
     }
   where
-    good : (x : Option ℕ) → badRow x ≡ Sound → x ≡ none
+    good : (x : Option ℕ) → bad_row x ≡ Sound → x ≡ none
     good none h = refl
     good (some i) h = cc
 
 -- the bytes of rows, one behind the other
 
-pub rowsBytes-append : (a b : List Row) → rowsBytes (a ++ b) ≡ rowsBytes a ++ rowsBytes b
-unfolding rowsBytes
-rowsBytes-append [] b = refl
-rowsBytes-append (r ∷ a) b = ap (λ (t : List ℕ). rowBytes r ++ t) (rowsBytes-append a b) ∙ sym (append_assoc (rowBytes r) (rowsBytes a) (rowsBytes b))
+pub rows_bytes-append : (a b : List Row) → rows_bytes (a ++ b) ≡ rows_bytes a ++ rows_bytes b
+unfolding rows_bytes
+rows_bytes-append [] b = refl
+rows_bytes-append (r ∷ a) b = ap (λ (t : List ℕ). row_bytes r ++ t) (rows_bytes-append a b) ∙ sym (append_assoc (row_bytes r) (rows_bytes a) (rows_bytes b))
 
-pub rowsBytes-snoc : (l : List Row) (r : Row) → rowsBytes (l ++ (r ∷ [])) ≡ rowsBytes l ++ rowBytes r
-unfolding rowsBytes
-rowsBytes-snoc l r = rowsBytes-append l (r ∷ []) ∙ ap (λ (t : List ℕ). rowsBytes l ++ t) (append-nil (rowBytes r))
+pub rows_bytes_snoc : (l : List Row) (r : Row) → rows_bytes (l ++ (r ∷ [])) ≡ rows_bytes l ++ row_bytes r
+unfolding rows_bytes
+rows_bytes_snoc l r = rows_bytes-append l (r ∷ []) ∙ ap (λ (t : List ℕ). rows_bytes l ++ t) (append-nil (row_bytes r))
 
-rowsBytes-tab : (f : ℕ → Row) (n : ℕ) → rowsBytes (tab f n) ≡ joined (λ i. rowBytes (f i)) n
-unfolding tab joined rowsBytes
-rowsBytes-tab f zero = refl
-rowsBytes-tab f (suc n) = rowsBytes-snoc (tab f n) (f n) ∙ ap (λ (t : List ℕ). t ++ rowBytes (f n)) (rowsBytes-tab f n)
+rows_bytes-tab : (f : ℕ → Row) (n : ℕ) → rows_bytes (tab f n) ≡ joined (λ i. row_bytes (f i)) n
+unfolding tab joined rows_bytes
+rows_bytes-tab f zero = refl
+rows_bytes-tab f (suc n) = rows_bytes_snoc (tab f n) (f n) ∙ ap (λ (t : List ℕ). t ++ row_bytes (f n)) (rows_bytes-tab f n)
 
-rows-length : (f : ℕ → Row) (n : ℕ) → length (joined (λ i. rowBytes (f i)) n) ≡ 5 * n
-rows-length f n = length-joined (λ i. rowBytes (f i)) 5 n (λ i h. refl)
+rows-length : (f : ℕ → Row) (n : ℕ) → length (joined (λ i. row_bytes (f i)) n) ≡ 5 * n
+rows-length f n = length-joined (λ i. row_bytes (f i)) 5 n (λ i h. refl)
 
-witness-tab : (edition : Edition) (f : ℕ → Row) (n : ℕ) → witnessBytes edition (tab f n) ≡ rowsFrame edition 5 n ++ joined (λ i. rowBytes (f i)) n
-unfolding witnessBytes
-witness-tab edition f n = ap₂ (λ (k : ℕ) (t : List ℕ). rowsFrame edition 5 k ++ t) (length-tab f n) (rowsBytes-tab f n)
+witness_tab : (edition : Edition) (f : ℕ → Row) (n : ℕ) → witness_bytes edition (tab f n) ≡ rows_frame edition 5 n ++ joined (λ i. row_bytes (f i)) n
+unfolding witness_bytes
+witness_tab edition f n = ap₂ (λ (k : ℕ) (t : List ℕ). rows_frame edition 5 k ++ t) (length-tab f n) (rows_bytes-tab f n)
 
-pub rowsBytes-length : (l : List Row) → length (rowsBytes l) ≡ 5 * length l
-unfolding rowsBytes
-rowsBytes-length [] = refl
-rowsBytes-length (r ∷ l) = let again : length (rowsBytes l) ≡ 5 * length l = rowsBytes-length l in omega arith
+pub rows_bytes-length : (l : List Row) → length (rows_bytes l) ≡ 5 * length l
+unfolding rows_bytes
+rows_bytes-length [] = refl
+rows_bytes-length (r ∷ l) = let again : length (rows_bytes l) ≡ 5 * length l = rows_bytes-length l in omega arith
 
-pub witness-length : (edition : Edition) (l : List Row) → length (witnessBytes edition l) ≡ rowsPlace edition + 5 * length l
-unfolding witnessBytes
-witness-length edition l =
-    length-append (rowsFrame edition 5 (length l)) (rowsBytes l) ∙ ap₂ (λ (x y : ℕ). x + y) (frame-length edition 5 (length l)) (rowsBytes-length l)
+pub witness_length : (edition : Edition) (l : List Row) → length (witness_bytes edition l) ≡ rows_place edition + 5 * length l
+unfolding witness_bytes
+witness_length edition l =
+    length-append (rows_frame edition 5 (length l)) (rows_bytes l) ∙ ap₂ (λ (x y : ℕ). x + y) (frame_length edition 5 (length l)) (rows_bytes-length l)
 
 -- from bytes to rows and back
 
 stands-row :
     (b : List ℕ) (at : ℕ) (r : Row) → byte_at b at ≡ r.mark → Stands b (at + 1) (word_bytes r.time) → byte_at b (at + 3) ≡ r.kind
-    → byte_at b (at + 4) ≡ r.transition → Stands b at (rowBytes r)
+    → byte_at b (at + 4) ≡ r.transition → Stands b at (row_bytes r)
 stands-row b at r p s q t =
     stands-append b at ((r.mark ∷ []) ++ word_bytes r.time) (r.kind ∷ r.transition ∷ [])
-    (stands-cons b at r.mark (word_bytes r.time) p s)
-    (stands-cons b (at + 3) r.kind (r.transition ∷ []) q (stands-cons b (at + 3 + 1) r.transition [] (ap (λ (k : ℕ). get_or b k 0) (omega arith) ∙ t) (stands-nil b (at + 3 + 1 + 1))))
+    (stands_cons b at r.mark (word_bytes r.time) p s)
+    (stands_cons b (at + 3) r.kind (r.transition ∷ []) q (stands_cons b (at + 3 + 1) r.transition [] (ap (λ (k : ℕ). get_or b k 0) (omega arith) ∙ t) (stands_nil b (at + 3 + 1 + 1))))
 
-row-stands : (edition : Edition) (b : List ℕ) (i : ℕ) → AllBytes b → Stands b (rowPlace edition i) (rowBytes (rowAt edition b i))
-unfolding rowAt
+row-stands : (edition : Edition) (b : List ℕ) (i : ℕ) → AllBytes b → Stands b (row_place edition i) (row_bytes (row_at edition b i))
+unfolding row_at
 row-stands edition b i all =
-    stands-row b (rowPlace edition i) (rowAt edition b i) refl (word-at b (rowPlace edition i + 1) (word_at b (rowPlace edition i + 1)) all refl) refl refl
+    stands-row b (row_place edition i) (row_at edition b i) refl (word_at_lem b (row_place edition i + 1) (word_at b (row_place edition i + 1)) all refl) refl refl
 
 -- written again, the rows of sound bytes are those bytes
-pub witness-again : (edition : Edition) (b : List ℕ) → AllBytes b → SoundForm edition b → witnessBytes edition (rows_at edition b) ≡ b
-witness-again edition b all e =
-    let rows = (witness-facts edition b e).rows in
-    let n : ℕ = witnessCountAt edition b in
-    let bytes : List ℕ = joined (λ i. rowBytes (rowAt edition b i)) n in
-    let head : length (rowsFrame edition 5 n) ≡ rowsPlace edition = frame-length edition 5 n in
-    witness-tab edition (rowAt edition b) n
-    ∙ stands-whole b (rowsFrame edition 5 n ++ bytes)
-    (length-append (rowsFrame edition 5 n) bytes ∙ omega (arith, rows-length (rowAt edition b) n, rows.sized, rows.head.framed))
-    (stands-headed b edition (rowsSize edition 5 n) n bytes (size-at edition b 0 (rowsSize edition 5 n) all rows.sized) rows.version
-    (size-at edition b (countPlace edition) n all refl)
-    (stands-joined (λ i. rowBytes (rowAt edition b i)) b (rowsPlace edition) n
-    (λ i h. stands-moved b (rowPlace edition i) (rowsPlace edition + length (joined (λ i. rowBytes (rowAt edition b i)) i)) (rowBytes (rowAt edition b i)) (omega (arith, rows-length (rowAt edition b) i))
+pub witness_again : (edition : Edition) (b : List ℕ) → AllBytes b → SoundForm edition b → witness_bytes edition (rows_at edition b) ≡ b
+witness_again edition b all e =
+    let rows = (witness_facts edition b e).rows in
+    let n : ℕ = witness_count_at edition b in
+    let bytes : List ℕ = joined (λ i. row_bytes (row_at edition b i)) n in
+    let head : length (rows_frame edition 5 n) ≡ rows_place edition = frame_length edition 5 n in
+    witness_tab edition (row_at edition b) n
+    ∙ stands-whole b (rows_frame edition 5 n ++ bytes)
+    (length-append (rows_frame edition 5 n) bytes ∙ omega (arith, rows-length (row_at edition b) n, rows.sized, rows.head.framed))
+    (stands_headed b edition (rows_size edition 5 n) n bytes (size_at_lem edition b 0 (rows_size edition 5 n) all rows.sized) rows.version
+    (size_at_lem edition b (count_place edition) n all refl)
+    (stands-joined (λ i. row_bytes (row_at edition b i)) b (rows_place edition) n
+    (λ i h. stands-moved b (row_place edition i) (rows_place edition + length (joined (λ i. row_bytes (row_at edition b i)) i)) (row_bytes (row_at edition b i)) (omega (arith, rows-length (row_at edition b) i))
     (row-stands edition b i all))))
 
-column : (edition : Edition) (b : List ℕ) (i : ℕ) → i < witnessCountAt edition b → row_in (witnessParts edition b) i ≡ rowAt edition b i
-unfolding witnessParts row_in rowAt
+column : (edition : Edition) (b : List ℕ) (i : ℕ) → i < witness_count_at edition b → row_in (witness_parts edition b) i ≡ row_at edition b i
+unfolding witness_parts row_in row_at
 column edition b i h j =
     record {
-      mark = getD-column witnessPlaces (λ i. (rowAt edition b i).mark) (witnessCountAt edition b) i h j;
-      time = getD-column witnessPlaces (λ i. (rowAt edition b i).time) (witnessCountAt edition b) i h j;
-      kind = getD-column witnessPlaces (λ i. (rowAt edition b i).kind) (witnessCountAt edition b) i h j;
-      transition = getD-column witnessPlaces (λ i. (rowAt edition b i).transition) (witnessCountAt edition b) i h j;
+      mark = get_or_column witness_places (λ i. (row_at edition b i).mark) (witness_count_at edition b) i h j;
+      time = get_or_column witness_places (λ i. (row_at edition b i).time) (witness_count_at edition b) i h j;
+      kind = get_or_column witness_places (λ i. (row_at edition b i).kind) (witness_count_at edition b) i h j;
+      transition = get_or_column witness_places (λ i. (row_at edition b i).transition) (witness_count_at edition b) i h j;
     }
 
-pub witness-rows : (edition : Edition) (b : List ℕ) → rowsIn (witnessParts edition b) ≡ rows_at edition b
-unfolding witnessParts
-witness-rows edition b = tab-same (row_in (witnessParts edition b)) (rowAt edition b) (witnessCountAt edition b) (column edition b)
+pub witness_rows : (edition : Edition) (b : List ℕ) → rows_in (witness_parts edition b) ≡ rows_at edition b
+unfolding witness_parts
+witness_rows edition b = tab-same (row_in (witness_parts edition b)) (row_at edition b) (witness_count_at edition b) (column edition b)
 
 -- the bytes of rows, read
-module _ (edition : Edition) (f : ℕ → Row) (n : ℕ) (few : n ≤ mostRows edition) (times : (i : ℕ) → i < n → (f i).time < 65536) where
+module _ (edition : Edition) (f : ℕ → Row) (n : ℕ) (few : n ≤ most_rows edition) (times : (i : ℕ) → i < n → (f i).time < 65536) where
   abbrev bytes : List ℕ
-  bytes = witnessBytes edition (tab f n)
+  bytes = witness_bytes edition (tab f n)
 
-  written : Stands bytes 0 (rowsFrame edition 5 n ++ joined (λ i. rowBytes (f i)) n)
-  written = subst (λ (l : List ℕ). Stands bytes 0 l) (witness-tab edition f n) (stands_self bytes)
+  written : Stands bytes 0 (rows_frame edition 5 n ++ joined (λ i. row_bytes (f i)) n)
+  written = subst (λ (l : List ℕ). Stands bytes 0 l) (witness_tab edition f n) (stands_self bytes)
 
-  pub written_count : witnessCountAt edition bytes ≡ n
+  pub written_count : witness_count_at edition bytes ≡ n
   written_count =
-      size_back edition bytes (countPlace edition) n (rows-sizeable edition n few).0
-      (headed-count bytes edition (rowsSize edition 5 n) n (joined (λ i. rowBytes (f i)) n) written)
+      size_back edition bytes (count_place edition) n (rows_sizeable edition n few).0
+      (headed_count bytes edition (rows_size edition 5 n) n (joined (λ i. row_bytes (f i)) n) written)
 
-  written-bytes : (i : ℕ) → i < n → Stands bytes (rowPlace edition i) (rowBytes (f i))
+  written-bytes : (i : ℕ) → i < n → Stands bytes (row_place edition i) (row_bytes (f i))
   written-bytes i h =
-      let e : rowsPlace edition + length (joined (λ i. rowBytes (f i)) i) ≡ rowPlace edition i = omega (arith, rows-length f i) in
-      stands-moved bytes (rowsPlace edition + length (joined (λ i. rowBytes (f i)) i)) (rowPlace edition i) (rowBytes (f i)) e
-      (joined-stands (λ i. rowBytes (f i)) bytes (rowsPlace edition) n i h (headed-rows bytes edition (rowsSize edition 5 n) n (joined (λ i. rowBytes (f i)) n) written))
+      let e : rows_place edition + length (joined (λ i. row_bytes (f i)) i) ≡ row_place edition i = omega (arith, rows-length f i) in
+      stands-moved bytes (rows_place edition + length (joined (λ i. row_bytes (f i)) i)) (row_place edition i) (row_bytes (f i)) e
+      (joined-stands (λ i. row_bytes (f i)) bytes (rows_place edition) n i h (headed_rows bytes edition (rows_size edition 5 n) n (joined (λ i. row_bytes (f i)) n) written))
 
-  pub written_row : (i : ℕ) → i < n → rowAt edition bytes i ≡ f i
-  unfolding rowAt
+  pub written_row : (i : ℕ) → i < n → row_at edition bytes i ≡ f i
+  unfolding row_at
   written_row i h =
-      let at : ℕ = rowPlace edition i in
-      let s : Stands bytes at (rowBytes (f i)) = written-bytes i h in
+      let at : ℕ = row_place edition i in
+      let s : Stands bytes at (row_bytes (f i)) = written-bytes i h in
       let mark : byte_at bytes at ≡ (f i).mark = ap (λ (k : ℕ). get_or bytes k 0) (omega arith) ∙ s 0 (omega arith) in
       let time : word_at bytes (at + 1) ≡ (f i).time =
       word_back bytes (at + 1) (f i).time (times i h)
@@ -153,53 +153,53 @@ module _ (edition : Edition) (f : ℕ → Row) (n : ℕ) (few : n ≤ mostRows e
       λ j. record { mark = mark j; time = time j; kind = kind j; transition = transition j }
 
   pub written-rows : rows_at edition bytes ≡ tab f n
-  written-rows = ap (λ (k : ℕ). tab (rowAt edition bytes) k) written_count ∙ tab-same (rowAt edition bytes) f n written_row
+  written-rows = ap (λ (k : ℕ). tab (row_at edition bytes) k) written_count ∙ tab-same (row_at edition bytes) f n written_row
 
   -- what is written is framed as it should be, so its rows alone decide
-  written-frame : witnessFrame edition bytes ≡ Sound
-  unfolding witnessFrame framedRows framed
-  written-frame =
-      let size : size_at edition bytes 0 ≡ rowsSize edition 5 n =
-      size_back edition bytes 0 (rowsSize edition 5 n) (rows-sizeable edition n few).1 (headed-size bytes edition (rowsSize edition 5 n) n (joined (λ i. rowBytes (f i)) n) written)
+  written_frame : witness_frame edition bytes ≡ Sound
+  unfolding witness_frame framed_rows framed
+  written_frame =
+      let size : size_at edition bytes 0 ≡ rows_size edition 5 n =
+      size_back edition bytes 0 (rows_size edition 5 n) (rows_sizeable edition n few).1 (headed_size bytes edition (rows_size edition 5 n) n (joined (λ i. row_bytes (f i)) n) written)
       in
-      let version : byte_at bytes (versionPlace edition) ≡ versionOf edition =
-      headed-version bytes edition (rowsSize edition 5 n) n (joined (λ i. rowBytes (f i)) n) written
+      let version : byte_at bytes (version_place edition) ≡ version_of edition =
+      headed_version bytes edition (rows_size edition 5 n) n (joined (λ i. row_bytes (f i)) n) written
       in
-      let long : length bytes ≡ rowsPlace edition + 5 * n = witness-length edition (tab f n) ∙ ap (λ (k : ℕ). rowsPlace edition + 5 * k) (length-tab f n) in
+      let long : length bytes ≡ rows_place edition + 5 * n = witness_length edition (tab f n) ∙ ap (λ (k : ℕ). rows_place edition + 5 * k) (length-tab f n) in
       rw (
         size,
         version,
         written_count,
-        le-leb (rowsPlace edition) (length bytes) (omega arith),
-        eq-eqb (rowsSize edition 5 n + size_width edition) (length bytes) (omega arith),
-        le-leb (versionOf edition) (versionOf edition) (omega arith),
-        le-leb n (mostRows edition) few,
-        eq-eqb (rowsSize edition 5 n) (rowsSize edition 5 n) refl,
+        le-leb (rows_place edition) (length bytes) (omega arith),
+        eq-eqb (rows_size edition 5 n + size_width edition) (length bytes) (omega arith),
+        le-leb (version_of edition) (version_of edition) (omega arith),
+        le-leb n (most_rows edition) few,
+        eq-eqb (rows_size edition 5 n) (rows_size edition 5 n) refl,
       )
 
-  pub written-answer : witnessAnswer edition bytes ≡ badRow (misformed edition none 0 (tab f n))
-  unfolding witnessAnswer
-  written-answer = rw (written-frame, written-rows) (then-sound (badRow (misformed edition none 0 (tab f n))))
+  pub written-answer : witness_answer edition bytes ≡ bad_row (misformed edition none 0 (tab f n))
+  unfolding witness_answer
+  written-answer = rw (written_frame, written-rows) (then_sound (bad_row (misformed edition none 0 (tab f n))))
 
-pub witness-back :
-    (edition : Edition) (rows : List Row) → length rows ≤ mostRows edition → ((i : ℕ) (r : Row) → get_elem? rows i ≡ some r → r.time < 65536)
-    → rows_at edition (witnessBytes edition rows) ≡ rows
-witness-back edition rows few times =
-    subst (λ (l : List Row). rows_at edition (witnessBytes edition l) ≡ l) (tab-getD blank rows)
-    (written-rows edition (λ i. get_or rows i blank) (length rows) few (λ i h. times i (get_or rows i blank) (getElem-getD rows i blank h)))
+pub witness_back_lem :
+    (edition : Edition) (rows : List Row) → length rows ≤ most_rows edition → ((i : ℕ) (r : Row) → get_elem? rows i ≡ some r → r.time < 65536)
+    → rows_at edition (witness_bytes edition rows) ≡ rows
+witness_back_lem edition rows few times =
+    subst (λ (l : List Row). rows_at edition (witness_bytes edition l) ≡ l) (tab-get_or blank rows)
+    (written-rows edition (λ i. get_or rows i blank) (length rows) few (λ i h. times i (get_or rows i blank) (get_elem_get_or rows i blank h)))
   where
     blank : Row
     blank = record { mark = 0; time = 0; kind = 0; transition = 0 }
 
 -- what is read of written parts is the same
-pub witness-parts-back :
-    (edition : Edition) (w : WitnessParts) → w.count ≤ mostRows edition → ((i : ℕ) → i < w.count → byte_at w.times i < 65536)
-    → SameWitness (witnessParts edition (witnessBytes edition (rowsIn w))) w
-unfolding row_in witnessParts
-witness-parts-back edition w few times =
-    let b : List ℕ = witnessBytes edition (rowsIn w) in
-    let n : witnessCountAt edition b ≡ w.count = written_count edition (row_in w) w.count few times in
-    let row : (i : ℕ) → i < w.count → row_in (witnessParts edition b) i ≡ row_in w i =
+pub witness_parts_back :
+    (edition : Edition) (w : WitnessParts) → w.count ≤ most_rows edition → ((i : ℕ) → i < w.count → byte_at w.times i < 65536)
+    → SameWitness (witness_parts edition (witness_bytes edition (rows_in w))) w
+unfolding row_in witness_parts
+witness_parts_back edition w few times =
+    let b : List ℕ = witness_bytes edition (rows_in w) in
+    let n : witness_count_at edition b ≡ w.count = written_count edition (row_in w) w.count few times in
+    let row : (i : ℕ) → i < w.count → row_in (witness_parts edition b) i ≡ row_in w i =
     λ i h. column edition b i (rw n h) ∙ written_row edition (row_in w) w.count few times i h
     in
     record {
@@ -210,12 +210,12 @@ witness-parts-back edition w few times =
       transitions = λ i h. ap (λ (r : Row). r.transition) (row i h);
     }
 
-pub witness-zero : (edition : Edition) (b : List ℕ) → WitnessZero (witnessParts edition b)
-unfolding witnessParts
-witness-zero edition b =
+pub witness_zero : (edition : Edition) (b : List ℕ) → WitnessZero (witness_parts edition b)
+unfolding witness_parts
+witness_zero edition b =
     record {
-      marks = getD-column-past witnessPlaces (λ i. (rowAt edition b i).mark) (witnessCountAt edition b);
-      times = getD-column-past witnessPlaces (λ i. (rowAt edition b i).time) (witnessCountAt edition b);
-      kinds = getD-column-past witnessPlaces (λ i. (rowAt edition b i).kind) (witnessCountAt edition b);
-      transitions = getD-column-past witnessPlaces (λ i. (rowAt edition b i).transition) (witnessCountAt edition b);
+      marks = get_or_column_past witness_places (λ i. (row_at edition b i).mark) (witness_count_at edition b);
+      times = get_or_column_past witness_places (λ i. (row_at edition b i).time) (witness_count_at edition b);
+      kinds = get_or_column_past witness_places (λ i. (row_at edition b i).kind) (witness_count_at edition b);
+      transitions = get_or_column_past witness_places (λ i. (row_at edition b i).transition) (witness_count_at edition b);
     }

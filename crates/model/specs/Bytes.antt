@@ -15,15 +15,15 @@ word_bytes n = n / 256 % 256 ∷ n % 256 ∷ []
 
 -- four-byte numbers
 
-abbrev pub longAt : List ℕ → ℕ → ℕ
-longAt b i = 65536 * word_at b i + word_at b (i + 2)
+abbrev pub long_at : List ℕ → ℕ → ℕ
+long_at b i = 65536 * word_at b i + word_at b (i + 2)
 
-abbrev pub longBytes : ℕ → List ℕ
-longBytes n = n / 16777216 % 256 ∷ n / 65536 % 256 ∷ word_bytes n
+abbrev pub long_bytes : ℕ → List ℕ
+long_bytes n = n / 16777216 % 256 ∷ n / 65536 % 256 ∷ word_bytes n
 
 -- "Bit 0 of a mask is number 0"
-abbrev pub hasBit : ℕ → ℕ → Bool
-hasBit mask i = eqb (mask / 2 ^ i % 2) 1
+abbrev pub has_bit : ℕ → ℕ → Bool
+has_bit mask i = eqb (mask / 2 ^ i % 2) 1
 
 module _ {A : Type 0} where
   -- f 0, f 1, .. f (n - 1)

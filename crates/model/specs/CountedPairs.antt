@@ -6,21 +6,21 @@ use Rattle.std.proofs.Math.ListN.{get_elem?}
 use Rattle.model.specs.Readiness.{GuardAnswers}
 use Rattle.model.specs.Monitor.{Monitor, Transition}
 use Rattle.model.specs.Trace.{Packet}
-use Rattle.model.specs.Situation.{TwoClocks, capped, situationOf, recordedAt}
-use Rattle.model.specs.Validation.{possibleAfter}
+use Rattle.model.specs.Situation.{TwoClocks, capped, situation_of, recorded_at}
+use Rattle.model.specs.Validation.{possible_after}
 use Rattle.model.specs.declared.Readiness.{Readiness}
 
 -- "the situations just before the moves of the rejected instant with the air free, and the transitions of the recorded kind from their state": situation n,
 -- transition j, and its guard answers a. A clock that the situation writes as M + 1 reads anything above M: the answer is asked of all clocks that it writes so
 pub record Pair (m : Monitor) (recording : List Packet) (instant : ℕ) (a : Readiness) (n j : ℕ) : Type 0 where
-  pub possible : get_or (possibleAfter m recording (instant - 1)) n false ≡ true
-  pub free : (situationOf m n).air ≡ 0
+  pub possible : get_or (possible_after m recording (instant - 1)) n false ≡ true
+  pub free : (situation_of m n).air ≡ 0
   pub transition : Transition
   pub listed : get_elem? m.transitions j ≡ some transition
-  pub kind : recordedAt recording instant ≡ some transition.trigger
-  pub from : transition.source ≡ (situationOf m n).state
-  pub answers : (clocks : List ℕ) → TwoClocks clocks → capped m clocks ≡ (situationOf m n).clocks
-      → GuardAnswers transition.guard (situationOf m n).variables clocks a
+  pub kind : recorded_at recording instant ≡ some transition.trigger
+  pub from : transition.source ≡ (situation_of m n).state
+  pub answers : (clocks : List ℕ) → TwoClocks clocks → capped m clocks ≡ (situation_of m n).clocks
+      → GuardAnswers transition.guard (situation_of m n).variables clocks a
 
 -- no pair stands in a list twice
 abbrev pub OnceEach : List (ℕ × ℕ) → Type 0

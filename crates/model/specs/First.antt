@@ -18,6 +18,6 @@ abbrev pub first_of : List Reading → Reading
 first_of [] = Sound
 first_of (x ∷ xs) = and_then x (first_of xs)
 
-abbrev pub isSound : Reading → Bool
-isSound Sound = true
-isSound (Unsound r) = false
+abbrev pub is_sound : Reading → Bool
+is_sound Sound = true
+is_sound (Unsound r) = false

@@ -1,6 +1,6 @@
 -- Guards (Definition 2): true; clock at most T; clock at least T; variable; not; and.
 use Rattle.std.specs.Prelude.{ℕ, zero, suc, ◌+◌, max, List, [], ◌∷◌, ◌++◌, Bool, true, false, cond, not, ◌&&◌, get_or, leb, ltb, eqb}
-use Rattle.model.specs.Bytes.{byte_at, hasBit}
+use Rattle.model.specs.Bytes.{byte_at, has_bit}
 
 pub data Guard : Type 0 where
   always : Guard
@@ -14,7 +14,7 @@ unfoldable pub holds : Guard → ℕ → List ℕ → Bool
 holds always v c = true
 holds (at_most i t) v c = leb (get_or c i 0) t
 holds (at_least i t) v c = leb t (get_or c i 0)
-holds (variable x) v c = hasBit v x
+holds (variable x) v c = has_bit v x
 holds (negation g) v c = not (holds g v c)
 holds (conjunction g h) v c = holds g v c && holds h v c
 
@@ -28,26 +28,26 @@ largest i (negation g) = largest i g
 largest i (conjunction g h) = max (largest i g) (largest i h)
 
 -- "A guard is in prefix form": 0 true; 1 c T at most; 2 c T at least; 3 x variable; 4 g not; 5 g h and
-unfoldable pub guardBytes : Guard → List ℕ
-guardBytes always = 0 ∷ []
-guardBytes (at_most c t) = 1 ∷ c ∷ t ∷ []
-guardBytes (at_least c t) = 2 ∷ c ∷ t ∷ []
-guardBytes (variable x) = 3 ∷ x ∷ []
-guardBytes (negation g) = 4 ∷ guardBytes g
-guardBytes (conjunction g h) = 5 ∷ guardBytes g ++ guardBytes h
+unfoldable pub guard_bytes : Guard → List ℕ
+guard_bytes always = 0 ∷ []
+guard_bytes (at_most c t) = 1 ∷ c ∷ t ∷ []
+guard_bytes (at_least c t) = 2 ∷ c ∷ t ∷ []
+guard_bytes (variable x) = 3 ∷ x ∷ []
+guard_bytes (negation g) = 4 ∷ guard_bytes g
+guard_bytes (conjunction g h) = 5 ∷ guard_bytes g ++ guard_bytes h
 
 -- what reading a guard finds: none, or a guard and the offset behind it
 pub data GuardRead : Type 0 where
   malformed : GuardRead
   up_to : Guard → ℕ → GuardRead
 
-abbrev pub thenRead : GuardRead → (Guard → ℕ → GuardRead) → GuardRead
-thenRead malformed next = malformed
-thenRead (up_to g k) next = next g k
+abbrev pub then_read : GuardRead → (Guard → ℕ → GuardRead) → GuardRead
+then_read malformed next = malformed
+then_read (up_to g k) next = next g k
 
 -- the forms without a guard inside, by code: the bytes are there, and so is the clock or variable
-unfoldable pub leafAt : (variables clocks : ℕ) → List ℕ → (at end : ℕ) → GuardRead
-leafAt vs cs b at end =
+unfoldable pub leaf_at : (variables clocks : ℕ) → List ℕ → (at end : ℕ) → GuardRead
+leaf_at vs cs b at end =
     cond (eqb (byte_at b at) 0) (up_to always (at + 1))
     (cond (eqb (byte_at b at) 1) (cond (leb (at + 3) end) (cond (ltb (byte_at b (at + 1)) cs) (up_to (at_most (byte_at b (at + 1)) (byte_at b (at + 2))) (at + 3)) malformed) malformed)
     (cond (eqb (byte_at b at) 2) (cond (leb (at + 3) end) (cond (ltb (byte_at b (at + 1)) cs) (up_to (at_least (byte_at b (at + 1)) (byte_at b (at + 2))) (at + 3)) malformed) malformed)
@@ -55,18 +55,18 @@ leafAt vs cs b at end =
     malformed)))
 
 -- the guard that starts at an offset, none of it at or behind end. Read recursively: at most fuel deep, and a guard is never deeper than it is long
-unfoldable pub guardAt : (fuel variables clocks : ℕ) → List ℕ → (at end : ℕ) → GuardRead
-guardAt zero vs cs b at end = malformed
-guardAt (suc fuel) vs cs b at end =
+unfoldable pub guard_at : (fuel variables clocks : ℕ) → List ℕ → (at end : ℕ) → GuardRead
+guard_at zero vs cs b at end = malformed
+guard_at (suc fuel) vs cs b at end =
     elim (ltb at end) [
       | false ↦ malformed
       | true ↦
           elim (eqb (byte_at b at) 4) [
-            | true ↦ thenRead (guardAt fuel vs cs b (at + 1) end) (λ g k. up_to (negation g) k)
+            | true ↦ then_read (guard_at fuel vs cs b (at + 1) end) (λ g k. up_to (negation g) k)
             | false ↦
                 elim (eqb (byte_at b at) 5) [
-                  | true ↦ thenRead (guardAt fuel vs cs b (at + 1) end) (λ g k. thenRead (guardAt fuel vs cs b k end) (λ h j. up_to (conjunction g h) j))
-                  | false ↦ leafAt vs cs b at end
+                  | true ↦ then_read (guard_at fuel vs cs b (at + 1) end) (λ g k. then_read (guard_at fuel vs cs b k end) (λ h j. up_to (conjunction g h) j))
+                  | false ↦ leaf_at vs cs b at end
                 ]
           ]
     ]

@@ -21,13 +21,13 @@ abbrev pub into : (ℕ → Bool) → Option ℕ → Bool
 into test none = false
 into test (some n) = test n
 
-abbrev pub leadsInto : List Bool → Option ℕ → Bool
-leadsInto s o = into (λ n. get_or s n false) o
+abbrev pub leads_into : List Bool → Option ℕ → Bool
+leads_into s o = into (λ n. get_or s n false) o
 
 -- the first of t, t + 1, .. (n of them) at which a test passes; t + n if none
-unfoldable pub firstFrom : (ℕ → Bool) → ℕ → ℕ → ℕ
-firstFrom test zero t = t
-firstFrom test (suc n) t = elim (test t) [ true ↦ t | false ↦ firstFrom test n (suc t) ]
+unfoldable pub first_from : (ℕ → Bool) → ℕ → ℕ → ℕ
+first_from test zero t = t
+first_from test (suc n) t = elim (test t) [ true ↦ t | false ↦ first_from test n (suc t) ]
 
 module _ (N K : ℕ) (step : ℕ → ℕ → ℕ → Option ℕ) where
   -- a set with what the first k moves give from situation n at instant t
@@ -52,21 +52,21 @@ module _ (N K : ℕ) (step : ℕ → ℕ → ℕ → Option ℕ) where
   total first (suc t) = total first t + count (layer first t)
 
   -- the last instant that counts: T, "or [..] the first instant after whose moves no situation is left"
-  unfoldable pub lastInstant : (first T : ℕ) → ℕ
-  lastInstant first T = firstFrom (λ t. is_empty (layer first t)) T 0
+  unfoldable pub last_instant : (first T : ℕ) → ℕ
+  last_instant first T = first_from (λ t. is_empty (layer first t)) T 0
 
   -- "The cost is the sum of works from instant 1 to T, or to the first instant after whose moves no situation is left"
   unfoldable pub cost : (first T : ℕ) → ℕ
-  cost first T = total first (lastInstant first T)
+  cost first T = total first (last_instant first T)
 
   -- "first instant whose running total passes it", of those that count
   unfoldable pub passing : (first T budget : ℕ) → ℕ
-  passing first T budget = firstFrom (λ t. ltb budget (total first t)) (lastInstant first T) 0
+  passing first T budget = first_from (λ t. ltb budget (total first t)) (last_instant first T) 0
 
   -- one of the first k moves leads at instant t from n into s
   unfoldable pub leads : List Bool → (t n k : ℕ) → Bool
   leads s t n zero = false
-  leads s t n (suc k) = leads s t n k || leadsInto s (step t n k)
+  leads s t n (suc k) = leads s t n k || leads_into s (step t n k)
 
   -- the situations from which the end can be reached, after instant t, after t + 1, .. with left instants to go at the first
   unfoldable pub live : (left t : ℕ) → List (List Bool)
@@ -89,7 +89,7 @@ module _ (N K : ℕ) (step : ℕ → ℕ → ℕ → Option ℕ) where
   unfoldable pub walk : List (List Bool) → (t n : ℕ) → List ℕ
   walk [] t n = []
   walk (s ∷ ss) t n =
-      let k : ℕ = firstFrom (λ k. leadsInto s (step (suc t) n k)) K 0 in
+      let k : ℕ = first_from (λ k. leads_into s (step (suc t) n k)) K 0 in
       k ∷ walk ss (suc t) (arrived (step (suc t) n k))
 
   abbrev pub later : List (List Bool) → List (List Bool)
@@ -97,9 +97,9 @@ module _ (N K : ℕ) (step : ℕ → ℕ → ℕ → Option ℕ) where
   later (s ∷ ss) = ss
 
   -- the least moves from n after instant t, with left instants to go
-  abbrev pub leastFrom : (left t n : ℕ) → List ℕ
-  leastFrom left t n = walk (later (live left t)) t n
+  abbrev pub least_from : (left t n : ℕ) → List ℕ
+  least_from left t n = walk (later (live left t)) t n
 
   -- the least list of T moves that can be carried from the first situation to the end
-  unfoldable pub leastMoves : (first T : ℕ) → List ℕ
-  leastMoves first T = leastFrom T 0 first
+  unfoldable pub least_moves : (first T : ℕ) → List ℕ
+  least_moves first T = least_from T 0 first

@@ -44,8 +44,8 @@ under rule m =
       rule = rule;
     }
 
-abbrev pub toUnit : Monitor → ℕ → Bool
-toUnit m k = get_or m.inbound k false
+abbrev pub to_unit : Monitor → ℕ → Bool
+to_unit m k = get_or m.inbound k false
 
 abbrev pub airtime : Monitor → ℕ → ℕ
 airtime m k = get_or m.airtimes k 0
@@ -55,8 +55,8 @@ abbrev pub device : Monitor → ℕ → ℕ
 device m k = get_or m.devices k 0
 
 -- an added row of kind k is a guess: it is from the rule's device
-abbrev pub isGuess : Monitor → ℕ → Bool
-isGuess m k = eqb (device m k) m.rule.device
+abbrev pub is_guess : Monitor → ℕ → Bool
+is_guess m k = eqb (device m k) m.rule.device
 
 -- "It starts in state 0, variables false, clocks 0 at tick 0." The format has two places for clocks; an absent one is never read
 abbrev pub start : Config
@@ -94,8 +94,8 @@ fires m j k c = bind (get_elem? m.transitions j) (λ t. cond (enabled t k c) (so
 
 -- "only moves that keep it are moves" (R-7): behind rows whose guesses are those of a mask, a row that is a guess or not; o is where it leads, none if the rule
 -- forbids it
-unfoldable pub withinRule : Monitor → (window : ℕ) → (guess : Bool) → Option Config → Option Config
-withinRule m window guess o = cond (allows m.rule window guess) o none
+unfoldable pub within_rule : Monitor → (window : ℕ) → (guess : Bool) → Option Config → Option Config
+within_rule m window guess o = cond (allows m.rule window guess) o none
 
 -- what transition number j answers to a packet of kind k: its guard's answer, none if there is no such transition or it is of another kind or from another state
 unfoldable pub tried : Monitor → ℕ → ℕ → Config → Option Readiness

@@ -21,74 +21,74 @@ pub record Values : Type 0 where
 abbrev pub values : ℕ → ℕ → ℕ → Values
 values a b c = record { number = a; second = b; third = c }
 
-abbrev pub refusalValues : Refusal → Values
-refusalValues TableFrame = values 10 0 0
-refusalValues TableVersion = values 11 2 0
-refusalValues (TableCount offset) = values 12 offset 0
-refusalValues (TableLength offset) = values 13 offset 0
-refusalValues (TableField offset) = values 14 offset 0
-refusalValues (TableGuard offset) = values 15 offset 0
-refusalValues TableSize = values 16 0 0
-refusalValues (TableState state) = values 17 state 0
-refusalValues RecordingFrame = values 20 0 0
-refusalValues RecordingVersion = values 21 2 0
-refusalValues RecordingCount = values 22 3 0
-refusalValues (RecordingRange row) = values 23 row 0
-refusalValues (RecordingOrder row) = values 24 row 0
-refusalValues RuleRange = values 25 0 0
-refusalValues RuleSize = values 26 0 0
-refusalValues (Scratch wanted) = values 30 wanted 0
-refusalValues (WitnessRoom wanted) = values 31 wanted 0
-refusalValues (WriteRoom wanted) = values 33 wanted 0
-refusalValues WitnessFrame = values 40 0 0
-refusalValues (WitnessVersion offset) = values 41 offset 0
-refusalValues (WitnessCount offset) = values 42 offset 0
-refusalValues (WitnessRow row) = values 43 row 0
+abbrev pub refusal_values : Refusal → Values
+refusal_values TableFrame = values 10 0 0
+refusal_values TableVersion = values 11 2 0
+refusal_values (TableCount offset) = values 12 offset 0
+refusal_values (TableLength offset) = values 13 offset 0
+refusal_values (TableField offset) = values 14 offset 0
+refusal_values (TableGuard offset) = values 15 offset 0
+refusal_values TableSize = values 16 0 0
+refusal_values (TableState state) = values 17 state 0
+refusal_values RecordingFrame = values 20 0 0
+refusal_values RecordingVersion = values 21 2 0
+refusal_values RecordingCount = values 22 3 0
+refusal_values (RecordingRange row) = values 23 row 0
+refusal_values (RecordingOrder row) = values 24 row 0
+refusal_values RuleRange = values 25 0 0
+refusal_values RuleSize = values 26 0 0
+refusal_values (Scratch wanted) = values 30 wanted 0
+refusal_values (WitnessRoom wanted) = values 31 wanted 0
+refusal_values (WriteRoom wanted) = values 33 wanted 0
+refusal_values WitnessFrame = values 40 0 0
+refusal_values (WitnessVersion offset) = values 41 offset 0
+refusal_values (WitnessCount offset) = values 42 offset 0
+refusal_values (WitnessRow row) = values 43 row 0
 
 -- "Reading sound bytes gives 0, 0 and 0"
-abbrev pub readingValues : Reading → Values
-readingValues Sound = values 0 0 0
-readingValues (Unsound r) = refusalValues r
+abbrev pub reading_values : Reading → Values
+reading_values Sound = values 0 0 0
+reading_values (Unsound r) = refusal_values r
 
 -- "else 0 with the bytes written and 0"
-abbrev pub writingValues : Writing → Values
-writingValues (Written bytes) = values 0 bytes 0
-writingValues (Unwritten r) = refusalValues r
+abbrev pub writing_values : Writing → Values
+writing_values (Written bytes) = values 0 bytes 0
+writing_values (Unwritten r) = refusal_values r
 
 -- "0 with the number of removed and added rows, and the number of rows"
-abbrev pub checkingValues : Checking → Values
-checkingValues (Permitted changed rows) = values 0 changed rows
-checkingValues (Unchecked r) = refusalValues r
+abbrev pub checking_values : Checking → Values
+checking_values (Permitted changed rows) = values 0 changed rows
+checking_values (Unchecked r) = refusal_values r
 
-abbrev pub verdictValues : Verdict → Values
-verdictValues (Accepted cost rows) = values 0 cost rows
-verdictValues (Rejected cost instant notYet no_more) = values 1 cost instant
-verdictValues (Exhausted budget instant) = values 2 budget instant
-verdictValues (Refused r) = refusalValues r
+abbrev pub verdict_values : Verdict → Values
+verdict_values (Accepted cost rows) = values 0 cost rows
+verdict_values (Rejected cost instant not_yet no_more) = values 1 cost instant
+verdict_values (Exhausted budget instant) = values 2 budget instant
+verdict_values (Refused r) = refusal_values r
 
 -- under a rule: "answer 1 is called 'rejected as unlikely'" (R-7)
-abbrev pub ruledValues : RuledVerdict → Values
-ruledValues (Ruling.Accepted cost rows) = values 0 cost rows
-ruledValues (Ruling.Unlikely cost instant notYet no_more) = values 1 cost instant
-ruledValues (Ruling.Exhausted budget instant) = values 2 budget instant
-ruledValues (Ruling.Refused r) = refusalValues r
+abbrev pub ruled_values : RuledVerdict → Values
+ruled_values (Ruling.Accepted cost rows) = values 0 cost rows
+ruled_values (Ruling.Unlikely cost instant not_yet no_more) = values 1 cost instant
+ruled_values (Ruling.Exhausted budget instant) = values 2 budget instant
+ruled_values (Ruling.Refused r) = refusal_values r
 
 -- "A rejection gains two counts" (R-10); any other answer has 0 and 0
 pub record Counts : Type 0 where
-  pub notYet : ℕ
+  pub not_yet : ℕ
   pub no_more : ℕ
 
 abbrev pub counts : ℕ → ℕ → Counts
-counts a b = record { notYet = a; no_more = b }
+counts a b = record { not_yet = a; no_more = b }
 
-abbrev pub verdictCounts : Verdict → Counts
-verdictCounts (Accepted cost rows) = counts 0 0
-verdictCounts (Rejected cost instant notYet no_more) = counts notYet no_more
-verdictCounts (Exhausted budget instant) = counts 0 0
-verdictCounts (Refused r) = counts 0 0
+abbrev pub verdict_counts : Verdict → Counts
+verdict_counts (Accepted cost rows) = counts 0 0
+verdict_counts (Rejected cost instant not_yet no_more) = counts not_yet no_more
+verdict_counts (Exhausted budget instant) = counts 0 0
+verdict_counts (Refused r) = counts 0 0
 
-abbrev pub ruledCounts : RuledVerdict → Counts
-ruledCounts (Ruling.Accepted cost rows) = counts 0 0
-ruledCounts (Ruling.Unlikely cost instant notYet no_more) = counts notYet no_more
-ruledCounts (Ruling.Exhausted budget instant) = counts 0 0
-ruledCounts (Ruling.Refused r) = counts 0 0
+abbrev pub ruled_counts : RuledVerdict → Counts
+ruled_counts (Ruling.Accepted cost rows) = counts 0 0
+ruled_counts (Ruling.Unlikely cost instant not_yet no_more) = counts not_yet no_more
+ruled_counts (Ruling.Exhausted budget instant) = counts 0 0
+ruled_counts (Ruling.Refused r) = counts 0 0

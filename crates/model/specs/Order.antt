@@ -9,9 +9,9 @@ use Rattle.model.specs.Rules.{Permits}
 use Rattle.model.specs.declared.Edition.{Edition}
 
 -- the rows of one instant
-unfoldable pub rowsOn : ℕ → List Row → List Row
-rowsOn t [] = []
-rowsOn t (r ∷ rs) = cond (eqb r.time t) (r ∷ rowsOn t rs) (rowsOn t rs)
+unfoldable pub rows_on : ℕ → List Row → List Row
+rows_on t [] = []
+rows_on t (r ∷ rs) = cond (eqb r.time t) (r ∷ rows_on t rs) (rows_on t rs)
 
 -- what a witness does at an instant: keeps by a transition, adds nothing (a recorded row is removed), adds by a transition
 pub data Choice : Type 0 where
@@ -38,8 +38,8 @@ Sooner (adding i) (adding j) = i < j
 -- "At the earliest instant where two witnesses differ"
 pub record Before (w v : List Row) : Type 0 where
   pub instant : ℕ
-  pub alike : (t : ℕ) → t < instant → rowsOn t w ≡ rowsOn t v
-  pub sooner : Sooner (choice (rowsOn instant w)) (choice (rowsOn instant v))
+  pub alike : (t : ℕ) → t < instant → rows_on t w ≡ rows_on t v
+  pub sooner : Sooner (choice (rows_on instant w)) (choice (rows_on instant v))
 
 -- "with no row after T"
 abbrev pub EndsBy : ℕ → List Row → Type 0

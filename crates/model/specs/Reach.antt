@@ -36,17 +36,17 @@ targets [] from = []
 targets (t ∷ ts) from = cond (among t.source from) (t.target ∷ targets ts from) (targets ts from)
 
 -- the states that n steps or fewer lead to
-unfoldable pub reachedIn : ℕ → List Transition → List ℕ
-reachedIn zero ts = 0 ∷ []
-reachedIn (suc n) ts = 0 ∷ targets ts (reachedIn n ts)
+unfoldable pub reached_in : ℕ → List Transition → List ℕ
+reached_in zero ts = 0 ∷ []
+reached_in (suc n) ts = 0 ∷ targets ts (reached_in n ts)
 
 -- no state needs more steps than there are transitions
 unfoldable pub is_reached : Monitor → ℕ → Bool
-is_reached m s = among s (reachedIn (length m.transitions) m.transitions)
+is_reached m s = among s (reached_in (length m.transitions) m.transitions)
 
 -- 17 with the lowest state that is not found, of so many
-unfoldable pub lowestMissing : (ℕ → Bool) → ℕ → Reading
-lowestMissing found states = first_of (tab (λ s. unless (found s) (TableState s)) states)
+unfoldable pub lowest_missing : (ℕ → Bool) → ℕ → Reading
+lowest_missing found states = first_of (tab (λ s. unless (found s) (TableState s)) states)
 
-unfoldable pub statesAnswer : Monitor → Reading
-statesAnswer m = lowestMissing (is_reached m) m.states
+unfoldable pub states_answer : Monitor → Reading
+states_answer m = lowest_missing (is_reached m) m.states

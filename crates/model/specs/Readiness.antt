@@ -17,18 +17,18 @@ GuardAnswers g v c NoMore = (holds g v c ≡ false) × ((d : ℕ) → 1 ≤ d �
 -- the same as a function: one tick past the largest T no comparison changes any more, so the waits up to there decide (`answers`, in `proofs/ReadinessLaws`)
 
 -- the largest T in a guard
-unfoldable pub greatestBound : Guard → ℕ
-greatestBound always = 0
-greatestBound (at_most c t) = t
-greatestBound (at_least c t) = t
-greatestBound (variable x) = 0
-greatestBound (negation g) = greatestBound g
-greatestBound (conjunction g h) = max (greatestBound g) (greatestBound h)
+unfoldable pub greatest_bound : Guard → ℕ
+greatest_bound always = 0
+greatest_bound (at_most c t) = t
+greatest_bound (at_least c t) = t
+greatest_bound (variable x) = 0
+greatest_bound (negation g) = greatest_bound g
+greatest_bound (conjunction g h) = max (greatest_bound g) (greatest_bound h)
 
 -- one of the waits 1 to n makes it hold
-unfoldable pub comesBy : ℕ → Guard → ℕ → List ℕ → Bool
-comesBy zero g v c = false
-comesBy (suc n) g v c = comesBy n g v c || holds g v (waited (suc n) c)
+unfoldable pub comes_by : ℕ → Guard → ℕ → List ℕ → Bool
+comes_by zero g v c = false
+comes_by (suc n) g v c = comes_by n g v c || holds g v (waited (suc n) c)
 
 unfoldable pub readiness : Guard → (variables : ℕ) → (clocks : List ℕ) → Readiness
-readiness g v c = cond (holds g v c) Yes (cond (comesBy (suc (greatestBound g)) g v c) NotYet NoMore)
+readiness g v c = cond (holds g v c) Yes (cond (comes_by (suc (greatest_bound g)) g v c) NotYet NoMore)

@@ -4,12 +4,12 @@ use Rattle.model.specs.Layers.{count}
 pub use Rattle.model.specs.declared.Rule.{Rule}
 
 -- "for a device d, in any l consecutive kept or added rows at most k"
-abbrev pub ruleOf : (device window most : ℕ) → Rule
-ruleOf device window most = record { device = device; window = window; most = most }
+abbrev pub rule_of : (device window most : ℕ) → Rule
+rule_of device window most = record { device = device; window = window; most = most }
 
 -- the rule that forbids nothing: each window is one row, and that may be a guess
-abbrev pub noRule : Rule
-noRule = ruleOf 0 1 1
+abbrev pub no_rule : Rule
+no_rule = rule_of 0 1 1
 
 -- "in any l consecutive kept or added rows at most k are added rows from d; a trace shorter than l is one window". The list tells of each kept or added row, in
 -- their order, whether it is a guess
@@ -27,14 +27,14 @@ abbrev pub masks : Rule → ℕ
 masks rule = 2 ^ (rule.window - 1)
 
 -- the mask once one more row is kept or added
-unfoldable pub windowBehind : Rule → (window : ℕ) → (guess : Bool) → ℕ
-windowBehind rule window guess = (as_bit guess + 2 * window) % masks rule
+unfoldable pub window_behind : Rule → (window : ℕ) → (guess : Bool) → ℕ
+window_behind rule window guess = (as_bit guess + 2 * window) % masks rule
 
 -- how many of the lowest n bits are set
-unfoldable pub setBits : ℕ → ℕ → ℕ
-setBits zero window = 0
-setBits (suc n) window = window % 2 + setBits n (window / 2)
+unfoldable pub set_bits : ℕ → ℕ → ℕ
+set_bits zero window = 0
+set_bits (suc n) window = window % 2 + set_bits n (window / 2)
 
 -- of a row and the l-1 rows before it at most k are guesses
 unfoldable pub allows : Rule → (window : ℕ) → (guess : Bool) → Bool
-allows rule window guess = leb (as_bit guess + setBits (rule.window - 1) window) rule.most
+allows rule window guess = leb (as_bit guess + set_bits (rule.window - 1) window) rule.most

@@ -1,7 +1,7 @@
 -- Demand 2: "What we write reads back to the same parts". "Parts are what the counts and guard lengths cover: whatever place there is beyond them is 0 after reading,
 -- ignored in writing, and not compared in demand 2."
 use Rattle.std.specs.Prelude.{ℕ, ◌+◌, ◌*◌, ◌<◌, ◌≤◌, ◌≡◌, List}
-use Rattle.model.specs.Limits.{guardLimit}
+use Rattle.model.specs.Limits.{guard_limit}
 use Rattle.model.specs.Bytes.{byte_at}
 use Rattle.model.specs.declared.TableParts.{TableParts}
 use Rattle.model.specs.declared.RecordingParts.{RecordingParts}
@@ -33,7 +33,7 @@ pub record SameTable (t u : TableParts) : Type 0 where
   pub clears : Agree u.transitions t.clears u.clears
   pub resets : Agree u.transitions t.resets u.resets
   pub lengths : Agree u.transitions t.lengths u.lengths
-  pub guards : (j : ℕ) → j < u.transitions → (i : ℕ) → i < byte_at u.lengths j → byte_at t.guards (guardLimit * j + i) ≡ byte_at u.guards (guardLimit * j + i)
+  pub guards : (j : ℕ) → j < u.transitions → (i : ℕ) → i < byte_at u.lengths j → byte_at t.guards (guard_limit * j + i) ≡ byte_at u.guards (guard_limit * j + i)
 
 -- a table's parts are 0 beyond its counts and guard lengths
 pub record TableZero (t : TableParts) : Type 0 where
@@ -47,8 +47,8 @@ pub record TableZero (t : TableParts) : Type 0 where
   pub clears : Zero t.transitions t.clears
   pub resets : Zero t.transitions t.resets
   pub lengths : Zero t.transitions t.lengths
-  pub guards : (j : ℕ) → j < t.transitions → (i : ℕ) → byte_at t.lengths j ≤ i → i < guardLimit → byte_at t.guards (guardLimit * j + i) ≡ 0
-  pub no-guards : Zero (guardLimit * t.transitions) t.guards
+  pub guards : (j : ℕ) → j < t.transitions → (i : ℕ) → byte_at t.lengths j ≤ i → i < guard_limit → byte_at t.guards (guard_limit * j + i) ≡ 0
+  pub no_guards : Zero (guard_limit * t.transitions) t.guards
 
 pub record SameRecording (r s : RecordingParts) : Type 0 where
   pub count : r.count ≡ s.count

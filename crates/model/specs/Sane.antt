@@ -2,7 +2,7 @@
 use Rattle.std.specs.Prelude.{ℕ, ◌<◌, ◌≤◌, ◌≡◌, List, length}
 use Rattle.std.proofs.Math.Option.{some}
 use Rattle.std.proofs.Math.ListN.{get_elem?}
-use Rattle.model.specs.Limits.{clockLimit, transitionLimit, rowLimit, timeLimit}
+use Rattle.model.specs.Limits.{clock_limit, transition_limit, row_limit, time_limit}
 use Rattle.model.specs.Guard.{Guard, always, at_most, at_least, variable, negation, conjunction}
 use Rattle.model.specs.Monitor.{Monitor, Transition}
 use Rattle.model.specs.Trace.{Packet, PacketTrace}
@@ -24,12 +24,12 @@ pub record SaneTransition (m : Monitor) (t : Transition) : Type 0 where
 
 pub record Sane (m : Monitor) : Type 0 where
   pub states : 0 < m.states
-  pub clocks : m.clocks ≤ clockLimit
-  pub few : length m.transitions ≤ transitionLimit
+  pub clocks : m.clocks ≤ clock_limit
+  pub few : length m.transitions ≤ transition_limit
   pub transition : (j : ℕ) (t : Transition) → get_elem? m.transitions j ≡ some t → SaneTransition m t
   pub window : 1 ≤ m.rule.window
 
 pub record SaneRecording (m : Monitor) (recording : List Packet) : Type 0 where
   pub trace : PacketTrace m recording
-  pub few : length recording ≤ rowLimit
-  pub last : end_of recording ≤ timeLimit
+  pub few : length recording ≤ row_limit
+  pub last : end_of recording ≤ time_limit

@@ -3,7 +3,7 @@ use Rattle.std.specs.Prelude.{ℕ, ◌-◌, ◌≤◌, ◌<◌, ◌≡◌, ◌�
 use mathlib.Core.List.{List, [], ◌∷◌, Memᴰ}
 use Rattle.std.proofs.Math.Option.{some}
 use Rattle.model.specs.Rule.{KeepsRule}
-use Rattle.model.specs.Monitor.{Monitor, Config, start, wait, fires, toUnit, airtime, isGuess}
+use Rattle.model.specs.Monitor.{Monitor, Config, start, wait, fires, to_unit, airtime, is_guess}
 
 pub record Packet : Type 0 where
   pub time : ℕ
@@ -31,7 +31,7 @@ Satisfies m tr = Carries m 0 start tr
 
 -- Definition 4: for all (t, p) ∈ Tr \ Tr', p.dest = the unit
 abbrev pub Mutation : Monitor → List Packet → List Packet → Type 0
-Mutation m recording tr = (p : Packet) → Memᴰ p recording → (Memᴰ p tr → ⊥) → toUnit m p.kind ≡ true
+Mutation m recording tr = (p : Packet) → Memᴰ p recording → (Memᴰ p tr → ⊥) → to_unit m p.kind ≡ true
 
 -- "The sniffer heard a removed packet, so the channel was taken": the entries of the recording and of the trace together are those of one packet trace. "Two
 -- entries of the same time and kind are the same entry"
@@ -49,16 +49,16 @@ pub record Possible (m : Monitor) (recording : List Packet) : Type 0 where
   pub satisfied : Satisfies m trace
 
 -- "Two entries of the same time and kind are the same entry"
-unfoldable pub isRecorded : List Packet → Packet → Bool
-isRecorded [] p = false
-isRecorded (q ∷ qs) p = (eqb q.time p.time && eqb q.kind p.kind) || isRecorded qs p
+unfoldable pub is_recorded : List Packet → Packet → Bool
+is_recorded [] p = false
+is_recorded (q ∷ qs) p = (eqb q.time p.time && eqb q.kind p.kind) || is_recorded qs p
 
 -- of each entry of a mutation trace, is it a guess (document 02, R-7)? An entry is added exactly if it is not recorded
-unfoldable pub guessesIn : Monitor → (recording trace : List Packet) → List Bool
-guessesIn m recording [] = []
-guessesIn m recording (p ∷ ps) = (not (isRecorded recording p) && isGuess m p.kind) ∷ guessesIn m recording ps
+unfoldable pub guesses_in : Monitor → (recording trace : List Packet) → List Bool
+guesses_in m recording [] = []
+guesses_in m recording (p ∷ ps) = (not (is_recorded recording p) && is_guess m p.kind) ∷ guesses_in m recording ps
 
 -- "demands 2 and 3 speak of mutation traces that keep the rule"
 pub record PossibleUnder (m : Monitor) (recording : List Packet) : Type 0 where
   pub possible : Possible m recording
-  pub keeps : KeepsRule m.rule (guessesIn m recording possible.trace)
+  pub keeps : KeepsRule m.rule (guesses_in m recording possible.trace)

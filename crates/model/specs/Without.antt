@@ -2,19 +2,19 @@
 use Rattle.std.specs.Prelude.{ℕ, ◌≡◌, List}
 use Rattle.model.specs.Rule.{Rule}
 use Rattle.model.specs.Size.{size}
-use Rattle.model.specs.Table.{monitorAt}
-use Rattle.model.specs.Ruled.{monitorUnder}
-use Rattle.model.specs.Rules.{checkAnswer, checkAnswerUnder}
-use Rattle.model.specs.Validation.{validation, validationUnder, scratchAfter, scratchAfterUnder, roomAfter, roomAfterUnder}
+use Rattle.model.specs.Table.{monitor_at}
+use Rattle.model.specs.Ruled.{monitor_under}
+use Rattle.model.specs.Rules.{check_answer, check_answer_under}
+use Rattle.model.specs.Validation.{validation, validation_under, scratch_after, scratch_after_under, room_after, room_after_under}
 use Rattle.model.specs.declared.Edition.{Edition}
 
 -- of any bytes as table, recording and witness, any budget and any buffers
 pub record AsWithout (rule : Rule) (table : List ℕ) : Type 0 where
-  pub same_size : size (monitorUnder rule table) ≡ size (monitorAt table)
-  pub verdict : (edition : Edition) (recording : List ℕ) (budget scratchLength roomLength : ℕ)
-      → validationUnder rule edition table recording budget scratchLength roomLength ≡ validation edition table recording budget scratchLength roomLength
+  pub same_size : size (monitor_under rule table) ≡ size (monitor_at table)
+  pub verdict : (edition : Edition) (recording : List ℕ) (budget scratch_length room_length : ℕ)
+      → validation_under rule edition table recording budget scratch_length room_length ≡ validation edition table recording budget scratch_length room_length
   pub scratch : (edition : Edition) (recording : List ℕ) (budget : ℕ) (scratch room : List ℕ)
-      → scratchAfterUnder rule edition table recording budget scratch room ≡ scratchAfter edition table recording budget scratch room
+      → scratch_after_under rule edition table recording budget scratch room ≡ scratch_after edition table recording budget scratch room
   pub room : (edition : Edition) (recording : List ℕ) (budget : ℕ) (scratch room : List ℕ)
-      → roomAfterUnder rule edition table recording budget scratch room ≡ roomAfter edition table recording budget scratch room
-  pub checking : (edition : Edition) (recording witness : List ℕ) → checkAnswerUnder rule edition table recording witness ≡ checkAnswer edition table recording witness
+      → room_after_under rule edition table recording budget scratch room ≡ room_after edition table recording budget scratch room
+  pub checking : (edition : Edition) (recording witness : List ℕ) → check_answer_under rule edition table recording witness ≡ check_answer edition table recording witness

@@ -5,45 +5,45 @@ use mathlib.Core.Path.{◌≡◌, sym, ap, ◌∙◌}
 use mathlib.Core.List.{List}
 use lib.ListN.{get_or}
 use lib.Dec.{eqb}
-use Rattle.model.specs.Limits.{kindLimit, transitionLimit}
+use Rattle.model.specs.Limits.{kind_limit, transition_limit}
 use Rattle.model.specs.Bytes.{byte_at, tab, padded}
 use Rattle.model.specs.Monitor.{airtime}
-use Rattle.model.specs.Kinds.{versionAt, kindAt, deviceAt}
-use Rattle.model.specs.Rule.{noRule}
-use Rattle.model.specs.Table.{guardIn, transitionIn, monitorOf, kindsAt, transitionsAt, transitionAt, table_parts, SoundTable, monitorAt}
-use Rattle.model.proofs.Places.{getD-column, tab-same}
-use Rattle.model.proofs.TableForm.{TableFacts, table-facts, guard-again}
-use Rattle.monitor.specs.From.{guardFrom, transitionFrom, monitorFrom, offsetsOf}
+use Rattle.model.specs.Kinds.{version_at, kind_at, device_at}
+use Rattle.model.specs.Rule.{no_rule}
+use Rattle.model.specs.Table.{guard_in, transition_in, monitor_of, kinds_at, transitions_at, transition_at, table_parts, SoundTable, monitor_at}
+use Rattle.model.proofs.Places.{get_or_column, tab-same}
+use Rattle.model.proofs.TableForm.{TableFacts, table_facts, guard-again}
+use Rattle.monitor.specs.From.{guard_from, transition_from, monitor_from, offsets_of}
 
 -- the columns of the kinds, of any table
 module _ (b : List ℕ) where
-  column-of : (f : ℕ → ℕ) (k : ℕ) → k < kindsAt b → f k ≡ byte_at (padded kindLimit (tab f (kindsAt b))) k
-  column-of f k h = sym (getD-column kindLimit f (kindsAt b) k h)
+  column_of : (f : ℕ → ℕ) (k : ℕ) → k < kinds_at b → f k ≡ byte_at (padded kind_limit (tab f (kinds_at b))) k
+  column_of f k h = sym (get_or_column kind_limit f (kinds_at b) k h)
 
-  same-column : (f : ℕ → ℕ) → tab f (kindsAt b) ≡ tab (λ k. byte_at (padded kindLimit (tab f (kindsAt b))) k) (kindsAt b)
-  same-column f = tab-same f (λ k. byte_at (padded kindLimit (tab f (kindsAt b))) k) (kindsAt b) (column-of f)
+  same_column : (f : ℕ → ℕ) → tab f (kinds_at b) ≡ tab (λ k. byte_at (padded kind_limit (tab f (kinds_at b))) k) (kinds_at b)
+  same_column f = tab-same f (λ k. byte_at (padded kind_limit (tab f (kinds_at b))) k) (kinds_at b) (column_of f)
 
-  pub airtime-from : (offsets : List ℕ) (k : ℕ) → airtime (monitorFrom b offsets) k ≡ airtime (monitorAt b) k
-  unfolding monitorFrom monitorOf table_parts
-  airtime-from offsets k = ap (λ (l : List ℕ). get_or l k 0) (same-column (λ i. byte_at b (kindAt (versionAt b) i + 1)))
+  pub airtime-from : (offsets : List ℕ) (k : ℕ) → airtime (monitor_from b offsets) k ≡ airtime (monitor_at b) k
+  unfolding monitor_from monitor_of table_parts
+  airtime-from offsets k = ap (λ (l : List ℕ). get_or l k 0) (same_column (λ i. byte_at b (kind_at (version_at b) i + 1)))
 
 module _ {devices : List ℕ} (b : List ℕ) (facts : TableFacts devices b) where
-  few : transitionsAt b ≤ transitionLimit
+  few : transitions_at b ≤ transition_limit
   few = facts.counts.transitions
 
-  offset : (j : ℕ) → j < transitionsAt b → get_or (offsetsOf b) j 0 ≡ transitionAt b j
-  unfolding offsetsOf
-  offset j h = getD-column transitionLimit (transitionAt b) (min (transitionsAt b) transitionLimit) j (omega (arith, few))
+  offset : (j : ℕ) → j < transitions_at b → get_or (offsets_of b) j 0 ≡ transition_at b j
+  unfolding offsets_of
+  offset j h = get_or_column transition_limit (transition_at b) (min (transitions_at b) transition_limit) j (omega (arith, few))
 
-  column : (field j : ℕ) → j < transitionsAt b → byte_at b (transitionAt b j + field) ≡ byte_at (padded transitionLimit (tab (λ i. byte_at b (transitionAt b i + field)) (transitionsAt b))) j
-  column field j h = sym (getD-column transitionLimit (λ i. byte_at b (transitionAt b i + field)) (transitionsAt b) j h)
+  column : (field j : ℕ) → j < transitions_at b → byte_at b (transition_at b j + field) ≡ byte_at (padded transition_limit (tab (λ i. byte_at b (transition_at b i + field)) (transitions_at b))) j
+  column field j h = sym (get_or_column transition_limit (λ i. byte_at b (transition_at b i + field)) (transitions_at b) j h)
 
-  same : (j : ℕ) → j < transitionsAt b → transitionFrom b (transitionAt b j) ≡ transitionIn (table_parts b) j
-  unfolding transitionFrom transitionIn table_parts guardFrom
+  same : (j : ℕ) → j < transitions_at b → transition_from b (transition_at b j) ≡ transition_in (table_parts b) j
+  unfolding transition_from transition_in table_parts guard_from
   same j h =
-      let source : byte_at b (transitionAt b j) ≡ byte_at (padded transitionLimit (tab (λ i. byte_at b (transitionAt b i + 0)) (transitionsAt b))) j =
+      let source : byte_at b (transition_at b j) ≡ byte_at (padded transition_limit (tab (λ i. byte_at b (transition_at b i + 0)) (transitions_at b))) j =
       ap (byte_at b) (omega arith) ∙ column 0 j h in
-      let guard : guardFrom b (transitionAt b j) ≡ guardIn (table_parts b) j = sym (guard-again b facts j h) in
+      let guard : guard_from b (transition_at b j) ≡ guard_in (table_parts b) j = sym (guard-again b facts j h) in
       λ i.
       record {
         source = source i;
@@ -55,24 +55,24 @@ module _ {devices : List ℕ} (b : List ℕ) (facts : TableFacts devices b) wher
         guard = guard i;
       }
 
-  described : monitorFrom b (offsetsOf b) ≡ monitorAt b
-  unfolding monitorFrom monitorOf table_parts
+  described : monitor_from b (offsets_of b) ≡ monitor_at b
+  unfolding monitor_from monitor_of table_parts
   described =
-      let inbound = tab-same (λ k. eqb (byte_at b (kindAt (versionAt b) k)) 1) (λ k. eqb (byte_at (table_parts b).directions k) 1) (kindsAt b)
-      (λ k h. ap (λ (x : ℕ). eqb x 1) (ap (byte_at b) (omega arith) ∙ column-of b (λ i. byte_at b (kindAt (versionAt b) i + 0)) k h)) in
-      let transitions = tab-same (λ j. transitionFrom b (get_or (offsetsOf b) j 0)) (transitionIn (table_parts b)) (transitionsAt b)
-      (λ j h. ap (transitionFrom b) (offset j h) ∙ same j h) in
+      let inbound = tab-same (λ k. eqb (byte_at b (kind_at (version_at b) k)) 1) (λ k. eqb (byte_at (table_parts b).directions k) 1) (kinds_at b)
+      (λ k h. ap (λ (x : ℕ). eqb x 1) (ap (byte_at b) (omega arith) ∙ column_of b (λ i. byte_at b (kind_at (version_at b) i + 0)) k h)) in
+      let transitions = tab-same (λ j. transition_from b (get_or (offsets_of b) j 0)) (transition_in (table_parts b)) (transitions_at b)
+      (λ j h. ap (transition_from b) (offset j h) ∙ same j h) in
       λ i.
       record {
         states = byte_at b 3;
         variables = byte_at b 4;
         clocks = byte_at b 5;
         inbound = inbound i;
-        airtimes = same-column b (λ k. byte_at b (kindAt (versionAt b) k + 1)) i;
-        devices = same-column b (λ k. deviceAt b (kindAt (versionAt b) k)) i;
+        airtimes = same_column b (λ k. byte_at b (kind_at (version_at b) k + 1)) i;
+        devices = same_column b (λ k. device_at b (kind_at (version_at b) k)) i;
         transitions = transitions i;
-        rule = noRule;
+        rule = no_rule;
       }
 
-pub monitor-from : (b : List ℕ) → SoundTable b → monitorFrom b (offsetsOf b) ≡ monitorAt b
-monitor-from b s = described b (table-facts b s)
+pub monitor_from_lem : (b : List ℕ) → SoundTable b → monitor_from b (offsets_of b) ≡ monitor_at b
+monitor_from_lem b s = described b (table_facts b s)

@@ -10,8 +10,8 @@ use lib.Pow.{pow_pos, pow_mono, shl_exact}
 use lib.Bits.{bit_or, bit_xor, or_shr, xor_shr, or_mod, xor_mod, or_lt, xor_lt}
 use Rattle.model.specs.Monitor.{changed}
 
-unfoldable pub changedMask : (v s c : ℕ) → ℕ
-changedMask v s c = bit_or (bit_xor (bit_or v c) c) s
+unfoldable pub changed_mask : (v s c : ℕ) → ℕ
+changed_mask v s c = bit_or (bit_xor (bit_or v c) c) s
 
 below_two : (P : ℕ → Type 0) → P 0 → P 1 → (n : ℕ) → n < 2 → P n
 below_two P p q zero h = p
@@ -19,10 +19,10 @@ below_two P p q (suc zero) h = q
 below_two P p q (suc (suc n)) h = absurd (omega arith)
 
 abbrev Bit : (v s c : ℕ) → Type 0
-Bit v s c = changedMask v s c ≡ cond (eqb s 1) 1 (cond (eqb c 1) 0 v)
+Bit v s c = changed_mask v s c ≡ cond (eqb s 1) 1 (cond (eqb c 1) 0 v)
 
 bit : (v s c : ℕ) → v < 2 → s < 2 → c < 2 → Bit v s c
-unfolding changedMask
+unfolding changed_mask
 bit v s c hv hs hc =
     below_two (λ x. Bit x s c)
     (below_two (λ y. Bit 0 y c) (below_two (λ z. Bit 0 0 z) refl refl c hc) (below_two (λ z. Bit 0 1 z) refl refl c hc) s hs)
@@ -31,34 +31,34 @@ bit v s c hv hs hc =
     hv
 
 module _ (v s c : ℕ) where
-  half : changedMask v s c / 2 ≡ changedMask (v / 2) (s / 2) (c / 2)
-  unfolding changedMask
+  half : changed_mask v s c / 2 ≡ changed_mask (v / 2) (s / 2) (c / 2)
+  unfolding changed_mask
   half =
       or_shr (bit_xor (bit_or v c) c) s 1
       ∙ ap (λ (x : ℕ). bit_or x (s / 2)) (xor_shr (bit_or v c) c 1 ∙ ap (λ (x : ℕ). bit_xor x (c / 2)) (or_shr v c 1))
 
-  low : changedMask v s c % 2 ≡ changedMask (v % 2) (s % 2) (c % 2)
-  unfolding changedMask
+  low : changed_mask v s c % 2 ≡ changed_mask (v % 2) (s % 2) (c % 2)
+  unfolding changed_mask
   low =
       or_mod (bit_xor (bit_or v c) c) s 1
       ∙ ap (λ (x : ℕ). bit_or x (s % 2)) (xor_mod (bit_or v c) c 1 ∙ ap (λ (x : ℕ). bit_xor x (c % 2)) (or_mod v c 1))
 
-  pub changedMask-byte : v < 256 → s < 256 → c < 256 → changedMask v s c < 256
-  unfolding changedMask
-  changedMask-byte hv hs hc = or_lt 8 (bit_xor (bit_or v c) c) s (xor_lt 8 (bit_or v c) c (or_lt 8 v c hv hc) hc) hs
+  pub changed_mask_byte : v < 256 → s < 256 → c < 256 → changed_mask v s c < 256
+  unfolding changed_mask
+  changed_mask_byte hv hs hc = or_lt 8 (bit_xor (bit_or v c) c) s (xor_lt 8 (bit_or v c) c (or_lt 8 v c hv hc) hc) hs
 
-pub changed-mask : (n v s c : ℕ) → changed n v s c ≡ changedMask v s c % 2 ^ n
+pub changed_mask_lem : (n v s c : ℕ) → changed n v s c ≡ changed_mask v s c % 2 ^ n
 unfolding changed
-changed-mask zero v s c = omega arith
-changed-mask (suc n) v s c =
-    let again : changed n (v / 2) (s / 2) (c / 2) ≡ changedMask v s c / 2 % 2 ^ n = changed-mask n (v / 2) (s / 2) (c / 2) ∙ ap (λ (x : ℕ). x % 2 ^ n) (sym (half v s c)) in
-    let first : cond (eqb (s % 2) 1) 1 (cond (eqb (c % 2) 1) 0 (v % 2)) ≡ changedMask v s c % 2 = sym (low v s c ∙ bit (v % 2) (s % 2) (c % 2) (omega arith) (omega arith) (omega arith)) in
-    let whole : changedMask v s c % 2 ^ suc n ≡ changedMask v s c / 2 % 2 ^ n * 2 + changedMask v s c % 2 = ap (λ (x : ℕ). changedMask v s c % x) (pow-suc 2 n) ∙ mod-mul (changedMask v s c) (pow_pos n) (omega arith) in
+changed_mask_lem zero v s c = omega arith
+changed_mask_lem (suc n) v s c =
+    let again : changed n (v / 2) (s / 2) (c / 2) ≡ changed_mask v s c / 2 % 2 ^ n = changed_mask_lem n (v / 2) (s / 2) (c / 2) ∙ ap (λ (x : ℕ). x % 2 ^ n) (sym (half v s c)) in
+    let first : cond (eqb (s % 2) 1) 1 (cond (eqb (c % 2) 1) 0 (v % 2)) ≡ changed_mask v s c % 2 = sym (low v s c ∙ bit (v % 2) (s % 2) (c % 2) (omega arith) (omega arith) (omega arith)) in
+    let whole : changed_mask v s c % 2 ^ suc n ≡ changed_mask v s c / 2 % 2 ^ n * 2 + changed_mask v s c % 2 = ap (λ (x : ℕ). changed_mask v s c % x) (pow-suc 2 n) ∙ mod-mul (changed_mask v s c) (pow_pos n) (omega arith) in
     omega (arith, again, first, whole)
 
 -- from eight variables on, a byte's are all
-pub changed-all : (n v s c : ℕ) → 8 ≤ n → v < 256 → s < 256 → c < 256 → changed n v s c ≡ changedMask v s c
-changed-all n v s c h hv hs hc = changed-mask n v s c ∙ mod-eq_of_lt (lt_of_lt_of_le (changedMask-byte v s c hv hs hc) (pow_mono h))
+pub changed-all : (n v s c : ℕ) → 8 ≤ n → v < 256 → s < 256 → c < 256 → changed n v s c ≡ changed_mask v s c
+changed-all n v s c h hv hs hc = changed_mask_lem n v s c ∙ mod-eq_of_lt (lt_of_lt_of_le (changed_mask_byte v s c hv hs hc) (pow_mono h))
 
 pub one_shl : (n : ℕ) → n < 8 → 1 * 2 ^ n % 256 ≡ 2 ^ n
 one_shl n h = shl_exact 1 n 8 (omega arith) (omega arith) ∙ omega arith

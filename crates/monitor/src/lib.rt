@@ -2,10 +2,10 @@
 ghost use Rattle.std.specs.Prelude.{◌≡◌, List, cond, ℕ, ◌+◌, ◌%◌, ◌<◌, eqb};
 ghost use Rattle.model.specs.Readiness.{readiness};
 ghost use Rattle.model.specs.Monitor as Monitor;
-ghost use Rattle.model.specs.Monitor.{changed, fires, toUnit, airtime, device};
-ghost use Rattle.model.specs.Pairs.{isAnswer};
+ghost use Rattle.model.specs.Monitor.{changed, fires, to_unit, airtime, device};
+ghost use Rattle.model.specs.Pairs.{is_answer};
 ghost use Rattle.model.specs.declared.Readiness.TheVariants.{Yes};
-ghost use Rattle.monitor.specs.From.{transitionCount, firing, attemptOf, guardFrom, triedFrom, monitorFrom, offsetsOf, afterFrom};
+ghost use Rattle.monitor.specs.From.{transition_count, firing, attempt_of, guard_from, tried_from, monitor_from, offsets_of, after_from};
 
 use guard::guard_answer;
 use kinds::{device_at, record_at, transitions_at};
@@ -28,7 +28,7 @@ pub enum Attempt {
 
 // How many transitions the table counts, at most as many as a sound one has.
 pub fn transitions(table: &[u8]) -> usize
-    ensures { result ≡ transitionCount table.now }
+    ensures { result ≡ transition_count table.now }
 {
     let count = byte(table, 7) as usize;
     if count < TRANSITION_LIMIT {
@@ -40,7 +40,7 @@ pub fn transitions(table: &[u8]) -> usize
 
 // Where the transition records start. Each record's length is known only from its own bytes.
 pub fn offsets(table: &[u8]) -> [u16; TRANSITION_LIMIT]
-    ensures { result ≡ offsetsOf table.now }
+    ensures { result ≡ offsets_of table.now }
 {
     let mut found = [0u16; TRANSITION_LIMIT];
     let count = transitions(table);
@@ -55,7 +55,7 @@ pub fn offsets(table: &[u8]) -> [u16; TRANSITION_LIMIT]
 }
 
 pub fn to_unit(table: &[u8], kind: u8) -> bool
-    ensures { (offsets : List ℕ) → result ≡ toUnit (monitorFrom table.now offsets) kind }
+    ensures { (offsets : List ℕ) → result ≡ to_unit (monitor_from table.now offsets) kind }
 {
     if byte(table, 6) <= kind {
         return false;
@@ -64,7 +64,7 @@ pub fn to_unit(table: &[u8], kind: u8) -> bool
 }
 
 pub fn airtime_of(table: &[u8], kind: u8) -> u8
-    ensures { (offsets : List ℕ) → result ≡ airtime (monitorFrom table.now offsets) kind }
+    ensures { (offsets : List ℕ) → result ≡ airtime (monitor_from table.now offsets) kind }
 {
     if byte(table, 6) <= kind {
         return 0;
@@ -73,7 +73,7 @@ pub fn airtime_of(table: &[u8], kind: u8) -> u8
 }
 
 pub fn device_of(table: &[u8], kind: u8) -> u8
-    ensures { (offsets : List ℕ) → result ≡ device (monitorFrom table.now offsets) kind }
+    ensures { (offsets : List ℕ) → result ≡ device (monitor_from table.now offsets) kind }
 {
     if byte(table, 6) <= kind {
         return 0;
@@ -98,7 +98,7 @@ fn clock_after(mask: u8, reads: u16) -> u16
 // What firing the transition at an offset leaves.
 fn after_record(table: &[u8], at: usize, c: Config) -> Config
     requires { at < 65536 }
-    ensures { result ≡ afterFrom table.now at c }
+    ensures { result ≡ after_from table.now at c }
 {
     let resets = byte(table, at + 5);
     let clocks = c.clocks;
@@ -119,7 +119,7 @@ fn after_record(table: &[u8], at: usize, c: Config) -> Config
 
 fn guard_at_answer(table: &[u8], at: usize, c: Config) -> Readiness
     requires { at < 65536 }
-    ensures { result ≡ readiness (guardFrom table.now at) c.variables c.clocks }
+    ensures { result ≡ readiness (guard_from table.now at) c.variables c.clocks }
 {
     let clocks = c.clocks;
     let start = at + 7;
@@ -138,7 +138,7 @@ fn guard_at_answer(table: &[u8], at: usize, c: Config) -> Readiness
 // The transition whose record is at an offset.
 fn record_tried(table: &[u8], at: usize, kind: u8, c: Config) -> Attempt
     requires { at < 65536 }
-    ensures { attemptOf result ≡ triedFrom table.now at kind c }
+    ensures { attempt_of result ≡ tried_from table.now at kind c }
 {
     if byte(table, at) != c.state {
         return Attempt::Unfit;
@@ -151,7 +151,7 @@ fn record_tried(table: &[u8], at: usize, kind: u8, c: Config) -> Attempt
 
 // Transition j on a packet of a kind.
 pub fn tried<'a>(table: &'a [u8], offsets: &'a [u16], j: usize, kind: u8, c: Config) -> Attempt
-    ensures { attemptOf result ≡ Monitor.tried (monitorFrom table.now offsets.now) j kind c }
+    ensures { attempt_of result ≡ Monitor.tried (monitor_from table.now offsets.now) j kind c }
 {
     if byte(table, 7) as usize <= j {
         return Attempt::Unfit;
@@ -160,7 +160,7 @@ pub fn tried<'a>(table: &'a [u8], offsets: &'a [u16], j: usize, kind: u8, c: Con
 }
 
 fn is_yes(t: Attempt) -> bool
-    ensures { result ≡ isAnswer Yes (attemptOf t) }
+    ensures { result ≡ is_answer Yes (attempt_of t) }
 {
     let Attempt::Answer(answer) = t else {
         return false;
@@ -174,7 +174,7 @@ fn is_yes(t: Attempt) -> bool
 
 // The same transition, fired where its guard answers yes.
 pub fn fire<'a>(table: &'a [u8], offsets: &'a [u16], j: usize, kind: u8, c: Config) -> Fired
-    ensures { result ≡ firing c (fires (monitorFrom table.now offsets.now) j kind c) }
+    ensures { result ≡ firing c (fires (monitor_from table.now offsets.now) j kind c) }
 {
     if is_yes(tried(table, offsets, j, kind, c)) {
         return Fired {

@@ -8,8 +8,8 @@ told a = values a.number a.second a.third
 
 -- a verdict's, and its two counts
 
-abbrev pub verdictTold : VerdictAnswer → Values
-verdictTold a = values a.number a.second a.third
+abbrev pub verdict_told : VerdictAnswer → Values
+verdict_told a = values a.number a.second a.third
 
-abbrev pub countsTold : VerdictAnswer → Counts
-countsTold a = counts a.not_yet a.no_more
+abbrev pub counts_told : VerdictAnswer → Counts
+counts_told a = counts a.not_yet a.no_more

@@ -1,7 +1,7 @@
 // Document 01's table of numbers, and those of document 02's requests: the number, second and third value of each answer.
 ghost use Rattle.std.specs.Prelude.{◌≡◌};
-ghost use Rattle.model.specs.Numbers.{values, refusalValues, readingValues, writingValues, checkingValues, verdictValues, ruledValues, counts, verdictCounts, ruledCounts};
-ghost use Rattle.numbers.specs.Told.{told, verdictTold, countsTold};
+ghost use Rattle.model.specs.Numbers.{values, refusal_values, reading_values, writing_values, checking_values, verdict_values, ruled_values, counts, verdict_counts, ruled_counts};
+ghost use Rattle.numbers.specs.Told.{told, verdict_told, counts_told};
 
 use model::{Checking, Reading, Refusal, RuledVerdict, Verdict, Writing};
 
@@ -36,7 +36,7 @@ fn numbered(number: u64, second: u64, third: u64) -> Answer
 }
 
 pub fn refusal_numbers(refusal: Refusal) -> Answer
-    ensures { told result ≡ refusalValues refusal }
+    ensures { told result ≡ refusal_values refusal }
 {
     match refusal {
         Refusal::TableFrame => numbered(10, 0, 0),
@@ -65,7 +65,7 @@ pub fn refusal_numbers(refusal: Refusal) -> Answer
 }
 
 pub fn reading_numbers(reading: Reading) -> Answer
-    ensures { told result ≡ readingValues reading }
+    ensures { told result ≡ reading_values reading }
 {
     match reading {
         Reading::Sound => numbered(0, 0, 0),
@@ -74,7 +74,7 @@ pub fn reading_numbers(reading: Reading) -> Answer
 }
 
 pub fn writing_numbers(writing: Writing) -> Answer
-    ensures { told result ≡ writingValues writing }
+    ensures { told result ≡ writing_values writing }
 {
     match writing {
         Writing::Written { bytes } => numbered(0, bytes, 0),
@@ -83,7 +83,7 @@ pub fn writing_numbers(writing: Writing) -> Answer
 }
 
 pub fn checking_numbers(checking: Checking) -> Answer
-    ensures { told result ≡ checkingValues checking }
+    ensures { told result ≡ checking_values checking }
 {
     match checking {
         Checking::Permitted { changed, rows } => numbered(0, changed, rows),
@@ -92,7 +92,7 @@ pub fn checking_numbers(checking: Checking) -> Answer
 }
 
 fn with_counts(answer: Answer, early: u64, late: u64) -> VerdictAnswer
-    ensures { (verdictTold result ≡ told answer) × (countsTold result ≡ counts early late) }
+    ensures { (verdict_told result ≡ told answer) × (counts_told result ≡ counts early late) }
 {
     VerdictAnswer {
         number: answer.number,
@@ -105,13 +105,13 @@ fn with_counts(answer: Answer, early: u64, late: u64) -> VerdictAnswer
 
 // 1, certain or, under a rule, unlikely.
 fn rejection(cost: u64, instant: u64, early: u64, late: u64) -> VerdictAnswer
-    ensures { (verdictTold result ≡ values 1 cost instant) × (countsTold result ≡ counts early late) }
+    ensures { (verdict_told result ≡ values 1 cost instant) × (counts_told result ≡ counts early late) }
 {
     with_counts(numbered(1, cost, instant), early, late)
 }
 
 pub fn verdict_numbers(verdict: Verdict) -> VerdictAnswer
-    ensures { (verdictTold result ≡ verdictValues verdict) × (countsTold result ≡ verdictCounts verdict) }
+    ensures { (verdict_told result ≡ verdict_values verdict) × (counts_told result ≡ verdict_counts verdict) }
 {
     match verdict {
         Verdict::Accepted { cost, rows } => with_counts(numbered(0, cost, rows), 0, 0),
@@ -127,7 +127,7 @@ pub fn verdict_numbers(verdict: Verdict) -> VerdictAnswer
 }
 
 pub fn ruled_numbers(verdict: RuledVerdict) -> VerdictAnswer
-    ensures { (verdictTold result ≡ ruledValues verdict) × (countsTold result ≡ ruledCounts verdict) }
+    ensures { (verdict_told result ≡ ruled_values verdict) × (counts_told result ≡ ruled_counts verdict) }
 {
     match verdict {
         RuledVerdict::Accepted { cost, rows } => with_counts(numbered(0, cost, rows), 0, 0),

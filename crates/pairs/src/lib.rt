@@ -1,10 +1,10 @@
 // The pairs of a situation of a row and a transition, by what the transition answers there to what is recorded (R-10).
 ghost use Rattle.std.specs.Prelude.{◌≡◌, ◌<◌, min};
 ghost use Rattle.std.proofs.Math.Option.{some};
-ghost use Rattle.model.specs.Limits.{transitionLimit, sizeLimit};
-ghost use Rattle.monitor.specs.From.{attemptOf, transitionCount};
-ghost use Rattle.situation.specs.Rows.{heardOf};
-ghost use Rattle.pairs.specs.Pairing.{answersAs, answersInRow, OneMore, Tallied, CountedIn};
+ghost use Rattle.model.specs.Limits.{transition_limit, size_limit};
+ghost use Rattle.monitor.specs.From.{attempt_of, transition_count};
+ghost use Rattle.situation.specs.Rows.{heard_of};
+ghost use Rattle.pairs.specs.Pairing.{answers_as, answers_in_row, OneMore, Tallied, CountedIn};
 
 use model::{Readiness, SIZE_LIMIT, Situation};
 use monitor::{Attempt, transitions, tried};
@@ -23,8 +23,8 @@ pub struct Pairs {
 
 // One transition more of a situation.
 fn with_one(found: Pairs, tried: Attempt) -> Pairs
-    requires { (found.early < transitionLimit) × (found.late < transitionLimit) }
-    ensures { OneMore found (attemptOf tried) result }
+    requires { (found.early < transition_limit) × (found.late < transition_limit) }
+    ensures { OneMore found (attempt_of tried) result }
 {
     let Attempt::Answer(answer) = tried else {
         return found;
@@ -45,7 +45,7 @@ fn with_one(found: Pairs, tried: Attempt) -> Pairs
 // The pairs of one situation, whose air is free, where a row of a kind is recorded.
 fn kind_pairs<'a>(table: &'a [u8], offsets: &'a [u16], kind: u8, s: Situation) -> Pairs
     requires { s.air ≡ 0 }
-    ensures { Tallied (answersAs table.now offsets.now (some kind) s) (transitionCount table.now) result }
+    ensures { Tallied (answers_as table.now offsets.now (some kind) s) (transition_count table.now) result }
 {
     let count = transitions(table);
     let mut found = Pairs { early: 0, late: 0 };
@@ -58,7 +58,7 @@ fn kind_pairs<'a>(table: &'a [u8], offsets: &'a [u16], kind: u8, s: Situation) -
 }
 
 fn situation_pairs<'a>(table: &'a [u8], offsets: &'a [u16], heard: Heard, s: Situation) -> Pairs
-    ensures { Tallied (answersAs table.now offsets.now (heardOf heard) s) (transitionCount table.now) result }
+    ensures { Tallied (answers_as table.now offsets.now (heard_of heard) s) (transition_count table.now) result }
 {
     let Heard::Kind(kind) = heard else {
         return Pairs { early: 0, late: 0 };
@@ -79,7 +79,7 @@ fn member_pairs<'a>(
     from: usize,
     n: usize,
 ) -> Pairs
-    ensures { Tallied (λ a j. answersInRow table.now offsets.now h (heardOf heard) scratch.now from a n j) (transitionCount table.now) result }
+    ensures { Tallied (λ a j. answers_in_row table.now offsets.now h (heard_of heard) scratch.now from a n j) (transition_count table.now) result }
 {
     if span::has(scratch, from, n) {
         return situation_pairs(table, offsets, heard, situation_of(h, n as u64));
@@ -88,7 +88,7 @@ fn member_pairs<'a>(
 }
 
 fn within_limit(size: usize) -> usize
-    ensures { result ≡ min size sizeLimit }
+    ensures { result ≡ min size size_limit }
 {
     if size < SIZE_LIMIT as usize {
         size
@@ -106,7 +106,7 @@ pub fn count_pairs<'a>(
     scratch: &'a [u8],
     from: Span,
 ) -> Pairs
-    ensures { CountedIn (answersInRow table.now offsets.now h (heardOf heard) scratch.now from.start) from.size (transitionCount table.now) result }
+    ensures { CountedIn (answers_in_row table.now offsets.now h (heard_of heard) scratch.now from.start) from.size (transition_count table.now) result }
 {
     let end = within_limit(from.size);
     let mut found = Pairs { early: 0, late: 0 };

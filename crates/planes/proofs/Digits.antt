@@ -11,30 +11,30 @@ use lib.Dec.{eqb, leb, ltb}
 use lib.ListN.{get_or}
 use lib.Pow.{pow_pos, pow_mono, pow-lt}
 use Rattle.model.specs.Guard.{holds, at_most, at_least, variable}
-use Rattle.planes.specs.Numbering.{holdsBy, weight, values, Clocks}
+use Rattle.planes.specs.Numbering.{holds_by, weight, values, Clocks}
 
-clock-digit : (f s i x : ℕ) → get_or (x % f ∷ x / f % s ∷ []) i 0 ≡ x / weight f i % values f s i
+clock_digit : (f s i x : ℕ) → get_or (x % f ∷ x / f % s ∷ []) i 0 ≡ x / weight f i % values f s i
 unfolding weight values
-clock-digit f s zero x = ap (λ (n : ℕ). n % f) (sym (div-one x))
-clock-digit f s (suc zero) x = refl
-clock-digit f s (suc (suc i)) x = sym (mod-one (x / 1))
+clock_digit f s zero x = ap (λ (n : ℕ). n % f) (sym (div-one x))
+clock_digit f s (suc zero) x = refl
+clock_digit f s (suc (suc i)) x = sym (mod-one (x / 1))
 
-leb-ltb : (d t : ℕ) → Dec (d ≤ t) → leb d t ≡ ltb d (t + 1)
-leb-ltb d t (yes h) = le-leb d t h ∙ sym (lt-ltb d (t + 1) (omega arith))
-leb-ltb d t (no h) = lt-leb d t (omega arith) ∙ sym (le-ltb d (t + 1) (omega arith))
+leb_ltb : (d t : ℕ) → Dec (d ≤ t) → leb d t ≡ ltb d (t + 1)
+leb_ltb d t (yes h) = le-leb d t h ∙ sym (lt-ltb d (t + 1) (omega arith))
+leb_ltb d t (no h) = lt-leb d t (omega arith) ∙ sym (le-ltb d (t + 1) (omega arith))
 
-leb-not : (d t : ℕ) → Dec (t ≤ d) → leb t d ≡ not (ltb d t)
-leb-not d t (yes h) = le-leb t d h ∙ ap not (sym (le-ltb d t h))
-leb-not d t (no h) = lt-leb t d (omega arith) ∙ ap not (sym (lt-ltb d t (omega arith)))
+leb_not : (d t : ℕ) → Dec (t ≤ d) → leb t d ≡ not (ltb d t)
+leb_not d t (yes h) = le-leb t d h ∙ ap not (sym (le-ltb d t h))
+leb_not d t (no h) = lt-leb t d (omega arith) ∙ ap not (sym (lt-ltb d t (omega arith)))
 
 module _ (f s : ℕ) where
-  pub at-most-by : (i t x : ℕ) → holdsBy f s (at_most i t) x ≡ ltb (x / weight f i % values f s i) (t + 1)
-  unfolding holdsBy holds
-  at-most-by i t x = ap (λ (d : ℕ). leb d t) (clock-digit f s i x) ∙ leb-ltb (x / weight f i % values f s i) t (dec_le (x / weight f i % values f s i) t)
+  pub at_most_by : (i t x : ℕ) → holds_by f s (at_most i t) x ≡ ltb (x / weight f i % values f s i) (t + 1)
+  unfolding holds_by holds
+  at_most_by i t x = ap (λ (d : ℕ). leb d t) (clock_digit f s i x) ∙ leb_ltb (x / weight f i % values f s i) t (dec_le (x / weight f i % values f s i) t)
 
-  pub at-least-by : (i t x : ℕ) → holdsBy f s (at_least i t) x ≡ not (ltb (x / weight f i % values f s i) t)
-  unfolding holdsBy holds
-  at-least-by i t x = ap (λ (d : ℕ). leb t d) (clock-digit f s i x) ∙ leb-not (x / weight f i % values f s i) t (dec_le t (x / weight f i % values f s i))
+  pub at_least_by : (i t x : ℕ) → holds_by f s (at_least i t) x ≡ not (ltb (x / weight f i % values f s i) t)
+  unfolding holds_by holds
+  at_least_by i t x = ap (λ (d : ℕ). leb t d) (clock_digit f s i x) ∙ leb_not (x / weight f i % values f s i) t (dec_le t (x / weight f i % values f s i))
 
   pub weight-some : Clocks f s → (i : ℕ) → 0 < weight f i
   unfolding weight
@@ -57,14 +57,14 @@ module _ (f s v x : ℕ) where
   digit : x / (f * s) / 2 ^ v ≡ x / (f * s * 2 ^ v)
   digit = div-div-eq-div-mul x (f * s) (2 ^ v)
 
-  pub variable-by : holdsBy f s (variable v) x ≡ not (ltb (x / (f * s * 2 ^ v) % 2) 1)
-  unfolding holdsBy holds
-  variable-by = ap (λ (d : ℕ). eqb (d % 2) 1) digit ∙ two (x / (f * s * 2 ^ v) % 2) (omega arith)
+  pub variable_by : holds_by f s (variable v) x ≡ not (ltb (x / (f * s * 2 ^ v) % 2) 1)
+  unfolding holds_by holds
+  variable_by = ap (λ (d : ℕ). eqb (d % 2) 1) digit ∙ two (x / (f * s * 2 ^ v) % 2) (omega arith)
 
   -- a variable that stands above all numbers of the set
-  pub variable-far : Clocks f s → 16 ≤ v → x < 65536 → holdsBy f s (variable v) x ≡ false
-  unfolding holdsBy holds
-  variable-far c h l = ap (λ (d : ℕ). eqb (d % 2) 1) (digit ∙ div-eq_of_lt small)
+  pub variable_far : Clocks f s → 16 ≤ v → x < 65536 → holds_by f s (variable v) x ≡ false
+  unfolding holds_by holds
+  variable_far c h l = ap (λ (d : ℕ). eqb (d % 2) 1) (digit ∙ div-eq_of_lt small)
     where
       small : x < f * s * 2 ^ v
       small =
@@ -72,8 +72,8 @@ module _ (f s v x : ℕ) where
           let more : 2 ^ 16 ≤ 2 ^ v = pow_mono h in
           omega (arith, mul-le-mul one more)
 
-  pub variable-near : Clocks f s → v < 16 → f * s * 2 ^ v < 2 ^ 32
-  variable-near c h =
+  pub variable_near : Clocks f s → v < 16 → f * s * 2 ^ v < 2 ^ 32
+  variable_near c h =
       let product = mul-le-mul c.most c.most₁ in
       let low : v ≤ 15 = omega arith in
       let less : 2 ^ v ≤ 2 ^ 15 = pow_mono low in
@@ -85,22 +85,22 @@ module _ (f s v x : ℕ) where
 
 -- which clock a number names
 module _ (f s i : ℕ) where
-  pub weight-one : i ≡ 1 → weight f i ≡ f
+  pub weight_one : i ≡ 1 → weight f i ≡ f
   unfolding weight
-  weight-one e = rw e
+  weight_one e = rw e
 
-  pub weight-other : (i ≡ 1 → ⊥) → weight f i ≡ 1
+  pub weight_other : (i ≡ 1 → ⊥) → weight f i ≡ 1
   unfolding weight
-  weight-other h = by i h
+  weight_other h = by i h
     where
       by : (j : ℕ) → (j ≡ 1 → ⊥) → weight f j ≡ 1
       by zero h = refl
       by (suc zero) h = absurd (h refl)
       by (suc (suc j)) h = refl
 
-  pub values-zero : i ≡ 0 → values f s i ≡ f
+  pub values_zero : i ≡ 0 → values f s i ≡ f
   unfolding values
-  values-zero e = rw e
+  values_zero e = rw e
 
   pub values_one : i ≡ 1 → values f s i ≡ s
   unfolding values

@@ -11,15 +11,15 @@ use lib.ListN.{length, get_or, set, length-set}
 use lib.Bits.{bit_and}
 use Rattle.words.specs.Words.{bit, mem, Bits}
 use Rattle.words.specs.Words.{Upto}
-use Rattle.words.proofs.Bit.{bit_not, bit_past, bit-zero, bit_mask}
-use Rattle.words.proofs.Sets.{and-bits, mem-other}
-use Rattle.strides.proofs.Moves.{own_bits, upto-more}
+use Rattle.words.proofs.Bit.{bit_not, bit_past, bit_zero, bit_mask}
+use Rattle.words.proofs.Sets.{and_bits, mem_other}
+use Rattle.strides.proofs.Moves.{own_bits, upto_more}
 
 pub bits-same : (p q : ℕ → Bool) (x : ℕ) → ((j : ℕ) → p j ≡ q j) → Bits 64 p x → Bits 64 q x
 bits-same p q x e b = record { bits = λ j. b.bits j ∙ ap (λ (t : Bool). ltb j 64 && t) (e j) }
 
-not-bits : (p : ℕ → Bool) (x : ℕ) → x < 2 ^ 64 → Bits 64 p x → Bits 64 (λ j. not (p j)) (2 ^ 64 - 1 - x)
-not-bits p x small b = record { bits = λ j. at j (dec_lt j 64) }
+not_bits : (p : ℕ → Bool) (x : ℕ) → x < 2 ^ 64 → Bits 64 p x → Bits 64 (λ j. not (p j)) (2 ^ 64 - 1 - x)
+not_bits p x small b = record { bits = λ j. at j (dec_lt j 64) }
   where
     at : (j : ℕ) → Dec (j < 64) → bit (2 ^ 64 - 1 - x) j ≡ (ltb j 64 && not (p j))
     at j (yes l) = bit_not 64 x j small l ∙ ap not (b.bits j) ∙ simp (lt-ltb j 64 l)
@@ -31,35 +31,35 @@ pub record Changed (p : ℕ → Bool) (s : List ℕ) (k : ℕ) (a : List ℕ) : 
   pub done : Upto p k a
   pub rest : (i : ℕ) → 64 * k ≤ i → mem a i ≡ mem s i
 
-pub changed-none : (p : ℕ → Bool) (s : List ℕ) → Changed p s 0 s
-changed-none p s = record { size = refl; done = record { all = λ i l. absurd (omega arith) }; rest = λ i l. refl }
+pub changed_none : (p : ℕ → Bool) (s : List ℕ) → Changed p s 0 s
+changed_none p s = record { size = refl; done = record { all = λ i l. absurd (omega arith) }; rest = λ i l. refl }
 
 module _ (p : ℕ → Bool) (s : List ℕ) (k : ℕ) (a : List ℕ) (h : k < length a) (c : Changed p s k a) where
   pub changed-more : (v : ℕ) → Bits 64 (λ j. p (64 * k + j)) v → Changed p s (k + 1) (set a k v)
   changed-more v b =
       record {
         size = length-set a k v ∙ c.size;
-        done = upto-more p a k v h b c.done;
-        rest = λ i l. mem-other a k v h i (λ e. omega arith) ∙ c.rest i (omega arith);
+        done = upto_more p a k v h b c.done;
+        rest = λ i l. mem_other a k v h i (λ e. omega arith) ∙ c.rest i (omega arith);
       }
 
   -- a word from there on has what s has
   pub still : (w x : ℕ) → k ≤ w → x ≡ get_or a w 0 → x < 2 ^ 64 → Bits 64 (λ j. mem s (64 * w + j)) x
   still w x l e small = bits-same (λ j. mem a (64 * w + j)) (λ j. mem s (64 * w + j)) x (λ j. c.rest (64 * w + j) (omega arith)) (own_bits a w x e small)
 
-pub word-not : (s a : List ℕ) (k x : ℕ) → k < length a → Changed (λ i. not (mem s i)) s k a → x ≡ get_or a k 0 → x < 2 ^ 64
+pub word_not : (s a : List ℕ) (k x : ℕ) → k < length a → Changed (λ i. not (mem s i)) s k a → x ≡ get_or a k 0 → x < 2 ^ 64
     → Changed (λ i. not (mem s i)) s (k + 1) (set a k (2 ^ 64 - 1 - x))
-word-not s a k x h c e small =
+word_not s a k x h c e small =
     changed-more (λ i. not (mem s i)) s k a h c (2 ^ 64 - 1 - x)
-    (not-bits (λ j. mem s (64 * k + j)) x small (still (λ i. not (mem s i)) s k a h c k x (omega arith) e small))
+    (not_bits (λ j. mem s (64 * k + j)) x small (still (λ i. not (mem s i)) s k a h c k x (omega arith) e small))
 
-pub word-common : (s a : List ℕ) (n k x y : ℕ) → k < length a → Changed (λ i. mem s i && mem s (64 * n + i)) s k a
+pub word_common : (s a : List ℕ) (n k x y : ℕ) → k < length a → Changed (λ i. mem s i && mem s (64 * n + i)) s k a
     → x ≡ get_or a k 0 → x < 2 ^ 64 → y ≡ get_or a (n + k) 0 → y < 2 ^ 64 → Changed (λ i. mem s i && mem s (64 * n + i)) s (k + 1) (set a k (bit_and x y))
-word-common s a n k x y h c e small e₁ small₁ =
+word_common s a n k x y h c e small e₁ small₁ =
     let p : ℕ → Bool = λ i. mem s i && mem s (64 * n + i) in
     let far : (j : ℕ) → 64 * (n + k) + j ≡ 64 * n + (64 * k + j) = λ j. omega arith in
     changed-more p s k a h c (bit_and x y)
-    (and-bits 64 (λ j. mem s (64 * k + j)) (λ j. mem s (64 * n + (64 * k + j))) x y
+    (and_bits 64 (λ j. mem s (64 * k + j)) (λ j. mem s (64 * n + (64 * k + j))) x y
     (still p s k a h c k x (omega arith) e small)
     (bits-same (λ j. mem s (64 * (n + k) + j)) (λ j. mem s (64 * n + (64 * k + j))) y (λ j. ap (mem s) (far j)) (still p s k a h c (n + k) y (omega arith) e₁ small₁)))
 
@@ -71,8 +71,8 @@ word_same k x small = record { bits = λ j. at j (dec_lt j 64) }
     at j (yes l) = let e : (64 * k + j) % 64 ≡ j = omega arith in simp (lt-ltb j 64 l, e)
     at j (no l) = bit_past 64 x j small (omega arith) ∙ simp (le-ltb j 64 (omega arith))
 
-pub none-there : (i : ℕ) → bit 0 (i % 64) ≡ false
-none-there i = bit-zero (i % 64)
+pub none_there : (i : ℕ) → bit 0 (i % 64) ≡ false
+none_there i = bit_zero (i % 64)
 
 pub all_there : (i : ℕ) → bit 18446744073709551615 (i % 64) ≡ true
 all_there i = bit_mask 64 (i % 64) ∙ lt-ltb (i % 64) 64 (omega arith)

@@ -2,7 +2,7 @@
 use Rattle.std.specs.Prelude.{ℕ, ◌+◌, ◌-◌, ◌*◌, ◌/◌, ◌<◌, min, ◌≡◌, List}
 use Rattle.model.specs.Guard.{Guard, GuardRead, malformed, up_to}
 use Rattle.words.specs.Words.{mem}
-use Rattle.planes.specs.Numbering.{holdsBy}
+use Rattle.planes.specs.Numbering.{holds_by}
 use Rattle.planes.specs.declared.Ended.{Ended}
 use Rattle.planes.specs.declared.Ended.TheVariants.{Malformed, At}
 
@@ -12,8 +12,8 @@ ended (up_to g k) = At k
 
 pub record Built (f s n : ℕ) (x : GuardRead) (r : Ended) (after : List ℕ) : Type 0 where
   pub ends : r ≡ ended x
-  pub all : (g : Guard) (k : ℕ) → x ≡ up_to g k → (i : ℕ) → i < 64 * n → mem after i ≡ holdsBy f s g i
+  pub all : (g : Guard) (k : ℕ) → x ≡ up_to g k → (i : ℕ) → i < 64 * n → mem after i ≡ holds_by f s g i
 
 -- as many sets are in hand at once: the second guard of a conjunction starts two bytes further on, or more, and is one less deep
-abbrev pub inHand : (depth at end : ℕ) → ℕ
-inHand depth at end = min depth (1 + (end - at) / 2)
+abbrev pub in_hand : (depth at end : ℕ) → ℕ
+in_hand depth at end = min depth (1 + (end - at) / 2)

@@ -3,8 +3,8 @@ use Rattle.std.specs.Prelude.{ℕ, zero, suc, ◌*◌, ◌/◌, ◌%◌, ◌≤�
 use Rattle.model.specs.Guard.{Guard, holds}
 
 -- a guard's value where a number says
-unfoldable pub holdsBy : (f s : ℕ) → Guard → ℕ → Bool
-holdsBy f s g x = holds g (x / (f * s)) (x % f ∷ x / f % s ∷ [])
+unfoldable pub holds_by : (f s : ℕ) → Guard → ℕ → Bool
+holds_by f s g x = holds g (x / (f * s)) (x % f ∷ x / f % s ∷ [])
 
 -- a clock's digit: how much one tick of it counts, and how many values it has. A clock that is not there has the value 0
 

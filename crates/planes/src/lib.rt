@@ -1,13 +1,13 @@
 // For each transition of a table the set of variables and clock values at which its guard holds, built by set operations: a comparison is the
 // numbers whose digit is below a bound, a negation the complement, a conjunction what two sets have in common.
 ghost use Rattle.std.specs.Prelude.{◌≡◌, ◌&&◌, ℕ, ◌+◌, ◌*◌, ◌%◌, ◌^◌, ◌<◌, ◌≤◌, leb, ltb, length};
-ghost use Rattle.model.specs.Guard.{guardAt, leafAt, variable};
-ghost use Rattle.guard.specs.Guards.{clockLeaf};
-ghost use Rattle.monitor.specs.From.{guardFrom, transitionCount};
+ghost use Rattle.model.specs.Guard.{guard_at, leaf_at, variable};
+ghost use Rattle.guard.specs.Guards.{clock_leaf};
+ghost use Rattle.monitor.specs.From.{guard_from, transition_count};
 ghost use Rattle.words.specs.Words.{Is, bit, mem};
-ghost use Rattle.planes.specs.Built.{Built, inHand};
-ghost use Rattle.planes.specs.Planes.{Placed, Planes, setsAt};
-ghost use Rattle.planes.specs.Numbering.{Clocks, holdsBy, values, weight};
+ghost use Rattle.planes.specs.Built.{Built, in_hand};
+ghost use Rattle.planes.specs.Planes.{Placed, Planes, sets_at};
+ghost use Rattle.planes.specs.Numbering.{Clocks, holds_by, values, weight};
 
 use guard::{has_clock, has_variable};
 use model::GUARD_LIMIT;
@@ -83,7 +83,7 @@ fn clock_set(
     spare: &mut [u64],
 ) -> Ended
     requires { (length set.old ≤ length spare.old) × (length set.old ≤ 1024) × Clocks q.first q.second }
-    ensures { Built q.first q.second (length set.old) (clockLeaf code clock t next) result set.new }
+    ensures { Built q.first q.second (length set.old) (clock_leaf code clock t next) result set.new }
 {
     let w = weight_of(clock, q.first);
     let r = values_of(clock, q.first, q.second);
@@ -111,7 +111,7 @@ fn variable_weight(x: u8, first: u32, second: u32) -> u32
 // The set where variable x is true; a set has no number with more than 16 variables.
 fn variable_set(x: u8, q: Shape, set: &mut [u64], spare: &mut [u64])
     requires { (length set.old ≤ length spare.old) × (length set.old ≤ 1024) × Clocks q.first q.second }
-    ensures { Is (holdsBy q.first q.second (variable x)) set.old set.new }
+    ensures { Is (holds_by q.first q.second (variable x)) set.old set.new }
 {
     if x < 16 {
         at_most(set, spare, variable_weight(x, q.first, q.second), 2, 1);
@@ -124,7 +124,7 @@ fn variable_set(x: u8, q: Shape, set: &mut [u64], spare: &mut [u64])
 // The forms without a guard inside.
 fn leaf_set(b: &[u8], at: usize, end: usize, q: Shape, set: &mut [u64], spare: &mut [u64]) -> Ended
     requires { (at < end) × (length set.old ≤ length spare.old) × (length set.old ≤ 1024) × Clocks q.first q.second }
-    ensures { Built q.first q.second (length set.old) (leafAt q.variables q.clocks b.now at end) result set.new }
+    ensures { Built q.first q.second (length set.old) (leaf_at q.variables q.clocks b.now at end) result set.new }
 {
     let code = byte(b, at);
     if code == 0 {
@@ -163,8 +163,8 @@ fn guard_set(
     stack: &mut [u64],
     spare: &mut [u64],
 ) -> Ended
-    requires { (n * inHand depth at end ≤ length stack.old) × (n ≤ length spare.old) × (n ≤ 1024) × Clocks q.first q.second }
-    ensures { Built q.first q.second n (guardAt depth q.variables q.clocks b.now at end) result stack.new }
+    requires { (n * in_hand depth at end ≤ length stack.old) × (n ≤ length spare.old) × (n ≤ 1024) × Clocks q.first q.second }
+    ensures { Built q.first q.second n (guard_at depth q.variables q.clocks b.now at end) result stack.new }
 {
     if depth == 0 {
         return Ended::Malformed;
@@ -200,8 +200,8 @@ fn plane(
     stack: &mut [u64],
     spare: &mut [u64],
 )
-    requires { (at < 65536) × (n * setsAt table.now at ≤ length stack.old) × (n ≤ length spare.old) × (n ≤ 1024) × Clocks first second }
-    ensures { (i : ℕ) → i < 64 * n → mem stack.new i ≡ holdsBy first second (guardFrom table.now at) i }
+    requires { (at < 65536) × (n * sets_at table.now at ≤ length stack.old) × (n ≤ length spare.old) × (n ≤ 1024) × Clocks first second }
+    ensures { (i : ℕ) → i < 64 * n → mem stack.new i ≡ holds_by first second (guard_from table.now at) i }
 {
     let start = at + 7;
     let end = start + byte(table, at + 6) as usize;
@@ -220,7 +220,7 @@ fn plane(
 
 fn sets_at(table: &[u8], at: usize) -> usize
     requires { at < 65536 }
-    ensures { result ≡ setsAt table.now at }
+    ensures { result ≡ sets_at table.now at }
 {
     let sets = 1 + byte(table, at + 6) as usize / 2;
     if sets < GUARD_LIMIT {
@@ -261,7 +261,7 @@ fn all_planes(
     spare: &mut [u64],
 )
     requires { (n ≤ length spare.old) × (n ≤ 1024) × Clocks first second }
-    ensures { Planes first second n table.now offsets.now (transitionCount table.now) planes.old planes.new }
+    ensures { Planes first second n table.now offsets.now (transition_count table.now) planes.old planes.new }
 {
     let count = transitions(table);
     let mut j = 0;
@@ -296,7 +296,7 @@ pub fn guards(
     planes: &mut [u64],
     spare: &mut [u64],
 )
-    ensures { (length planes.new ≡ length planes.old) × (length spare.new ≡ length spare.old) × (Clocks first second → n ≤ 1024 → n ≤ length spare.old → Planes first second n table.now offsets.now (transitionCount table.now) planes.old planes.new) }
+    ensures { (length planes.new ≡ length planes.old) × (length spare.new ≡ length spare.old) × (Clocks first second → n ≤ 1024 → n ≤ length spare.old → Planes first second n table.now offsets.now (transition_count table.now) planes.old planes.new) }
 {
     if 1024 < n {
         return;

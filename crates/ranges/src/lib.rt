@@ -1,6 +1,6 @@
 // Ranges of a set in words: carried over under a mask, and tested for emptiness.
 ghost use Rattle.std.specs.Prelude.{◌≡◌, ℕ, ◌+◌, ◌-◌, ◌*◌, ◌%◌, ◌^◌, ◌<◌, ◌≤◌, length, ltb};
-ghost use Rattle.words.specs.Words.{bit, mem, Bits, Joined, up, below, meet, anyBelow};
+ghost use Rattle.words.specs.Words.{bit, mem, Bits, Joined, up, below, meet, any_below};
 
 use words::{any_words, lesser, or_at, past, word_at};
 
@@ -144,7 +144,7 @@ pub fn or_range(
 // Is any number in at most 64 bits from bit s on?
 fn any_rest(a: &[u64], s: usize, len: usize) -> bool
     requires { len ≤ 64 }
-    ensures { result ≡ anyBelow (λ i. mem a.now (s + i)) len }
+    ensures { result ≡ any_below (λ i. mem a.now (s + i)) len }
 {
     if 0 < len {
         return (word_at(a, s) & low(len)) != 0;
@@ -155,7 +155,7 @@ fn any_rest(a: &[u64], s: usize, len: usize) -> bool
 // Up to the start of a word, whole words, and the rest.
 fn any_long(a: &[u64], s: usize, len: usize) -> bool
     requires { (64 ≤ len) × (s + len < 2 ^ 64) }
-    ensures { result ≡ anyBelow (λ i. mem a.now (s + i)) len }
+    ensures { result ≡ any_below (λ i. mem a.now (s + i)) len }
 {
     let h = (64 - s % 64) % 64;
     let n = (len - h) / 64;
@@ -170,7 +170,7 @@ fn any_long(a: &[u64], s: usize, len: usize) -> bool
 
 // Is any number in len bits from bit s on? Places and lengths from 2 ^ 60 on are not gone to.
 pub fn any_in(a: &[u64], s: usize, len: usize) -> bool
-    ensures { s < 2 ^ 60 → len < 2 ^ 60 → result ≡ anyBelow (λ i. mem a.now (s + i)) len }
+    ensures { s < 2 ^ 60 → len < 2 ^ 60 → result ≡ any_below (λ i. mem a.now (s + i)) len }
 {
     if len <= 64 {
         return any_rest(a, s, len);

@@ -12,22 +12,22 @@ use lib.ListN.{length}
 use Rattle.model.specs.Bytes.{byte_at, tab}
 use Rattle.model.specs.Monitor.{Monitor, Transition}
 use Rattle.model.specs.Reach.{led}
-use Rattle.model.specs.Table.{transitionIn, monitorOf}
+use Rattle.model.specs.Table.{transition_in, monitor_of}
 use Rattle.model.specs.declared.TableParts.{TableParts}
 use Rattle.bits.specs.Member.{mem, PutIn}
-use Rattle.reach.specs.Spreading.{stateBytes, Tried, Spread}
+use Rattle.reach.specs.Spreading.{state_bytes, Tried, Spread}
 
 -- one transition
 
 module _ (source target : ℕ) (before : List ℕ) where
-  pub tried-away : mem before source ≡ false → Tried source target before before false
-  tried-away e = record { size = refl; kept = λ s h. h; there = λ h. absurd (false≢true (sym e ∙ h)); only = λ s h. inl h; still = λ h. refl }
+  pub tried_away : mem before source ≡ false → Tried source target before before false
+  tried_away e = record { size = refl; kept = λ s h. h; there = λ h. absurd (false≢true (sym e ∙ h)); only = λ s h. inl h; still = λ h. refl }
 
-  pub tried-already : mem before target ≡ true → Tried source target before before false
-  tried-already e = record { size = refl; kept = λ s h. h; there = λ h. e; only = λ s h. inl h; still = λ h. refl }
+  pub tried_already : mem before target ≡ true → Tried source target before before false
+  tried_already e = record { size = refl; kept = λ s h. h; there = λ h. e; only = λ s h. inl h; still = λ h. refl }
 
-  pub tried-put : (after : List ℕ) → length before ≡ stateBytes → target < 256 → mem before source ≡ true → PutIn target before after → Tried source target before after true
-  tried-put after n l e p =
+  pub tried_put : (after : List ℕ) → length before ≡ state_bytes → target < 256 → mem before source ≡ true → PutIn target before after → Tried source target before after true
+  tried_put after n l e p =
       record {
         size = p.size;
         kept = λ s h. on s (ℕ_discrete s target) (λ q. h);
@@ -87,19 +87,19 @@ tab-mem f (suc n) j h = go (ℕ_discrete j n) (λ l. tab-mem f n j l)
     go (no q) again = Memᴰ.append_left (f n ∷ []) (again (omega arith))
 
 module _ (t : TableParts) where
-  pub spread-first : (set : List ℕ) → Spread (monitorOf t) (tab (transitionIn t) 0) set set false
+  pub spread-first : (set : List ℕ) → Spread (monitor_of t) (tab (transition_in t) 0) set set false
   unfolding tab
-  spread-first set = spread_none (monitorOf t) set
+  spread-first set = spread_none (monitor_of t) set
 
-  pub spread-next :
+  pub spread_next :
       (j source target : ℕ) (before set after : List ℕ) (grown fresh now : Bool) → j < t.transitions → source ≡ byte_at t.sources j → target ≡ byte_at t.targets j
-      → Spread (monitorOf t) (tab (transitionIn t) j) before set grown → Tried source target set after fresh
-      → now ≡ (grown || fresh) → Spread (monitorOf t) (tab (transitionIn t) (j + 1)) before after now
-  unfolding tab monitorOf transitionIn
-  spread-next j source target before set after grown fresh now h p q s l e =
-      rw (add-one, e) (spread-more (monitorOf t) (tab (transitionIn t) j) (transitionIn t j) before set after grown fresh (tab-mem (transitionIn t) t.transitions j h) s (rw (p, q) at l))
+      → Spread (monitor_of t) (tab (transition_in t) j) before set grown → Tried source target set after fresh
+      → now ≡ (grown || fresh) → Spread (monitor_of t) (tab (transition_in t) (j + 1)) before after now
+  unfolding tab monitor_of transition_in
+  spread_next j source target before set after grown fresh now h p q s l e =
+      rw (add-one, e) (spread-more (monitor_of t) (tab (transition_in t) j) (transition_in t j) before set after grown fresh (tab-mem (transition_in t) t.transitions j h) s (rw (p, q) at l))
 
-  pub spread-whole : (j : ℕ) (before after : List ℕ) (grown : Bool) → j ≡ t.transitions → Spread (monitorOf t) (tab (transitionIn t) j) before after grown
-      → Spread (monitorOf t) (monitorOf t).transitions before after grown
-  unfolding monitorOf
+  pub spread-whole : (j : ℕ) (before after : List ℕ) (grown : Bool) → j ≡ t.transitions → Spread (monitor_of t) (tab (transition_in t) j) before after grown
+      → Spread (monitor_of t) (monitor_of t).transitions before after grown
+  unfolding monitor_of
   spread-whole j before after grown e s = rw e at s

@@ -6,8 +6,8 @@ use Rattle.model.specs.Reach.{Reached}
 use Rattle.bits.specs.Member.{mem}
 
 -- a place for every number that fits a byte
-abbrev pub stateBytes : ℕ
-stateBytes = 32
+abbrev pub state_bytes : ℕ
+state_bytes = 32
 
 -- one transition: its target is there if its source was, and nothing else comes. fresh: it is new
 pub record Tried (source target : ℕ) (before after : List ℕ) (fresh : Bool) : Type 0 where

@@ -1,9 +1,9 @@
 // The states that a table's transitions lead to from state 0, guards ignored (document 02, R-8), for any parts.
 ghost use Rattle.std.specs.Prelude.{◌≡◌, ◌||◌, ℕ, eqb, length};
-ghost use Rattle.model.specs.Reach.{StatesJudged, is_reached, lowestMissing, statesAnswer};
-ghost use Rattle.model.specs.Table.{monitorOf};
+ghost use Rattle.model.specs.Reach.{StatesJudged, is_reached, lowest_missing, states_answer};
+ghost use Rattle.model.specs.Table.{monitor_of};
 ghost use Rattle.bits.specs.Member.{mem};
-ghost use Rattle.reach.specs.Spreading.{stateBytes, Tried, Spread};
+ghost use Rattle.reach.specs.Spreading.{state_bytes, Tried, Spread};
 
 use bits::{put, test};
 use model::{Reading, Refusal, TableParts};
@@ -14,7 +14,7 @@ const STATE_BYTES: usize = 32;
 
 // Puts the target into the set if the source is in it. Is it new there?
 fn lead(set: &mut [u8], source: u8, target: u8) -> bool
-    requires { length set.old ≡ stateBytes }
+    requires { length set.old ≡ state_bytes }
     ensures { Tried source target set.old set.new result }
 {
     if !test(set, source as usize) {
@@ -35,8 +35,8 @@ fn either(a: bool, b: bool) -> bool
 
 // Tries each transition once, in turn. Is a state new?
 fn spread(t: TableParts, set: &mut [u8]) -> bool
-    requires { length set.old ≡ stateBytes }
-    ensures { Spread (monitorOf t) (monitorOf t).transitions set.old set.new result }
+    requires { length set.old ≡ state_bytes }
+    ensures { Spread (monitor_of t) (monitor_of t).transitions set.old set.new result }
 {
     let n = t.transitions as usize;
     let mut grown = false;
@@ -51,8 +51,8 @@ fn spread(t: TableParts, set: &mut [u8]) -> bool
 
 // From state 0 alone to all that are reached: a round for each transition, unless a round adds none.
 fn close(t: TableParts, set: &mut [u8])
-    requires { (length set.old ≡ stateBytes) × ((s : ℕ) → mem set.old s ≡ eqb s 0) }
-    ensures { (s : ℕ) → mem set.new s ≡ is_reached (monitorOf t) s }
+    requires { (length set.old ≡ state_bytes) × ((s : ℕ) → mem set.old s ≡ eqb s 0) }
+    ensures { (s : ℕ) → mem set.new s ≡ is_reached (monitor_of t) s }
 {
     let n = t.transitions;
     let mut round = 0;
@@ -66,7 +66,7 @@ fn close(t: TableParts, set: &mut [u8])
 
 // The lowest state that is not in the set.
 fn first_absent(set: &[u8], states: u8) -> Reading
-    ensures { result ≡ lowestMissing (mem set.now) states }
+    ensures { result ≡ lowest_missing (mem set.now) states }
 {
     let mut left = states;
     while 0 < left {
@@ -81,8 +81,8 @@ fn first_absent(set: &[u8], states: u8) -> Reading
 
 // 17 with the lowest state that cannot be reached, or no number.
 pub fn states_answer(t: TableParts) -> Reading
-    ensures value { result ≡ statesAnswer (monitorOf t) }
-    ensures states_judged { StatesJudged (monitorOf t) result }
+    ensures value { result ≡ states_answer (monitor_of t) }
+    ensures states_judged { StatesJudged (monitor_of t) result }
 {
     let mut set = [0u8; STATE_BYTES];
     put(&mut set, 0);

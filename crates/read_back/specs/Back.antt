@@ -1,10 +1,10 @@
 -- Parts written into a room and read back from what was written (demand 2): the first refusal of either, else the same parts.
 use Rattle.std.specs.Prelude.{ℕ, ◌≡◌, List, take}
 use Rattle.model.specs.Room.{Lent}
-use Rattle.model.specs.Numbers.{values, readingValues}
-use Rattle.model.specs.Table.{readTable, noTable}
-use Rattle.model.specs.Recording.{readRecording, noRecording}
-use Rattle.model.specs.Witness.{readWitness, noWitness}
+use Rattle.model.specs.Numbers.{values, reading_values}
+use Rattle.model.specs.Table.{read_table, no_table}
+use Rattle.model.specs.Recording.{read_recording, no_recording}
+use Rattle.model.specs.Witness.{read_witness, no_witness}
 use Rattle.model.specs.Same.{SameTable, TableZero, SameRecording, RecordingZero, SameWitness, WitnessZero}
 use Rattle.model.specs.declared.Edition.{Edition}
 use Rattle.model.specs.declared.TableParts.{TableParts}
@@ -25,38 +25,38 @@ back_by read refused (Unwritten why) = refused why
 
 -- by writing's answer and the room after it
 
-abbrev pub tableBack : Lent → TableReading
-tableBack given = back_by (λ n. readTable (take n given.room)) (λ why. record { answer = Unsound why; parts = noTable }) given.answer
+abbrev pub table_back : Lent → TableReading
+table_back given = back_by (λ n. read_table (take n given.room)) (λ why. record { answer = Unsound why; parts = no_table }) given.answer
 
-abbrev pub recordingBack : List ℕ → Lent → RecordingReading
-recordingBack table given =
-    back_by (λ n. readRecording table (take n given.room)) (λ why. record { answer = Unsound why; parts = noRecording }) given.answer
+abbrev pub recording_back : List ℕ → Lent → RecordingReading
+recording_back table given =
+    back_by (λ n. read_recording table (take n given.room)) (λ why. record { answer = Unsound why; parts = no_recording }) given.answer
 
-abbrev pub witnessBack : Edition → Lent → WitnessReading
-witnessBack edition given = back_by (λ n. readWitness edition (take n given.room)) (λ why. record { answer = Unsound why; parts = noWitness }) given.answer
+abbrev pub witness_back : Edition → Lent → WitnessReading
+witness_back edition given = back_by (λ n. read_witness edition (take n given.room)) (λ why. record { answer = Unsound why; parts = no_witness }) given.answer
 
 -- sound, with the numbers 0, 0 and 0, the same parts, and 0 beyond them
 
 pub record TableKept (t : TableParts) (x : TableReading) : Type 0 where
   pub sound : x.answer ≡ Sound
-  pub numbers : readingValues x.answer ≡ values 0 0 0
+  pub numbers : reading_values x.answer ≡ values 0 0 0
   pub same : SameTable x.parts t
   pub beyond : TableZero x.parts
 
 pub record RecordingKept (r : RecordingParts) (x : RecordingReading) : Type 0 where
   pub sound : x.answer ≡ Sound
-  pub numbers : readingValues x.answer ≡ values 0 0 0
+  pub numbers : reading_values x.answer ≡ values 0 0 0
   pub same : SameRecording x.parts r
   pub beyond : RecordingZero x.parts
 
 pub record WitnessKept (w : WitnessParts) (x : WitnessReading) : Type 0 where
   pub sound : x.answer ≡ Sound
-  pub numbers : readingValues x.answer ≡ values 0 0 0
+  pub numbers : reading_values x.answer ≡ values 0 0 0
   pub same : SameWitness x.parts w
   pub beyond : WitnessZero x.parts
 
 -- room and reading are the definition's; and where something was written, it is kept
-pub record ReadsBack (given : Lent) (roomThen : List ℕ) {A : Type 0} (read x : A) (kept : Type 0) : Type 0 where
-  pub lent : roomThen ≡ given.room
+pub record ReadsBack (given : Lent) (room_then : List ℕ) {A : Type 0} (read x : A) (kept : Type 0) : Type 0 where
+  pub lent : room_then ≡ given.room
   pub answered : x ≡ read
   pub back : (n : ℕ) → given.answer ≡ Written n → kept

@@ -1,10 +1,10 @@
 // Parts written into a room and read back from what was written: the first refusal of either, else the same parts.
 ghost use Rattle.std.specs.Prelude.{◌≡◌};
-ghost use Rattle.model.specs.Table.{writeTable, noTable};
-ghost use Rattle.model.specs.Recording.{writeRecording, noRecording};
-ghost use Rattle.model.specs.Witness.{writeWitness, noWitness};
+ghost use Rattle.model.specs.Table.{write_table, no_table};
+ghost use Rattle.model.specs.Recording.{write_recording, no_recording};
+ghost use Rattle.model.specs.Witness.{write_witness, no_witness};
 ghost use Rattle.model.specs.declared.Reading.TheVariants.{Unsound};
-ghost use Rattle.read_back.specs.Back.{tableBack, recordingBack, witnessBack, TableKept, RecordingKept, WitnessKept, ReadsBack};
+ghost use Rattle.read_back.specs.Back.{table_back, recording_back, witness_back, TableKept, RecordingKept, WitnessKept, ReadsBack};
 
 use model::{
     Edition, Reading, RecordingParts, RecordingReading, Refusal, TableParts, TableReading,
@@ -16,7 +16,7 @@ use witnesses::{read_witness, write_witness};
 
 // No bytes are no table: reading them gives parts that are all 0.
 fn refused_table(why: Refusal) -> TableReading
-    ensures { (result.answer ≡ Unsound why) × (result.parts ≡ noTable) }
+    ensures { (result.answer ≡ Unsound why) × (result.parts ≡ no_table) }
 {
     let none = [0u8; 0];
     let reading = read_table(&none);
@@ -26,7 +26,7 @@ fn refused_table(why: Refusal) -> TableReading
 }
 
 pub fn table_back(t: TableParts, room: &mut [u8]) -> TableReading
-    ensures { ReadsBack (writeTable t room.old) room.new (tableBack (writeTable t room.old)) result (TableKept t result) }
+    ensures { ReadsBack (write_table t room.old) room.new (table_back (write_table t room.old)) result (TableKept t result) }
 {
     let written = write_table(t, room);
     match written {
@@ -39,7 +39,7 @@ pub fn table_back(t: TableParts, room: &mut [u8]) -> TableReading
 }
 
 fn refused_recording(why: Refusal) -> RecordingReading
-    ensures { (result.answer ≡ Unsound why) × (result.parts ≡ noRecording) }
+    ensures { (result.answer ≡ Unsound why) × (result.parts ≡ no_recording) }
 {
     let none = [0u8; 0];
     let reading = read_recording(&none, &none);
@@ -49,7 +49,7 @@ fn refused_recording(why: Refusal) -> RecordingReading
 }
 
 pub fn recording_back(table: &[u8], r: RecordingParts, room: &mut [u8]) -> RecordingReading
-    ensures { ReadsBack (writeRecording table.now r room.old) room.new (recordingBack table.now (writeRecording table.now r room.old)) result (RecordingKept r result) }
+    ensures { ReadsBack (write_recording table.now r room.old) room.new (recording_back table.now (write_recording table.now r room.old)) result (RecordingKept r result) }
 {
     let written = write_recording(table, r, room);
     match written {
@@ -62,7 +62,7 @@ pub fn recording_back(table: &[u8], r: RecordingParts, room: &mut [u8]) -> Recor
 }
 
 fn refused_witness(why: Refusal) -> WitnessReading
-    ensures { (result.answer ≡ Unsound why) × (result.parts ≡ noWitness) }
+    ensures { (result.answer ≡ Unsound why) × (result.parts ≡ no_witness) }
 {
     let none = [0u8; 0];
     let reading = read_witness(Edition::One, &none);
@@ -72,7 +72,7 @@ fn refused_witness(why: Refusal) -> WitnessReading
 }
 
 pub fn witness_back(edition: Edition, w: WitnessParts, room: &mut [u8]) -> WitnessReading
-    ensures { ReadsBack (writeWitness edition w room.old) room.new (witnessBack edition (writeWitness edition w room.old)) result (WitnessKept w result) }
+    ensures { ReadsBack (write_witness edition w room.old) room.new (witness_back edition (write_witness edition w room.old)) result (WitnessKept w result) }
 {
     let written = write_witness(edition, w, room);
     match written {

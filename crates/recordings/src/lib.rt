@@ -1,13 +1,13 @@
 // The recording, read and written against a table, whose numbers come first.
 ghost use Rattle.std.specs.Prelude.{◌≡◌, ◌++◌, ◌+◌, ◌*◌, ◌<◌, ◌≤◌, length};
 ghost use Rattle.model.specs.Answers.{Reads, Writes};
-ghost use Rattle.model.specs.Limits.{rowLimit};
+ghost use Rattle.model.specs.Limits.{row_limit};
 ghost use Rattle.model.specs.Bytes.{joined};
-ghost use Rattle.model.specs.Frame.{rowsFrame};
+ghost use Rattle.model.specs.Frame.{rows_frame};
 ghost use Rattle.model.specs.Room.{over};
 ghost use Rattle.wire.specs.Placed.{placed};
 ghost use Rattle.model.specs.declared.Edition.TheVariants.{One};
-ghost use Rattle.model.specs.Recording.{countAt, clearOfBefore, recordedRow, recordedRows, recordingFrame, recordingScan, recordingAnswer, recordingParts, noRecording, readRecording, recordedBytes, recordingEarly, writeRecording};
+ghost use Rattle.model.specs.Recording.{count_at, clear_of_before, recorded_row, recorded_rows, recording_frame, recording_scan, recording_answer, recording_parts, no_recording, read_recording, recorded_bytes, recording_early, write_recording};
 
 use columns::{bytes_column, words_column};
 use frame::{put, put_frame, rows_framed, sound};
@@ -22,7 +22,7 @@ const LIMIT: u32 = ROW_LIMIT as u32;
 // Row i does not overlap or precede the row before it.
 fn clear_of_before(table: &[u8], b: &[u8], i: usize) -> bool
     requires { i < 65536 }
-    ensures { result ≡ clearOfBefore table.now b.now i }
+    ensures { result ≡ clear_of_before table.now b.now i }
 {
     if i == 0 {
         return true;
@@ -35,7 +35,7 @@ fn clear_of_before(table: &[u8], b: &[u8], i: usize) -> bool
 // No time is too late: the latest is the largest that two bytes can say.
 fn recorded_row(table: &[u8], b: &[u8], i: usize) -> Reading
     requires { i < 65536 }
-    ensures { result ≡ recordedRow table.now b.now i }
+    ensures { result ≡ recorded_row table.now b.now i }
 {
     let time = word(b, 5 + 3 * i);
     if time < 1 {
@@ -51,7 +51,7 @@ fn recorded_row(table: &[u8], b: &[u8], i: usize) -> Reading
 }
 
 fn recorded_rows(table: &[u8], b: &[u8]) -> Reading
-    ensures { result ≡ recordedRows (countAt b.now) table.now b.now 0 }
+    ensures { result ≡ recorded_rows (count_at b.now) table.now b.now 0 }
 {
     let n = word(b, 3) as usize;
     let mut i = 0;
@@ -67,7 +67,7 @@ fn recorded_rows(table: &[u8], b: &[u8]) -> Reading
 
 // 20, 21 and 22.
 pub fn recording_frame(b: &[u8]) -> Reading
-    ensures { result ≡ recordingFrame b.now }
+    ensures { result ≡ recording_frame b.now }
 {
     rows_framed(
         Edition::One,
@@ -82,7 +82,7 @@ pub fn recording_frame(b: &[u8]) -> Reading
 
 // The recording's own numbers, 20 to 24, against a table that was read before.
 pub fn recording_scan(table: &[u8], b: &[u8]) -> Reading
-    ensures { result ≡ recordingScan table.now b.now }
+    ensures { result ≡ recording_scan table.now b.now }
 {
     let frame = recording_frame(b);
     if !sound(frame) {
@@ -93,7 +93,7 @@ pub fn recording_scan(table: &[u8], b: &[u8]) -> Reading
 
 // The table's numbers, then the recording's own.
 pub fn recording_answer(table: &[u8], b: &[u8]) -> Reading
-    ensures { result ≡ recordingAnswer table.now b.now }
+    ensures { result ≡ recording_answer table.now b.now }
 {
     let first = table_answer(table);
     if !sound(first) {
@@ -103,8 +103,8 @@ pub fn recording_answer(table: &[u8], b: &[u8]) -> Reading
 }
 
 fn time_column(b: &[u8]) -> [u16; ROW_LIMIT]
-    requires { countAt b.now ≤ rowLimit }
-    ensures { result ≡ (recordingParts b.now).times }
+    requires { count_at b.now ≤ row_limit }
+    ensures { result ≡ (recording_parts b.now).times }
 {
     let mut times = [0u16; ROW_LIMIT];
     words_column(b, 5, 3, word(b, 3) as u32, &mut times);
@@ -112,8 +112,8 @@ fn time_column(b: &[u8]) -> [u16; ROW_LIMIT]
 }
 
 fn kind_column(b: &[u8]) -> [u8; ROW_LIMIT]
-    requires { countAt b.now ≤ rowLimit }
-    ensures { result ≡ (recordingParts b.now).kinds }
+    requires { count_at b.now ≤ row_limit }
+    ensures { result ≡ (recording_parts b.now).kinds }
 {
     let mut kinds = [0u8; ROW_LIMIT];
     bytes_column(b, 7, 3, word(b, 3) as u32, &mut kinds);
@@ -121,7 +121,7 @@ fn kind_column(b: &[u8]) -> [u8; ROW_LIMIT]
 }
 
 fn no_recording() -> RecordingParts
-    ensures { result ≡ noRecording }
+    ensures { result ≡ no_recording }
 {
     RecordingParts {
         count: 0,
@@ -131,8 +131,8 @@ fn no_recording() -> RecordingParts
 }
 
 pub fn read_recording(table: &[u8], b: &[u8]) -> RecordingReading
-    ensures value { result ≡ readRecording table.now b.now }
-    ensures reads { Reads (recordingAnswer table.now b.now) (recordingParts b.now) noRecording result.answer result.parts }
+    ensures value { result ≡ read_recording table.now b.now }
+    ensures reads { Reads (recording_answer table.now b.now) (recording_parts b.now) no_recording result.answer result.parts }
 {
     let answer = recording_answer(table, b);
     if !sound(answer) {
@@ -154,8 +154,8 @@ pub fn read_recording(table: &[u8], b: &[u8]) -> RecordingReading
 }
 
 fn put_row<'a>(times: &'a [u16], kinds: &'a [u8], i: usize, out: &mut [u8])
-    requires { i < rowLimit }
-    ensures { out.new ≡ placed (recordedBytes times.now kinds.now i) (5 + 3 * i) out.old }
+    requires { i < row_limit }
+    ensures { out.new ≡ placed (recorded_bytes times.now kinds.now i) (5 + 3 * i) out.old }
 {
     let time = short(times, i);
     let row = [(time / 256) as u8, (time % 256) as u8, byte(kinds, i)];
@@ -163,8 +163,8 @@ fn put_row<'a>(times: &'a [u16], kinds: &'a [u8], i: usize, out: &mut [u8])
 }
 
 fn encode<'a>(times: &'a [u16], kinds: &'a [u8], count: usize, out: &mut [u8])
-    requires { (count ≤ rowLimit) × (5 + 3 * count ≤ length out.old) }
-    ensures { out.new ≡ over (rowsFrame One 3 count ++ joined (recordedBytes times.now kinds.now) count) out.old }
+    requires { (count ≤ row_limit) × (5 + 3 * count ≤ length out.old) }
+    ensures { out.new ≡ over (rows_frame One 3 count ++ joined (recorded_bytes times.now kinds.now) count) out.old }
 {
     put_frame(Edition::One, 3, count as u32, out);
     let mut i = 0;
@@ -176,7 +176,7 @@ fn encode<'a>(times: &'a [u16], kinds: &'a [u8], count: usize, out: &mut [u8])
 
 // The table's numbers, then 22 for a count outside its limits.
 fn early_answer(table: &[u8], count: usize) -> Reading
-    ensures { result ≡ recordingEarly table.now count }
+    ensures { result ≡ recording_early table.now count }
 {
     let first = table_answer(table);
     if !sound(first) {
@@ -189,7 +189,7 @@ fn early_answer(table: &[u8], count: usize) -> Reading
 }
 
 pub fn write_recording(table: &[u8], r: RecordingParts, room: &mut [u8]) -> Writing
-    ensures { Writes (writeRecording table.now r room.old) result room.new }
+    ensures { Writes (write_recording table.now r room.old) result room.new }
 {
     let count = r.count as usize;
     let early = early_answer(table, count);

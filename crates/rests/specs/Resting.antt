@@ -3,11 +3,11 @@ use Rattle.std.specs.Prelude.{ℕ, ◌+◌, map, true, false}
 use Rattle.std.proofs.Math.Option
 use Rattle.std.proofs.Math.Option.{Option, none, some}
 use Rattle.model.specs.Monitor.{Monitor}
-use Rattle.model.specs.Situation.{Move, tick, missed, stepBy}
+use Rattle.model.specs.Situation.{Move, tick, missed, step_by}
 use Rattle.model.specs.declared.Config.{Config}
 use Rattle.model.specs.declared.Situation.{Situation}
 use Rattle.situation.specs.declared.Shape.{Shape}
-use Rattle.situation.specs.Numbering.{cappedBy}
+use Rattle.situation.specs.Numbering.{capped_by}
 use Rattle.situation.specs.declared.Next.{Next}
 
 -- what a step from situation s answers; where it leads nowhere, s stands there
@@ -16,14 +16,14 @@ leading s none = record { leads = false; to = s }
 leading s (some x) = record { leads = true; to = x }
 
 -- a configuration one tick later, with the ticks for which the air is then taken, and the window
-abbrev pub tickedBy : Shape → Config → (air window : ℕ) → Situation
-tickedBy h c air window =
-    record { state = c.state; variables = c.variables; clocks = cappedBy h (map (λ x. x + 1) c.clocks); air = air; window = window }
+abbrev pub ticked_by : Shape → Config → (air window : ℕ) → Situation
+ticked_by h c air window =
+    record { state = c.state; variables = c.variables; clocks = capped_by h (map (λ x. x + 1) c.clocks); air = air; window = window }
 
 -- the model's step, with clocks written by a shape
 unfoldable pub stepped : Shape → Monitor → Option ℕ → Situation → Move → Next
-stepped h m recorded s a = leading s (stepBy m (cappedBy h) recorded s a)
+stepped h m recorded s a = leading s (step_by m (capped_by h) recorded s a)
 
 -- its part: a removed row, and then the tick
-unfoldable pub missedBy : Shape → Monitor → (k : ℕ) → Situation → Next
-missedBy h m k s = leading s (Option.map (tick (cappedBy h)) (missed m k s))
+unfoldable pub missed_by : Shape → Monitor → (k : ℕ) → Situation → Next
+missed_by h m k s = leading s (Option.map (tick (capped_by h)) (missed m k s))

@@ -1,11 +1,11 @@
 // A situation's tick, and what a rest or a removed row makes of it. Each function takes any input.
 ghost use Rattle.std.specs.Prelude.{◌≡◌, List, ℕ, ◌+◌, ◌-◌, min};
 ghost use Rattle.std.proofs.Math.Option.{none};
-ghost use Rattle.model.specs.Situation.{rest, configOf, tick};
-ghost use Rattle.situation.specs.Numbering.{cappedBy};
-ghost use Rattle.situation.specs.Rows.{heardOf};
-ghost use Rattle.situation.specs.Ruled.{ruledFrom};
-ghost use Rattle.rests.specs.Resting.{leading, tickedBy, missedBy, stepped};
+ghost use Rattle.model.specs.Situation.{rest, config_of, tick};
+ghost use Rattle.situation.specs.Numbering.{capped_by};
+ghost use Rattle.situation.specs.Rows.{heard_of};
+ghost use Rattle.situation.specs.Ruled.{ruled_from};
+ghost use Rattle.rests.specs.Resting.{leading, ticked_by, missed_by, stepped};
 
 use model::{Config, Situation};
 use monitor::{airtime_of, to_unit};
@@ -27,7 +27,7 @@ fn clock_ticked(reads: u16, values: u16) -> u16
 
 // A configuration one tick later, with the ticks for which the air is then taken, and the window.
 pub fn ticked(h: Shape, c: Config, air: u8, window: u8) -> Situation
-    ensures { result ≡ tickedBy h c air window }
+    ensures { result ≡ ticked_by h c air window }
 {
     let clocks = c.clocks;
     let first = clock_ticked(clocks[0], h.first);
@@ -42,7 +42,7 @@ pub fn ticked(h: Shape, c: Config, air: u8, window: u8) -> Situation
 }
 
 pub fn config_of(s: Situation) -> Config
-    ensures { result ≡ configOf s }
+    ensures { result ≡ config_of s }
 {
     let clocks = s.clocks;
     Config {
@@ -54,7 +54,7 @@ pub fn config_of(s: Situation) -> Config
 
 // Nothing is sent.
 fn still(h: Shape, s: Situation) -> Situation
-    ensures { result ≡ tick (cappedBy h) s }
+    ensures { result ≡ tick (capped_by h) s }
 {
     if s.air == 0 {
         return ticked(h, config_of(s), 0, s.window);
@@ -73,7 +73,7 @@ pub fn nowhere(s: Situation) -> Next
 
 // A recorded row of a kind is removed, where it is to the unit and the air is free. It takes the air; the unit missed it.
 fn missed(table: &[u8], h: Shape, kind: u8, s: Situation) -> Next
-    ensures { (offsets : List ℕ) → result ≡ missedBy h (ruledFrom h table.now offsets) kind s }
+    ensures { (offsets : List ℕ) → result ≡ missed_by h (ruled_from h table.now offsets) kind s }
 {
     if 0 < s.air {
         return nowhere(s);
@@ -87,7 +87,7 @@ fn missed(table: &[u8], h: Shape, kind: u8, s: Situation) -> Next
 }
 
 pub fn rested(table: &[u8], h: Shape, heard: Heard, s: Situation) -> Next
-    ensures { (offsets : List ℕ) → result ≡ stepped h (ruledFrom h table.now offsets) (heardOf heard) s rest }
+    ensures { (offsets : List ℕ) → result ≡ stepped h (ruled_from h table.now offsets) (heard_of heard) s rest }
 {
     match heard {
         Heard::Nothing => Next {

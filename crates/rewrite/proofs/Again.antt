@@ -7,15 +7,15 @@ use lib.ListN.{length}
 use lib.Dec.{leb}
 use borrow.Author.Tests.{le-leb}
 use mathlib.Core.Bool.{cond}
-use Rattle.model.specs.Limits.{rowLimit}
-use Rattle.model.specs.Edition.{countPlace, mostRows}
+use Rattle.model.specs.Limits.{row_limit}
+use Rattle.model.specs.Edition.{count_place, most_rows}
 use Rattle.model.specs.Answers.{Writes}
-use Rattle.model.specs.First.{unless, first_of, isSound}
+use Rattle.model.specs.First.{unless, first_of, is_sound}
 use Rattle.model.specs.Bytes.{tab}
 use Rattle.model.specs.Room.{Lent, over, write}
-use Rattle.model.specs.Table.{tableAnswer, table_parts, noTable, readTable, writeTable, answerWith, deviceColumn}
-use Rattle.model.specs.Recording.{recordingAnswer, recordingParts, noRecording, readRecording, recordingEarly, recordingWritable, writeRecording, countAt}
-use Rattle.model.specs.Witness.{rowPlace, rowAt, witnessAnswer, witnessParts, witnessBytes, witnessWritable, writeWitness, witnessCountAt}
+use Rattle.model.specs.Table.{table_answer, table_parts, no_table, read_table, write_table, answer_with, device_column}
+use Rattle.model.specs.Recording.{recording_answer, recording_parts, no_recording, read_recording, recording_early, recording_writable, write_recording, count_at}
+use Rattle.model.specs.Witness.{row_place, row_at, witness_answer, witness_parts, witness_bytes, witness_writable, write_witness, witness_count_at}
 use Rattle.model.specs.declared.Edition.{Edition}
 use Rattle.model.specs.declared.TableParts.{TableParts}
 use Rattle.model.specs.declared.TableReading.{TableReading}
@@ -27,13 +27,13 @@ use Rattle.model.specs.declared.Refusal.{Refusal}
 use Rattle.model.specs.declared.Refusal.TheVariants.{WriteRoom, WitnessCount}
 use Rattle.model.specs.declared.Writing.{Writing}
 use Rattle.model.specs.declared.Writing.TheVariants.{Written, Unwritten}
-use Rattle.model.proofs.AnswerLaws.{writes-by}
+use Rattle.model.proofs.AnswerLaws.{writes_by}
 use Rattle.model.proofs.Places.{AllBytes}
-use Rattle.model.proofs.TableTrip.{table-again}
-use Rattle.model.proofs.RecordingForm.{recording-facts, sound-table, recording-again}
-use Rattle.model.proofs.WitnessForm.{witness-facts, witness-again, witness-rows}
+use Rattle.model.proofs.TableTrip.{table_again}
+use Rattle.model.proofs.RecordingForm.{recording_facts, sound_table, recording_again}
+use Rattle.model.proofs.WitnessForm.{witness_facts, witness_again, witness_rows}
 use Rattle.frame.proofs.Written.{write-short}
-use Rattle.rewrite.specs.Rewriting.{again, Rewrites, rewriteTable, rewriteRecording, rewriteWitness}
+use Rattle.rewrite.specs.Rewriting.{again, Rewrites, rewrite_table, rewrite_recording, rewrite_witness}
 
 module _ (answer : Reading) (b room : List ℕ) (written : Lent) (same : answer ≡ Sound → written ≡ write Sound b room) where
   same-again : answer ≡ Sound → again answer written room ≡ write Sound b room
@@ -42,104 +42,104 @@ module _ (answer : Reading) (b room : List ℕ) (written : Lent) (same : answer 
   pub refused : (why : Refusal) → answer ≡ Unsound why → Rewrites answer b room room (again answer written room) (Unwritten why)
   refused why e =
       record {
-        writes = writes-by _ _ _ (ap (λ (a : Reading). (again a written room).answer) (sym e)) (ap (λ (a : Reading). (again a written room).room) (sym e));
+        writes = writes_by _ _ _ (ap (λ (a : Reading). (again a written room).answer) (sym e)) (ap (λ (a : Reading). (again a written room).room) (sym e));
         same = same-again;
       }
 
-  pub rewritten : answer ≡ Sound → (r : Writing) (roomThen : List ℕ) → Writes written r roomThen → Rewrites answer b room roomThen (again answer written room) r
-  rewritten e r roomThen w = record { writes = subst (λ (a : Reading). Writes (again a written room) r roomThen) (sym e) w; same = same-again }
+  pub rewritten : answer ≡ Sound → (r : Writing) (room_then : List ℕ) → Writes written r room_then → Rewrites answer b room room_then (again answer written room) r
+  rewritten e r room_then w = record { writes = subst (λ (a : Reading). Writes (again a written room) r room_then) (sym e) w; same = same-again }
 
-pub table_same : (b room : List ℕ) → AllBytes b → tableAnswer b ≡ Sound → writeTable (table_parts b) room ≡ write Sound b room
-unfolding writeTable table_parts tableAnswer
+pub table_same : (b room : List ℕ) → AllBytes b → table_answer b ≡ Sound → write_table (table_parts b) room ≡ write Sound b room
+unfolding write_table table_parts table_answer
 table_same b room bytes sound =
-    ap (λ (x : List ℕ). write (answerWith (deviceColumn b) x) x room) (table-again b bytes sound) ∙ ap (λ (a : Reading). write a b room) sound
+    ap (λ (x : List ℕ). write (answer_with (device_column b) x) x room) (table_again b bytes sound) ∙ ap (λ (a : Reading). write a b room) sound
 
-pub recording-same : (table b room : List ℕ) → AllBytes b → recordingAnswer table b ≡ Sound → writeRecording table (recordingParts b) room ≡ write Sound b room
-unfolding writeRecording recordingWritable recordingEarly recordingParts
-recording-same table b room bytes sound =
-    ap (λ (x : List ℕ). write (first_of (recordingEarly table (countAt b) ∷ recordingAnswer table x ∷ [])) x room)
-    (recording-again table b bytes sound)
+pub recording_same : (table b room : List ℕ) → AllBytes b → recording_answer table b ≡ Sound → write_recording table (recording_parts b) room ≡ write Sound b room
+unfolding write_recording recording_writable recording_early recording_parts
+recording_same table b room bytes sound =
+    ap (λ (x : List ℕ). write (first_of (recording_early table (count_at b) ∷ recording_answer table x ∷ [])) x room)
+    (recording_again table b bytes sound)
     ∙ ap (λ (a : Reading). write a b room) writable
   where
-    writable : first_of (recordingEarly table (countAt b) ∷ recordingAnswer table b ∷ []) ≡ Sound
-    writable = rw (sound-table table b sound, le-leb (countAt b) rowLimit (recording-facts table b sound).rows.count, sound)
+    writable : first_of (recording_early table (count_at b) ∷ recording_answer table b ∷ []) ≡ Sound
+    writable = rw (sound_table table b sound, le-leb (count_at b) row_limit (recording_facts table b sound).rows.count, sound)
 
-pub witness-same : (edition : Edition) (b room : List ℕ) → AllBytes b → witnessAnswer edition b ≡ Sound → writeWitness edition (witnessParts edition b) room ≡ write Sound b room
-unfolding writeWitness witnessWritable witnessParts
-witness-same edition b room bytes sound =
-    ap (λ (x : List ℕ). write (first_of (unless (leb (witnessCountAt edition b) (mostRows edition)) (WitnessCount (countPlace edition)) ∷ witnessAnswer edition x ∷ [])) x room)
-    (ap (witnessBytes edition) (witness-rows edition b) ∙ witness-again edition b bytes sound)
+pub witness_same : (edition : Edition) (b room : List ℕ) → AllBytes b → witness_answer edition b ≡ Sound → write_witness edition (witness_parts edition b) room ≡ write Sound b room
+unfolding write_witness witness_writable witness_parts
+witness_same edition b room bytes sound =
+    ap (λ (x : List ℕ). write (first_of (unless (leb (witness_count_at edition b) (most_rows edition)) (WitnessCount (count_place edition)) ∷ witness_answer edition x ∷ [])) x room)
+    (ap (witness_bytes edition) (witness_rows edition b) ∙ witness_again edition b bytes sound)
     ∙ ap (λ (a : Reading). write a b room) writable
   where
-    writable : first_of (unless (leb (witnessCountAt edition b) (mostRows edition)) (WitnessCount (countPlace edition)) ∷ witnessAnswer edition b ∷ []) ≡ Sound
-    writable = rw (le-leb (witnessCountAt edition b) (mostRows edition) (witness-facts edition b sound).rows.count, sound)
+    writable : first_of (unless (leb (witness_count_at edition b) (most_rows edition)) (WitnessCount (count_place edition)) ∷ witness_answer edition b ∷ []) ≡ Sound
+    writable = rw (le-leb (witness_count_at edition b) (most_rows edition) (witness_facts edition b sound).rows.count, sound)
 
 -- the functions' ways out, by what reading gave
 
-module _ (b room : List ℕ) (bytes : AllBytes b) (x : TableReading) (read : x ≡ readTable b) where
-  unfolded-table : tableAnswer b ≡ x.answer
-  unfolding readTable
-  unfolded-table = ap (λ (y : TableReading). y.answer) (sym read)
+module _ (b room : List ℕ) (bytes : AllBytes b) (x : TableReading) (read : x ≡ read_table b) where
+  unfolded_table : table_answer b ≡ x.answer
+  unfolding read_table
+  unfolded_table = ap (λ (y : TableReading). y.answer) (sym read)
 
-  pub table-refused : (why : Refusal) → x.answer ≡ Unsound why → Rewrites (tableAnswer b) b room room (rewriteTable b room) (Unwritten why)
-  unfolding rewriteTable
-  table-refused why e = refused (tableAnswer b) b room (writeTable (table_parts b) room) (table_same b room bytes) why (unfolded-table ∙ e)
+  pub table_refused : (why : Refusal) → x.answer ≡ Unsound why → Rewrites (table_answer b) b room room (rewrite_table b room) (Unwritten why)
+  unfolding rewrite_table
+  table_refused why e = refused (table_answer b) b room (write_table (table_parts b) room) (table_same b room bytes) why (unfolded_table ∙ e)
 
-  pub table-rewritten : x.answer ≡ Sound → (r : Writing) (roomThen : List ℕ) → Writes (writeTable x.parts room) r roomThen
-      → Rewrites (tableAnswer b) b room roomThen (rewriteTable b room) r
-  unfolding rewriteTable readTable
-  table-rewritten e r roomThen w =
-      let parts : x.parts ≡ table_parts b = ap (λ (y : TableReading). y.parts) read ∙ ap (λ (a : Reading). cond (isSound a) (table_parts b) noTable) (unfolded-table ∙ e) in
-      rewritten (tableAnswer b) b room (writeTable (table_parts b) room) (table_same b room bytes) (unfolded-table ∙ e) r roomThen
-      (subst (λ (t : TableParts). Writes (writeTable t room) r roomThen) parts w)
+  pub table_rewritten : x.answer ≡ Sound → (r : Writing) (room_then : List ℕ) → Writes (write_table x.parts room) r room_then
+      → Rewrites (table_answer b) b room room_then (rewrite_table b room) r
+  unfolding rewrite_table read_table
+  table_rewritten e r room_then w =
+      let parts : x.parts ≡ table_parts b = ap (λ (y : TableReading). y.parts) read ∙ ap (λ (a : Reading). cond (is_sound a) (table_parts b) no_table) (unfolded_table ∙ e) in
+      rewritten (table_answer b) b room (write_table (table_parts b) room) (table_same b room bytes) (unfolded_table ∙ e) r room_then
+      (subst (λ (t : TableParts). Writes (write_table t room) r room_then) parts w)
 
-module _ (table b room : List ℕ) (bytes : AllBytes b) (x : RecordingReading) (read : x ≡ readRecording table b) where
-  unfolded-recording : recordingAnswer table b ≡ x.answer
-  unfolding readRecording
-  unfolded-recording = ap (λ (y : RecordingReading). y.answer) (sym read)
+module _ (table b room : List ℕ) (bytes : AllBytes b) (x : RecordingReading) (read : x ≡ read_recording table b) where
+  unfolded_recording : recording_answer table b ≡ x.answer
+  unfolding read_recording
+  unfolded_recording = ap (λ (y : RecordingReading). y.answer) (sym read)
 
-  pub recording-refused : (why : Refusal) → x.answer ≡ Unsound why → Rewrites (recordingAnswer table b) b room room (rewriteRecording table b room) (Unwritten why)
-  unfolding rewriteRecording
-  recording-refused why e =
-      refused (recordingAnswer table b) b room (writeRecording table (recordingParts b) room) (recording-same table b room bytes) why (unfolded-recording ∙ e)
+  pub recording_refused : (why : Refusal) → x.answer ≡ Unsound why → Rewrites (recording_answer table b) b room room (rewrite_recording table b room) (Unwritten why)
+  unfolding rewrite_recording
+  recording_refused why e =
+      refused (recording_answer table b) b room (write_recording table (recording_parts b) room) (recording_same table b room bytes) why (unfolded_recording ∙ e)
 
-  pub recording-rewritten : x.answer ≡ Sound → (r : Writing) (roomThen : List ℕ) → Writes (writeRecording table x.parts room) r roomThen → Rewrites (recordingAnswer table b) b room roomThen (rewriteRecording table b room) r
-  unfolding rewriteRecording readRecording
-  recording-rewritten e r roomThen w =
-      let parts : x.parts ≡ recordingParts b =
-      ap (λ (y : RecordingReading). y.parts) read ∙ ap (λ (a : Reading). cond (isSound a) (recordingParts b) noRecording) (unfolded-recording ∙ e)
+  pub recording_rewritten : x.answer ≡ Sound → (r : Writing) (room_then : List ℕ) → Writes (write_recording table x.parts room) r room_then → Rewrites (recording_answer table b) b room room_then (rewrite_recording table b room) r
+  unfolding rewrite_recording read_recording
+  recording_rewritten e r room_then w =
+      let parts : x.parts ≡ recording_parts b =
+      ap (λ (y : RecordingReading). y.parts) read ∙ ap (λ (a : Reading). cond (is_sound a) (recording_parts b) no_recording) (unfolded_recording ∙ e)
       in
-      rewritten (recordingAnswer table b) b room (writeRecording table (recordingParts b) room) (recording-same table b room bytes) (unfolded-recording ∙ e) r roomThen
-      (subst (λ (t : RecordingParts). Writes (writeRecording table t room) r roomThen) parts w)
+      rewritten (recording_answer table b) b room (write_recording table (recording_parts b) room) (recording_same table b room bytes) (unfolded_recording ∙ e) r room_then
+      (subst (λ (t : RecordingParts). Writes (write_recording table t room) r room_then) parts w)
 
-module _ (edition : Edition) (b room : List ℕ) (bytes : AllBytes b) (answer : Reading) (is : answer ≡ witnessAnswer edition b) where
+module _ (edition : Edition) (b room : List ℕ) (bytes : AllBytes b) (answer : Reading) (is : answer ≡ witness_answer edition b) where
   written : Lent
-  written = writeWitness edition (witnessParts edition b) room
+  written = write_witness edition (witness_parts edition b) room
 
-  pub witness-refused : (why : Refusal) → answer ≡ Unsound why → Rewrites (witnessAnswer edition b) b room room (rewriteWitness edition b room) (Unwritten why)
-  unfolding rewriteWitness written
-  witness-refused why e = refused (witnessAnswer edition b) b room written (witness-same edition b room bytes) why (sym is ∙ e)
+  pub witness_refused : (why : Refusal) → answer ≡ Unsound why → Rewrites (witness_answer edition b) b room room (rewrite_witness edition b room) (Unwritten why)
+  unfolding rewrite_witness written
+  witness_refused why e = refused (witness_answer edition b) b room written (witness_same edition b room bytes) why (sym is ∙ e)
 
-  module _ (e : answer ≡ Sound) (count wanted : ℕ) (counted : count ≡ witnessCountAt edition b) (whole : wanted ≡ rowPlace edition count) where
+  module _ (e : answer ≡ Sound) (count wanted : ℕ) (counted : count ≡ witness_count_at edition b) (whole : wanted ≡ row_place edition count) where
     long : wanted ≡ length b
-    long = let rows = (witness-facts edition b (sym is ∙ e)).rows in omega (arith, rows.sized, rows.head.framed)
+    long = let rows = (witness_facts edition b (sym is ∙ e)).rows in omega (arith, rows.sized, rows.head.framed)
 
-    by_bytes : (r : Writing) (roomThen : List ℕ) → Writes (write Sound b room) r roomThen → Rewrites (witnessAnswer edition b) b room roomThen (rewriteWitness edition b room) r
-    unfolding rewriteWitness written
-    by_bytes r roomThen w =
-        rewritten (witnessAnswer edition b) b room written (witness-same edition b room bytes) (sym is ∙ e) r roomThen
-        (subst (λ (l : Lent). Writes l r roomThen) (sym (witness-same edition b room bytes (sym is ∙ e))) w)
+    by_bytes : (r : Writing) (room_then : List ℕ) → Writes (write Sound b room) r room_then → Rewrites (witness_answer edition b) b room room_then (rewrite_witness edition b room) r
+    unfolding rewrite_witness written
+    by_bytes r room_then w =
+        rewritten (witness_answer edition b) b room written (witness_same edition b room bytes) (sym is ∙ e) r room_then
+        (subst (λ (l : Lent). Writes l r room_then) (sym (witness_same edition b room bytes (sym is ∙ e))) w)
 
-    pub witness-short : length room < wanted → Rewrites (witnessAnswer edition b) b room room (rewriteWitness edition b room) (Unwritten (WriteRoom wanted))
-    witness-short h =
-        subst (λ (n : ℕ). Rewrites (witnessAnswer edition b) b room room (rewriteWitness edition b room) (Unwritten (WriteRoom n))) (sym long)
+    pub witness_short : length room < wanted → Rewrites (witness_answer edition b) b room room (rewrite_witness edition b room) (Unwritten (WriteRoom wanted))
+    witness_short h =
+        subst (λ (n : ℕ). Rewrites (witness_answer edition b) b room room (rewrite_witness edition b room) (Unwritten (WriteRoom n))) (sym long)
         (by_bytes _ room (write-short Sound b room refl (omega (arith, long))))
 
-    pub witness-rewritten : wanted ≤ length room → (after : List ℕ) → after ≡ over (witnessBytes edition (tab (rowAt edition b) count)) room
-        → Rewrites (witnessAnswer edition b) b room after (rewriteWitness edition b room) (Written wanted)
-    witness-rewritten h after q =
-        let same : witnessBytes edition (tab (rowAt edition b) count) ≡ b =
-        ap (λ (n : ℕ). witnessBytes edition (tab (rowAt edition b) n)) counted ∙ witness-again edition b bytes (sym is ∙ e)
+    pub witness_rewritten : wanted ≤ length room → (after : List ℕ) → after ≡ over (witness_bytes edition (tab (row_at edition b) count)) room
+        → Rewrites (witness_answer edition b) b room after (rewrite_witness edition b room) (Written wanted)
+    witness_rewritten h after q =
+        let same : witness_bytes edition (tab (row_at edition b) count) ≡ b =
+        ap (λ (n : ℕ). witness_bytes edition (tab (row_at edition b) n)) counted ∙ witness_again edition b bytes (sym is ∙ e)
         in
-        subst (λ (n : ℕ). Rewrites (witnessAnswer edition b) b room after (rewriteWitness edition b room) (Written n)) (sym long)
-        (by_bytes _ after (writes-by _ _ _ (rw (le-leb (length b) (length room) (omega (arith, long)))) (q ∙ rw (same, le-leb (length b) (length room) (omega (arith, long))))))
+        subst (λ (n : ℕ). Rewrites (witness_answer edition b) b room after (rewrite_witness edition b room) (Written n)) (sym long)
+        (by_bytes _ after (writes_by _ _ _ (rw (le-leb (length b) (length room) (omega (arith, long)))) (q ∙ rw (same, le-leb (length b) (length room) (omega (arith, long))))))

@@ -2,9 +2,9 @@
 use Rattle.std.specs.Prelude.{ℕ, ◌≡◌, List}
 use Rattle.model.specs.Answers.{Writes}
 use Rattle.model.specs.Room.{Lent, write}
-use Rattle.model.specs.Table.{tableAnswer, table_parts, writeTable}
-use Rattle.model.specs.Recording.{recordingAnswer, recordingParts, writeRecording}
-use Rattle.model.specs.Witness.{witnessAnswer, witnessParts, writeWitness}
+use Rattle.model.specs.Table.{table_answer, table_parts, write_table}
+use Rattle.model.specs.Recording.{recording_answer, recording_parts, write_recording}
+use Rattle.model.specs.Witness.{witness_answer, witness_parts, write_witness}
 use Rattle.model.specs.declared.Edition.{Edition}
 use Rattle.model.specs.declared.Reading.{Reading}
 use Rattle.model.specs.declared.Reading.TheVariants.{Sound, Unsound}
@@ -16,16 +16,16 @@ abbrev pub again : Reading → Lent → List ℕ → Lent
 again Sound written room = written
 again (Unsound r) written room = record { answer = Unwritten r; room = room }
 
-unfoldable pub rewriteTable : List ℕ → List ℕ → Lent
-rewriteTable b room = again (tableAnswer b) (writeTable (table_parts b) room) room
+unfoldable pub rewrite_table : List ℕ → List ℕ → Lent
+rewrite_table b room = again (table_answer b) (write_table (table_parts b) room) room
 
-unfoldable pub rewriteRecording : List ℕ → List ℕ → List ℕ → Lent
-rewriteRecording table b room = again (recordingAnswer table b) (writeRecording table (recordingParts b) room) room
+unfoldable pub rewrite_recording : List ℕ → List ℕ → List ℕ → Lent
+rewrite_recording table b room = again (recording_answer table b) (write_recording table (recording_parts b) room) room
 
-unfoldable pub rewriteWitness : Edition → List ℕ → List ℕ → Lent
-rewriteWitness edition b room = again (witnessAnswer edition b) (writeWitness edition (witnessParts edition b) room) room
+unfoldable pub rewrite_witness : Edition → List ℕ → List ℕ → Lent
+rewrite_witness edition b room = again (witness_answer edition b) (write_witness edition (witness_parts edition b) room) room
 
 -- an answer and a room are the definition's; and of sound bytes, the same bytes, where they fit
-pub record Rewrites (answer : Reading) (b room roomThen : List ℕ) (given : Lent) (r : Writing) : Type 0 where
-  pub writes : Writes given r roomThen
+pub record Rewrites (answer : Reading) (b room room_then : List ℕ) (given : Lent) (r : Writing) : Type 0 where
+  pub writes : Writes given r room_then
   pub same : answer ≡ Sound → given ≡ write Sound b room

@@ -2,10 +2,10 @@
 ghost use Rattle.std.specs.Prelude.{◌≡◌, ◌≤◌, length};
 ghost use Rattle.model.specs.Bytes.{tab};
 ghost use Rattle.model.specs.Room.{over};
-ghost use Rattle.model.specs.Table.{tableAnswer};
-ghost use Rattle.model.specs.Recording.{recordingAnswer};
-ghost use Rattle.model.specs.Witness.{rowPlace, rowAt, witnessAnswer, witnessBytes};
-ghost use Rattle.rewrite.specs.Rewriting.{Rewrites, rewriteTable, rewriteRecording, rewriteWitness};
+ghost use Rattle.model.specs.Table.{table_answer};
+ghost use Rattle.model.specs.Recording.{recording_answer};
+ghost use Rattle.model.specs.Witness.{row_place, row_at, witness_answer, witness_bytes};
+ghost use Rattle.rewrite.specs.Rewriting.{Rewrites, rewrite_table, rewrite_recording, rewrite_witness};
 
 use editions::rows_place;
 use frame::put_frame;
@@ -16,7 +16,7 @@ use wire::place;
 use witness::{count_at, row_at, row_bytes, witness_answer};
 
 pub fn rewrite_table(b: &[u8], room: &mut [u8]) -> Writing
-    ensures { Rewrites (tableAnswer b.now) b.now room.old room.new (rewriteTable b.now room.old) result }
+    ensures { Rewrites (table_answer b.now) b.now room.old room.new (rewrite_table b.now room.old) result }
 {
     let reading = read_table(b);
     let answer = reading.answer;
@@ -28,7 +28,7 @@ pub fn rewrite_table(b: &[u8], room: &mut [u8]) -> Writing
 }
 
 pub fn rewrite_recording(table: &[u8], b: &[u8], room: &mut [u8]) -> Writing
-    ensures { Rewrites (recordingAnswer table.now b.now) b.now room.old room.new (rewriteRecording table.now b.now room.old) result }
+    ensures { Rewrites (recording_answer table.now b.now) b.now room.old room.new (rewrite_recording table.now b.now room.old) result }
 {
     let reading = read_recording(table, b);
     let answer = reading.answer;
@@ -41,8 +41,8 @@ pub fn rewrite_recording(table: &[u8], b: &[u8], room: &mut [u8]) -> Writing
 
 // Reads the rows of a witness one by one, and writes each at its place behind the frame.
 fn put_rows(edition: Edition, b: &[u8], count: u32, room: &mut [u8])
-    requires { rowPlace edition count ≤ length room.old }
-    ensures { room.new ≡ over (witnessBytes edition (tab (rowAt edition b.now) count)) room.old }
+    requires { row_place edition count ≤ length room.old }
+    ensures { room.new ≡ over (witness_bytes edition (tab (row_at edition b.now) count)) room.old }
 {
     put_frame(edition, 5, count, room);
     let start = rows_place(edition);
@@ -56,7 +56,7 @@ fn put_rows(edition: Edition, b: &[u8], count: u32, room: &mut [u8])
 
 // Row by row: the parts, with their places for 65,535 rows, need not be held for it.
 pub fn rewrite_witness(edition: Edition, b: &[u8], room: &mut [u8]) -> Writing
-    ensures { Rewrites (witnessAnswer edition b.now) b.now room.old room.new (rewriteWitness edition b.now room.old) result }
+    ensures { Rewrites (witness_answer edition b.now) b.now room.old room.new (rewrite_witness edition b.now room.old) result }
 {
     let answer = witness_answer(edition, b);
     if let Reading::Unsound(why) = answer {

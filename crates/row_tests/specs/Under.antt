@@ -2,8 +2,8 @@
 use Rattle.std.specs.Prelude.{ℕ, List}
 use Rattle.model.specs.Monitor.{Monitor, under}
 use Rattle.model.specs.declared.Rule.{Rule}
-use Rattle.monitor.specs.From.{monitorFrom}
+use Rattle.monitor.specs.From.{monitor_from}
 use Rattle.rule.specs.Within.{within}
 
-abbrev pub ruledFrom : Rule → List ℕ → List ℕ → Monitor
-ruledFrom rule table offsets = under (within rule) (monitorFrom table offsets)
+abbrev pub ruled_from : Rule → List ℕ → List ℕ → Monitor
+ruled_from rule table offsets = under (within rule) (monitor_from table offsets)

@@ -1,11 +1,11 @@
 // What a row of a witness is tested for: the recorded rows that are still unaccounted for, the air behind it, whether it is a guess. Each function takes any input.
 ghost use Rattle.std.specs.Prelude.{◌≡◌, List, true, ℕ, ◌+◌, ◌<◌, drop};
 ghost use Rattle.model.specs.Monitor.{airtime};
-ghost use Rattle.model.specs.Recording.{packetsAt};
-ghost use Rattle.model.specs.Rules.{noneBefore, isNext, noneAt, guessed};
-ghost use Rattle.monitor.specs.From.{monitorFrom};
+ghost use Rattle.model.specs.Recording.{packets_at};
+ghost use Rattle.model.specs.Rules.{none_before, is_next, none_at, guessed};
+ghost use Rattle.monitor.specs.From.{monitor_from};
 ghost use Rattle.witness.specs.Rows.{row_of};
-ghost use Rattle.row_tests.specs.Under.{ruledFrom};
+ghost use Rattle.row_tests.specs.Under.{ruled_from};
 
 use model::{ADDED, Rule};
 use monitor::{airtime_of, device_of};
@@ -14,7 +14,7 @@ use witness::Entry;
 
 // No recorded row of an earlier time is unaccounted for.
 pub fn none_before(recording: &[u8], next: u16, time: u16) -> bool
-    ensures { result ≡ noneBefore (drop next (packetsAt recording.now)) time }
+    ensures { result ≡ none_before (drop next (packets_at recording.now)) time }
 {
     if word(recording, 3) <= next {
         return true;
@@ -23,7 +23,7 @@ pub fn none_before(recording: &[u8], next: u16, time: u16) -> bool
 }
 
 pub fn is_next(recording: &[u8], next: u16, e: Entry) -> bool
-    ensures { (result ≡ isNext (drop next (packetsAt recording.now)) (row_of e)) × (result ≡ true → next < 65535) }
+    ensures { (result ≡ is_next (drop next (packets_at recording.now)) (row_of e)) × (result ≡ true → next < 65535) }
 {
     if word(recording, 3) <= next {
         return false;
@@ -36,7 +36,7 @@ pub fn is_next(recording: &[u8], next: u16, e: Entry) -> bool
 
 // No recorded row of this time is unaccounted for.
 pub fn none_at(recording: &[u8], next: u16, time: u16) -> bool
-    ensures { result ≡ noneAt (drop next (packetsAt recording.now)) time }
+    ensures { result ≡ none_at (drop next (packets_at recording.now)) time }
 {
     if word(recording, 3) <= next {
         return true;
@@ -46,14 +46,14 @@ pub fn none_at(recording: &[u8], next: u16, time: u16) -> bool
 
 // The first time at which the air is free behind a row, which takes it for its airtime.
 pub fn free_after(table: &[u8], e: Entry) -> u32
-    ensures { (offsets : List ℕ) → result ≡ e.time + airtime (monitorFrom table.now offsets) e.kind + 1 }
+    ensures { (offsets : List ℕ) → result ≡ e.time + airtime (monitor_from table.now offsets) e.kind + 1 }
 {
     e.time as u32 + airtime_of(table, e.kind) as u32 + 1
 }
 
 // A guess is an added row from the rule's device.
 pub fn is_guess(rule: Rule, table: &[u8], e: Entry) -> bool
-    ensures { (offsets : List ℕ) → result ≡ guessed (ruledFrom rule table.now offsets) (row_of e) }
+    ensures { (offsets : List ℕ) → result ≡ guessed (ruled_from rule table.now offsets) (row_of e) }
 {
     if e.mark != ADDED {
         return false;

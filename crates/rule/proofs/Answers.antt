@@ -8,11 +8,11 @@ use mathlib.Core.Bool.{Bool, true, false, cond, ◌&&◌, false≢true}
 use borrow.Author.Tests.{leb-true, le-leb, lt-leb}
 use lib.Dec.{leb}
 use Rattle.model.specs.First.{unless, first_of}
-use Rattle.model.specs.Limits.{deviceLimit, windowLimit, sizeLimit}
+use Rattle.model.specs.Limits.{device_limit, window_limit, size_limit}
 use Rattle.model.specs.Monitor.{Monitor}
 use Rattle.model.specs.Rule.{masks}
-use Rattle.model.specs.Ruled.{ruleAnswer}
-use Rattle.model.specs.Size.{tableSize, size}
+use Rattle.model.specs.Ruled.{rule_answer}
+use Rattle.model.specs.Size.{table_size, size}
 use Rattle.model.specs.declared.Reading.TheVariants.{Unsound}
 use Rattle.model.specs.declared.Refusal.{Refusal}
 use Rattle.model.specs.declared.Refusal.TheVariants.{RuleRange, RuleSize}
@@ -44,36 +44,36 @@ middle true false c d e = absurd (false≢true e)
 middle true true false d e = absurd (false≢true e)
 middle true true true d e = (refl, refl)
 
-range-stays : (rule : Rule) → in_range rule ≡ true → within rule ≡ rule
+range_stays : (rule : Rule) → in_range rule ≡ true → within rule ≡ rule
 unfolding in_range
-range-stays rule e =
-    let window = middle (leb rule.device deviceLimit) (leb 1 rule.window) (leb rule.window windowLimit) (leb rule.most rule.window) e in
-    within-sound rule (leb-true 1 rule.window window.0) (leb-true rule.window windowLimit window.1)
+range_stays rule e =
+    let window = middle (leb rule.device device_limit) (leb 1 rule.window) (leb rule.window window_limit) (leb rule.most rule.window) e in
+    within-sound rule (leb-true 1 rule.window window.0) (leb-true rule.window window_limit window.1)
 
 module _ (m : Monitor) where
-  by-range : ruleAnswer m ≡ cond (in_range m.rule) (unless (leb (size m) sizeLimit) RuleSize) (Unsound RuleRange)
-  unfolding ruleAnswer in_range
+  by-range : rule_answer m ≡ cond (in_range m.rule) (unless (leb (size m) size_limit) RuleSize) (Unsound RuleRange)
+  unfolding rule_answer in_range
   by-range =
       in_order
-      (leb m.rule.device deviceLimit)
+      (leb m.rule.device device_limit)
       (leb 1 m.rule.window)
-      (leb m.rule.window windowLimit)
+      (leb m.rule.window window_limit)
       (leb m.rule.most m.rule.window)
-      (leb (size m) sizeLimit)
+      (leb (size m) size_limit)
       RuleRange
       RuleSize
 
   -- the rule and the table's own N, as the code has them
-  module _ (rule : Rule) (n : ℕ) (same : m.rule ≡ rule) (table : tableSize m ≡ n) where
-    answers : (t : Bool) → in_range rule ≡ t → ruleAnswer m ≡ cond t (unless (leb (size m) sizeLimit) RuleSize) (Unsound RuleRange)
-    answers t e = by-range ∙ ap (λ (x : Bool). cond x (unless (leb (size m) sizeLimit) RuleSize) (Unsound RuleRange)) (ap in_range same ∙ e)
+  module _ (rule : Rule) (n : ℕ) (same : m.rule ≡ rule) (table : table_size m ≡ n) where
+    answers : (t : Bool) → in_range rule ≡ t → rule_answer m ≡ cond t (unless (leb (size m) size_limit) RuleSize) (Unsound RuleRange)
+    answers t e = by-range ∙ ap (λ (x : Bool). cond x (unless (leb (size m) size_limit) RuleSize) (Unsound RuleRange)) (ap in_range same ∙ e)
 
-    pub refused : in_range rule ≡ false → Unsound RuleRange ≡ ruleAnswer m
+    pub refused : in_range rule ≡ false → Unsound RuleRange ≡ rule_answer m
     refused e = sym (answers false e)
 
     larger : in_range rule ≡ true → size m ≡ n * masks (within rule)
     unfolding size
-    larger e = ap₂ (λ (k : ℕ) (r : Rule). k * masks r) table (same ∙ sym (range-stays rule e))
+    larger e = ap₂ (λ (k : ℕ) (r : Rule). k * masks r) table (same ∙ sym (range_stays rule e))
 
-    pub sized : in_range rule ≡ true → unless (leb (n * masks (within rule)) sizeLimit) RuleSize ≡ ruleAnswer m
-    sized e = ap (λ (k : ℕ). unless (leb k sizeLimit) RuleSize) (sym (larger e)) ∙ sym (answers true e)
+    pub sized : in_range rule ≡ true → unless (leb (n * masks (within rule)) size_limit) RuleSize ≡ rule_answer m
+    sized e = ap (λ (k : ℕ). unless (leb k size_limit) RuleSize) (sym (larger e)) ∙ sym (answers true e)

@@ -9,27 +9,27 @@ use lib.Count.{ones, ones_step, ones-le}
 use lib.Dec.{leb}
 use lib.Pow.{shl_exact, field, mod-mod-pow}
 use mir.Val.{bool_byte}
-use Rattle.model.specs.Limits.{windowLimit}
-use Rattle.model.specs.Rule.{as_bit, masks, setBits, windowBehind, allows}
+use Rattle.model.specs.Limits.{window_limit}
+use Rattle.model.specs.Rule.{as_bit, masks, set_bits, window_behind, allows}
 use Rattle.model.specs.declared.Rule.{Rule}
-use Rattle.rule.specs.Within.{rowsIn, within}
-use Rattle.rule.proofs.Laws.{rows_same, rows-one, masks-bounds}
+use Rattle.rule.specs.Within.{rows_in, within}
+use Rattle.rule.proofs.Laws.{rows_same, rows_one, masks_bounds}
 
-pub shifted : (window : ℕ) → 1 ≤ window → window ≤ windowLimit → (1 * 2 ^ (window - 1)) % 256 ≡ 2 ^ (rowsIn window - 1)
+pub shifted : (window : ℕ) → 1 ≤ window → window ≤ window_limit → (1 * 2 ^ (window - 1)) % 256 ≡ 2 ^ (rows_in window - 1)
 shifted window some few =
     shl_exact {a = 1} 1 (window - 1) 8 (omega arith) (omega arith)
     ∙ one-mul (2 ^ (window - 1))
     ∙ ap (λ (n : ℕ). 2 ^ (n - 1)) (sym (rows_same window some few))
 
 -- the lowest n bits that are set are the ones of what is left of a number where the others are cut off
-bits-ones : (n window : ℕ) → setBits n window ≡ ones (window % 2 ^ n)
-unfolding setBits ones
-bits-ones zero window = ap ones (sym (mod-one window))
-bits-ones (suc n) window =
+bits_ones : (n window : ℕ) → set_bits n window ≡ ones (window % 2 ^ n)
+unfolding set_bits ones
+bits_ones zero window = ap ones (sym (mod-one window))
+bits_ones (suc n) window =
     let e : n + 1 ≡ suc n = omega arith in
     ap₂ (λ (a b : ℕ). a + b)
     (sym (mod-mod-pow window n 1))
-    (bits-ones n (window / 2) ∙ ap ones (sym (field window n 1)))
+    (bits_ones n (window / 2) ∙ ap ones (sym (field window n 1)))
     ∙ sym (ones_step (window % 2 ^ (n + 1)))
     ∙ ap (λ (k : ℕ). ones (window % 2 ^ k)) e
 
@@ -44,25 +44,25 @@ bit_le false = omega arith
 -- a number of rows, cut by the mask of all guesses
 module _ (rule : Rule) (x all : ℕ) (is : all ≡ masks (within rule) - 1) where
   cut : bit_and x all ≡ x % masks (within rule)
-  cut = ap (bit_and x) is ∙ and_mask x (rowsIn rule.window - 1)
+  cut = ap (bit_and x) is ∙ and_mask x (rows_in rule.window - 1)
 
   pub cut_small : bit_and x all < 2 ^ 7
-  cut_small = omega (arith, and_le_r x all, (masks-bounds rule).0)
+  cut_small = omega (arith, and_le_r x all, (masks_bounds rule).0)
 
-  pub behind : (window : ℕ) (guess : Bool) → x ≡ as_bit guess + 2 * window → bit_and x all ≡ windowBehind (within rule) window guess
-  unfolding windowBehind
+  pub behind : (window : ℕ) (guess : Bool) → x ≡ as_bit guess + 2 * window → bit_and x all ≡ window_behind (within rule) window guess
+  unfolding window_behind
   behind window guess e = cut ∙ ap (λ (n : ℕ). n % masks (within rule)) e
 
-  pub guesses-few : (guess : Bool) → bool_byte guess + ones (bit_and x all) ≤ windowLimit
+  pub guesses-few : (guess : Bool) → bool_byte guess + ones (bit_and x all) ≤ window_limit
   guesses-few guess = omega (arith, bit_le guess, ones-le 7 (bit_and x all) cut_small)
 
   pub allows-more : (guess : Bool) → leb (bool_byte guess + ones (bit_and x all)) rule.most ≡ allows (within rule) x guess
   unfolding allows
   allows-more guess =
-      ap₂ (λ (a b : ℕ). leb (a + b) rule.most) (bit_byte guess) (ap ones cut ∙ sym (bits-ones (rowsIn rule.window - 1) x))
+      ap₂ (λ (a b : ℕ). leb (a + b) rule.most) (bit_byte guess) (ap ones cut ∙ sym (bits_ones (rows_in rule.window - 1) x))
 
 -- a window of one row
-pub allows-one : (rule : Rule) (window : ℕ) (guess : Bool) → rule.window ≤ 1 → leb (bool_byte guess) rule.most ≡ allows (within rule) window guess
-unfolding allows setBits
-allows-one rule window guess one =
-    ap (λ (n : ℕ). leb n rule.most) (bit_byte guess ∙ omega (arith, ap (λ (n : ℕ). setBits (n - 1) window) (rows-one rule.window one)))
+pub allows_one : (rule : Rule) (window : ℕ) (guess : Bool) → rule.window ≤ 1 → leb (bool_byte guess) rule.most ≡ allows (within rule) window guess
+unfolding allows set_bits
+allows_one rule window guess one =
+    ap (λ (n : ℕ). leb n rule.most) (bit_byte guess ∙ omega (arith, ap (λ (n : ℕ). set_bits (n - 1) window) (rows_one rule.window one)))

@@ -1,17 +1,17 @@
 // A measured loss rate (R-7): the numbers 25 and 26, and which of the last kept or added rows were guesses, as a mask. Each function takes any numbers.
 ghost use Rattle.std.specs.Prelude.{◌≡◌, ◌+◌, ◌-◌, ◌*◌, ◌≤◌, ◌<◌, leb};
 ghost use Rattle.model.specs.First as First;
-ghost use Rattle.model.specs.Limits.{sizeLimit};
+ghost use Rattle.model.specs.Limits.{size_limit};
 ghost use Rattle.model.specs.Monitor.{Monitor};
 ghost use Rattle.model.specs.Rule as Rules;
-ghost use Rattle.model.specs.Ruled.{ruleAnswer};
-ghost use Rattle.model.specs.Size.{tableSize};
+ghost use Rattle.model.specs.Ruled.{rule_answer};
+ghost use Rattle.model.specs.Size.{table_size};
 ghost use Rattle.rule.specs.Within.{within, in_range};
 
 use model::{DEVICE_LIMIT, Reading, Refusal, Rule, SIZE_LIMIT, WINDOW_LIMIT};
 
 pub fn rule_of(device: u8, window: u8, most: u8) -> Rule
-    ensures { result ≡ Rules.ruleOf device window most }
+    ensures { result ≡ Rules.rule_of device window most }
 {
     Rule {
         device,
@@ -22,7 +22,7 @@ pub fn rule_of(device: u8, window: u8, most: u8) -> Rule
 
 // The rule that forbids nothing.
 pub fn no_rule() -> Rule
-    ensures { result ≡ Rules.noRule }
+    ensures { result ≡ Rules.no_rule }
 {
     Rule {
         device: 0,
@@ -64,7 +64,7 @@ fn with_row(window: u8, guess: bool) -> u16
 
 // The mask once one more row is kept or added.
 pub fn window_behind(rule: Rule, window: u8, guess: bool) -> u8
-    ensures { result ≡ Rules.windowBehind (within rule) window guess }
+    ensures { result ≡ Rules.window_behind (within rule) window guess }
 {
     (with_row(window, guess) & all_guesses(rule) as u16) as u8
 }
@@ -98,7 +98,7 @@ fn in_range(rule: Rule) -> bool
 
 // Does 26? N times the masks may not fit a u64, so it is not worked out.
 fn in_limit(rule: Rule, size: u64) -> bool
-    ensures { result ≡ leb (size * Rules.masks (within rule)) sizeLimit }
+    ensures { result ≡ leb (size * Rules.masks (within rule)) size_limit }
 {
     size <= SIZE_LIMIT / masks(rule) as u64
 }
@@ -116,7 +116,7 @@ fn unless(passed: bool, refusal: Refusal) -> Reading
 
 // 25, then 26. Size is the table's own N.
 pub fn rule_answer(rule: Rule, size: u64) -> Reading
-    ensures { (m : Monitor) → m.rule ≡ rule → tableSize m ≡ size → result ≡ ruleAnswer m }
+    ensures { (m : Monitor) → m.rule ≡ rule → table_size m ≡ size → result ≡ rule_answer m }
 {
     let ranged = in_range(rule);
     let limited = in_limit(rule, size);

@@ -1,6 +1,6 @@
 // A table, a recording and a rule, read together: the numbers 10 to 26.
 ghost use Rattle.std.specs.Prelude.{◌≡◌};
-ghost use Rattle.model.specs.Ruled.{ruledAnswer};
+ghost use Rattle.model.specs.Ruled.{ruled_answer};
 ghost use Rattle.model.specs.Table.{table_parts};
 ghost use Rattle.model.specs.declared.Reading.TheVariants.{Sound};
 
@@ -13,7 +13,7 @@ use tables::read_table;
 
 // The first number that applies, and where none does the table's parts.
 pub fn read_under<'a>(rule: Rule, table: &'a [u8], recording: &'a [u8]) -> TableReading
-    ensures { (result.answer ≡ ruledAnswer rule table.now recording.now) × (result.answer ≡ Sound → result.parts ≡ table_parts table.now) }
+    ensures { (result.answer ≡ ruled_answer rule table.now recording.now) × (result.answer ≡ Sound → result.parts ≡ table_parts table.now) }
 {
     let reading = read_table(table);
     let answer = reading.answer;

@@ -7,75 +7,75 @@ use mathlib.Core.Bool.{Bool, true, false, ◌&&◌}
 use lib.Dec.{leb, ltb}
 use lib.ListN.{length}
 use borrow.Author.Tests.{le-leb, lt-leb}
-use Rattle.model.specs.Limits.{kindLimit, transitionLimit, sizeLimit}
+use Rattle.model.specs.Limits.{kind_limit, transition_limit, size_limit}
 use Rattle.model.specs.Bytes.{byte_at}
 use Rattle.model.specs.First.{unless, and_then, first_of}
 use Rattle.model.specs.Monitor.{Monitor}
-use Rattle.model.specs.Size.{tableSize}
-use Rattle.model.specs.Reach.{statesAnswer}
-use Rattle.model.specs.Table.{countsOf, tableCounts, apart, transitionFields, guardRecord, transitionRecord, statesAt, variablesAt, clocksAt, kindsAt, transitionsAt, wholeAnswer}
+use Rattle.model.specs.Size.{table_size}
+use Rattle.model.specs.Reach.{states_answer}
+use Rattle.model.specs.Table.{counts_of, table_counts, apart, transition_fields, guard_record, transition_record, states_at, variables_at, clocks_at, kinds_at, transitions_at, whole_answer}
 use Rattle.model.specs.declared.Refusal.TheVariants.{TableSize, TableCount, TableLength, TableField}
 use Rattle.model.specs.declared.Refusal.{Refusal}
 use Rattle.model.specs.declared.Reading.{Reading}
 use Rattle.model.specs.declared.Reading.TheVariants.{Sound}
 use Rattle.model.proofs.Tests.{test, le_test, tests}
-use Rattle.model.proofs.TableForm.{countTests}
-use Rattle.model.proofs.Tests.{then-sound}
+use Rattle.model.proofs.TableForm.{count_tests}
+use Rattle.model.proofs.Tests.{then_sound}
 
-pub counts-are : (b : List ℕ) (s v c k t : ℕ) → s ≡ statesAt b → v ≡ variablesAt b → c ≡ clocksAt b → k ≡ kindsAt b → t ≡ transitionsAt b → countsOf s v c k t ≡ tableCounts b
-unfolding countsOf
-counts-are b s v c k t es ev ec ek et = rw (es, ev, ec, ek, et)
+pub counts_are : (b : List ℕ) (s v c k t : ℕ) → s ≡ states_at b → v ≡ variables_at b → c ≡ clocks_at b → k ≡ kinds_at b → t ≡ transitions_at b → counts_of s v c k t ≡ table_counts b
+unfolding counts_of
+counts_are b s v c k t es ev ec ek et = rw (es, ev, ec, ek, et)
 
-pub counts-bound : (s v c k t : ℕ) → countsOf s v c k t ≡ Sound → (k ≤ kindLimit) × (t ≤ transitionLimit)
-unfolding countsOf
-counts-bound s v c k t h =
-    let l : List Reading = tests (countTests s v c k t) in
+pub counts_bound : (s v c k t : ℕ) → counts_of s v c k t ≡ Sound → (k ≤ kind_limit) × (t ≤ transition_limit)
+unfolding counts_of
+counts_bound s v c k t h =
+    let l : List Reading = tests (count_tests s v c k t) in
     (le_test _ _ (TableCount 6) (test l h 5), le_test _ _ (TableCount 7) (test l h 6))
 
 -- the fields of a record, by the two tests that the code makes
-fields-alike : (a b c d e f g : Bool) (x : Refusal)
+fields_alike : (a b c d e f g : Bool) (x : Refusal)
     → first_of (unless a x ∷ unless b x ∷ unless c x ∷ unless d x ∷ unless e x ∷ unless f x ∷ unless g x ∷ []) ≡ and_then (unless (a && b && c) x) (unless (d && e && f && g) x)
-fields-alike false b c d e f g x = refl
-fields-alike true false c d e f g x = refl
-fields-alike true true false d e f g x = refl
-fields-alike true true true false e f g x = refl
-fields-alike true true true true false f g x = refl
-fields-alike true true true true true false g x = refl
-fields-alike true true true true true true false x = refl
-fields-alike true true true true true true true x = refl
+fields_alike false b c d e f g x = refl
+fields_alike true false c d e f g x = refl
+fields_alike true true false d e f g x = refl
+fields_alike true true true false e f g x = refl
+fields_alike true true true true false f g x = refl
+fields_alike true true true true true false g x = refl
+fields_alike true true true true true true false x = refl
+fields_alike true true true true true true true x = refl
 
-pub fields-row : (b : List ℕ) (at : ℕ) {s v c k source target trigger sets clears resets : ℕ} {ends masks : Bool}
-    → s ≡ statesAt b → v ≡ variablesAt b → c ≡ clocksAt b → k ≡ kindsAt b
+pub fields_row : (b : List ℕ) (at : ℕ) {s v c k source target trigger sets clears resets : ℕ} {ends masks : Bool}
+    → s ≡ states_at b → v ≡ variables_at b → c ≡ clocks_at b → k ≡ kinds_at b
     → source ≡ byte_at b at → target ≡ byte_at b (at + 1) → trigger ≡ byte_at b (at + 2) → sets ≡ byte_at b (at + 3) → clears ≡ byte_at b (at + 4) → resets ≡ byte_at b (at + 5)
     → ends ≡ (ltb source s && ltb target s && ltb trigger k)
     → masks ≡ (ltb sets (2 ^ v) && ltb clears (2 ^ v) && ltb resets (2 ^ c) && apart v sets clears)
-    → transitionFields b at ≡ and_then (unless ends (TableField at)) (unless masks (TableField at))
-unfolding transitionFields
-fields-row b at es ev ec ek e0 e1 e2 e3 e4 e5 p q =
+    → transition_fields b at ≡ and_then (unless ends (TableField at)) (unless masks (TableField at))
+unfolding transition_fields
+fields_row b at es ev ec ek e0 e1 e2 e3 e4 e5 p q =
     rw (p, q, es, ev, ec, ek, e0, e1, e2, e3, e4, e5)
-    (fields-alike
-    (ltb (byte_at b at) (statesAt b))
-    (ltb (byte_at b (at + 1)) (statesAt b))
-    (ltb (byte_at b (at + 2)) (kindsAt b))
-    (ltb (byte_at b (at + 3)) (2 ^ variablesAt b))
-    (ltb (byte_at b (at + 4)) (2 ^ variablesAt b))
-    (ltb (byte_at b (at + 5)) (2 ^ clocksAt b))
-    (apart (variablesAt b) (byte_at b (at + 3)) (byte_at b (at + 4)))
+    (fields_alike
+    (ltb (byte_at b at) (states_at b))
+    (ltb (byte_at b (at + 1)) (states_at b))
+    (ltb (byte_at b (at + 2)) (kinds_at b))
+    (ltb (byte_at b (at + 3)) (2 ^ variables_at b))
+    (ltb (byte_at b (at + 4)) (2 ^ variables_at b))
+    (ltb (byte_at b (at + 5)) (2 ^ clocks_at b))
+    (apart (variables_at b) (byte_at b (at + 3)) (byte_at b (at + 4)))
     (TableField at))
 
 module _ (b : List ℕ) where
-  pub record-row : (at : ℕ) → transitionRecord b at ≡ and_then (unless (leb (at + 7) (length b)) (TableLength at)) (and_then (transitionFields b at) (guardRecord b at))
-  unfolding transitionRecord
-  record-row at = simp then-sound
+  pub record_row : (at : ℕ) → transition_record b at ≡ and_then (unless (leb (at + 7) (length b)) (TableLength at)) (and_then (transition_fields b at) (guard_record b at))
+  unfolding transition_record
+  record_row at = simp then_sound
 
 -- 16, then 17
-pub whole-all : (m : Monitor) → wholeAnswer m ≡ and_then (unless (leb (tableSize m) sizeLimit) TableSize) (statesAnswer m)
-unfolding wholeAnswer
-whole-all m = rw (then-sound (statesAnswer m))
+pub whole-all : (m : Monitor) → whole_answer m ≡ and_then (unless (leb (table_size m) size_limit) TableSize) (states_answer m)
+unfolding whole_answer
+whole-all m = rw (then_sound (states_answer m))
 
 -- N that was cut at one above the limit
-pub size-over : (n r : ℕ) → r ≡ min n (sizeLimit + 1) → sizeLimit < r → leb n sizeLimit ≡ false
-size-over n r e h = lt-leb n sizeLimit (omega arith)
+pub size-over : (n r : ℕ) → r ≡ min n (size_limit + 1) → size_limit < r → leb n size_limit ≡ false
+size-over n r e h = lt-leb n size_limit (omega arith)
 
-pub size-within : (n r : ℕ) → r ≡ min n (sizeLimit + 1) → r ≤ sizeLimit → leb n sizeLimit ≡ true
-size-within n r e h = le-leb n sizeLimit (omega arith)
+pub size-within : (n r : ℕ) → r ≡ min n (size_limit + 1) → r ≤ size_limit → leb n size_limit ≡ true
+size-within n r e h = le-leb n size_limit (omega arith)

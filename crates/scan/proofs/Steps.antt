@@ -12,34 +12,34 @@ use native.Mathlib.Nat.{div-lt_iff_lt-mul}
 use mathlib.Core.Logic.{◌↔◌}
 use borrow.Author.Tests.{lt-ltb, le-ltb}
 use Rattle.model.specs.Bytes.{tab}
-use Rattle.model.specs.First.{unless, and_then, first_of, isSound}
-use Rattle.model.specs.Table.{apart, transitionRecord, transitionRecords, guardLengthAt}
+use Rattle.model.specs.First.{unless, and_then, first_of, is_sound}
+use Rattle.model.specs.Table.{apart, transition_record, transition_records, guard_length_at}
 use Rattle.model.specs.declared.Refusal.TheVariants.{TableLength}
 use Rattle.model.specs.declared.Reading.{Reading}
 use Rattle.model.specs.declared.Reading.TheVariants.{Sound, Unsound}
 use Rattle.model.proofs.Tests.{first-refused}
-use Rattle.model.proofs.Tests.{then-sound}
+use Rattle.model.proofs.Tests.{then_sound}
 
 -- at turn i of n
 pub left : (n i : ℕ) → i < n → n - i ≡ suc (n - (i + 1))
 left n i h = omega arith
 
-pub transitions-turn : (b : List ℕ) (n i at : ℕ) → i < n
-    → transitionRecords (n - i) b at ≡ and_then (transitionRecord b at) (transitionRecords (n - (i + 1)) b (at + 7 + guardLengthAt b at))
-unfolding transitionRecords
-transitions-turn b n i at h = rw (left n i h, then-sound (transitionRecords (n - (i + 1)) b (at + 7 + guardLengthAt b at)))
+pub transitions_turn : (b : List ℕ) (n i at : ℕ) → i < n
+    → transition_records (n - i) b at ≡ and_then (transition_record b at) (transition_records (n - (i + 1)) b (at + 7 + guard_length_at b at))
+unfolding transition_records
+transitions_turn b n i at h = rw (left n i h, then_sound (transition_records (n - (i + 1)) b (at + 7 + guard_length_at b at)))
 
-pub transitions-end : (b : List ℕ) (n i at : ℕ) → n ≤ i → transitionRecords (n - i) b at ≡ unless (eqb at (length b)) (TableLength at)
-unfolding transitionRecords
+pub transitions-end : (b : List ℕ) (n i at : ℕ) → n ≤ i → transition_records (n - i) b at ≡ unless (eqb at (length b)) (TableLength at)
+unfolding transition_records
 transitions-end b n i at h = let none : n - i ≡ 0 = omega arith in rw none
 
 pub apart-end : (n i s c : ℕ) → n ≤ i → apart (n - i) s c ≡ true
 unfolding apart
 apart-end n i s c h = let none : n - i ≡ 0 = omega arith in rw none
 
-pub apart-turn : (n i s c : ℕ) → i < n → apart (n - i) s c ≡ (not (eqb (s % 2) 1 && eqb (c % 2) 1) && apart (n - (i + 1)) (s / 2) (c / 2))
+pub apart_turn : (n i s c : ℕ) → i < n → apart (n - i) s c ≡ (not (eqb (s % 2) 1 && eqb (c % 2) 1) && apart (n - (i + 1)) (s / 2) (c / 2))
 unfolding apart
-apart-turn n i s c h = rw (left n i h)
+apart_turn n i s c h = rw (left n i h)
 
 pub mask_fits : (mask count : ℕ) → ltb (mask / 2 ^ count) 1 ≡ ltb mask (2 ^ count)
 mask_fits mask count = go (dec_lt mask (2 ^ count))
@@ -60,12 +60,12 @@ mask_fits mask count = go (dec_lt mask (2 ^ count))
 -- tests one behind the other, by number: the first i passed, and number i is r
 
 module _ (f : ℕ → Reading) where
-  pub first_stops : (n i : ℕ) (r : Reading) → i < n → ((k : ℕ) → k < i → f k ≡ Sound) → r ≡ f i → isSound r ≡ false → r ≡ first_of (tab f n)
+  pub first_stops : (n i : ℕ) (r : Reading) → i < n → ((k : ℕ) → k < i → f k ≡ Sound) → r ≡ f i → is_sound r ≡ false → r ≡ first_of (tab f n)
   first_stops n i Sound h passed e away = absurd (false≢true (sym away))
   first_stops n i (Unsound why) h passed e away = sym (first-refused f n i why h passed (sym e))
 
-  pub passed-more : (i : ℕ) → ((k : ℕ) → k < i → f k ≡ Sound) → f i ≡ Sound → (k : ℕ) → k < i + 1 → f k ≡ Sound
-  passed-more i passed here k h = go (dec_lt k i)
+  pub passed_more : (i : ℕ) → ((k : ℕ) → k < i → f k ≡ Sound) → f i ≡ Sound → (k : ℕ) → k < i + 1 → f k ≡ Sound
+  passed_more i passed here k h = go (dec_lt k i)
     where
       go : Dec (k < i) → f k ≡ Sound
       go (yes p) = passed k p

@@ -1,12 +1,12 @@
 // A table's numbers: 10 to 15 of its bytes, 16 and 17 of its parts.
 ghost use Rattle.std.specs.Prelude.{◌≡◌, ◌+◌, ◌-◌, ◌%◌, ◌<◌, ◌^◌, ◌&&◌, length, leb, ltb, eqb};
 ghost use Rattle.model.specs.First.{unless};
-ghost use Rattle.model.specs.Limits.{sizeLimit};
-ghost use Rattle.model.specs.Size.{tableSize};
+ghost use Rattle.model.specs.Limits.{size_limit};
+ghost use Rattle.model.specs.Size.{table_size};
 ghost use Rattle.model.specs.declared.Reading.TheVariants.{Sound};
 ghost use Rattle.model.specs.declared.Refusal.TheVariants.{TableSize};
-ghost use Rattle.model.specs.Kinds.{kindRecord};
-ghost use Rattle.model.specs.Table.{countsOf, kindRecords, apart, transitionFields, guardRecord, transitionRecord, transitionRecords, transitionAt, transitionsAt, scanWith, wholeAnswer, monitorOf};
+ghost use Rattle.model.specs.Kinds.{kind_record};
+ghost use Rattle.model.specs.Table.{counts_of, kind_records, apart, transition_fields, guard_record, transition_record, transition_records, transition_at, transitions_at, scan_with, whole_answer, monitor_of};
 
 use frame::{framed_answer, sound};
 use guard::guard_fills;
@@ -28,7 +28,7 @@ const GUARD_LENGTH: u8 = GUARD_LIMIT as u8;
 
 // The first count outside its limits.
 pub fn counts_answer(states: u8, variables: u8, clocks: u8, kinds: u8, transitions: u8) -> Reading
-    ensures { result ≡ countsOf states variables clocks kinds transitions }
+    ensures { result ≡ counts_of states variables clocks kinds transitions }
 {
     if states < 1 {
         return Reading::Unsound(Refusal::TableCount { offset: 3 });
@@ -55,7 +55,7 @@ pub fn counts_answer(states: u8, variables: u8, clocks: u8, kinds: u8, transitio
 }
 
 fn kind_record(b: &[u8], at: u16, device: u8) -> Reading
-    ensures { result ≡ kindRecord b.now at device }
+    ensures { result ≡ kind_record b.now at device }
 {
     let version = byte(b, 2);
     let start = at as usize;
@@ -77,7 +77,7 @@ fn kind_record(b: &[u8], at: u16, device: u8) -> Reading
 
 // The records of kinds that have these devices.
 fn kind_records<'a>(b: &'a [u8], devices: &'a [u8]) -> Reading
-    ensures { result ≡ kindRecords devices.now b.now }
+    ensures { result ≡ kind_records devices.now b.now }
 {
     let n = byte(b, 6);
     let mut i = 0u8;
@@ -157,7 +157,7 @@ fn masks_fit(variables: u8, clocks: u8, sets: u8, clears: u8, resets: u8) -> boo
 
 fn transition_fields(b: &[u8], at: usize) -> Reading
     requires { at < 131072 }
-    ensures { result ≡ transitionFields b.now at }
+    ensures { result ≡ transition_fields b.now at }
 {
     let refused = Reading::Unsound(Refusal::TableField { offset: at as u64 });
     if !ends_fit(
@@ -184,7 +184,7 @@ fn transition_fields(b: &[u8], at: usize) -> Reading
 // The guard of the record at an offset: its length, its bytes and its form.
 fn guard_record(b: &[u8], at: usize) -> Reading
     requires { at < 131072 }
-    ensures { result ≡ guardRecord b.now at }
+    ensures { result ≡ guard_record b.now at }
 {
     let length = byte(b, at + 6);
     if length < 1 {
@@ -205,7 +205,7 @@ fn guard_record(b: &[u8], at: usize) -> Reading
 
 fn transition_record(b: &[u8], at: usize) -> Reading
     requires { at < 131072 }
-    ensures { result ≡ transitionRecord b.now at }
+    ensures { result ≡ transition_record b.now at }
 {
     if b.len() < at + 7 {
         return Reading::Unsound(Refusal::TableLength { offset: at as u64 });
@@ -218,7 +218,7 @@ fn transition_record(b: &[u8], at: usize) -> Reading
 }
 
 fn transition_records(b: &[u8]) -> Reading
-    ensures { result ≡ transitionRecords (transitionsAt b.now) b.now (transitionAt b.now 0) }
+    ensures { result ≡ transition_records (transitions_at b.now) b.now (transition_at b.now 0) }
 {
     let n = byte(b, 7);
     let mut at = transitions_at(b) as usize;
@@ -239,7 +239,7 @@ fn transition_records(b: &[u8]) -> Reading
 
 // The numbers 10 to 15 of bytes whose kinds have these devices.
 pub fn scan_with<'a>(b: &'a [u8], devices: &'a [u8]) -> Reading
-    ensures { result ≡ scanWith devices.now b.now }
+    ensures { result ≡ scan_with devices.now b.now }
 {
     let frame = framed_answer(
         Edition::One,
@@ -265,7 +265,7 @@ pub fn scan_with<'a>(b: &'a [u8], devices: &'a [u8]) -> Reading
 }
 
 fn size_answer(t: TableParts) -> Reading
-    ensures { result ≡ unless (leb (tableSize (monitorOf t)) sizeLimit) TableSize }
+    ensures { result ≡ unless (leb (table_size (monitor_of t)) size_limit) TableSize }
 {
     if SIZE_LIMIT < table_size(t) {
         return Reading::Unsound(Refusal::TableSize);
@@ -275,7 +275,7 @@ fn size_answer(t: TableParts) -> Reading
 
 // 16, then 17: what is asked of the whole table.
 pub fn whole_answer(t: TableParts) -> Reading
-    ensures { result ≡ wholeAnswer (monitorOf t) }
+    ensures { result ≡ whole_answer (monitor_of t) }
 {
     let size = size_answer(t);
     let states = states_answer(t);

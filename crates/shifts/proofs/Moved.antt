@@ -11,15 +11,15 @@ use lib.Dec.{leb, ltb}
 use lib.ListN.{get_or}
 use lib.Bits.{bit_and, bit_or}
 use Rattle.words.specs.Words.{bit, mem, Bits, up}
-use Rattle.words.proofs.Bit.{bit-or, bit-and, bit-zero, bit_past, bit-shr, bit-shl, bit_not}
-use Rattle.words.proofs.Sets.{mem-at, pair-bits}
+use Rattle.words.proofs.Bit.{bit_or_lem, bit_and_lem, bit_zero, bit_past, bit_shr, bit_shl, bit_not}
+use Rattle.words.proofs.Sets.{mem_at, pair_bits}
 use Rattle.words.proofs.Parts.{same_bits}
-use Rattle.shifts.specs.Shifted.{shifted, shiftedDown}
+use Rattle.shifts.specs.Shifted.{shifted, shifted_down}
 
 -- words further down
-leb-same : (a b c d : ℕ) → (a ≤ b → c ≤ d) → (c ≤ d → a ≤ b) → Dec (a ≤ b) → leb a b ≡ leb c d
-leb-same a b c d f g (yes h) = le-leb a b h ∙ sym (le-leb c d (f h))
-leb-same a b c d f g (no h) = lt-leb a b (omega arith) ∙ sym (lt-leb c d (lt_of_not-le (λ l. h (g l))))
+leb_same : (a b c d : ℕ) → (a ≤ b → c ≤ d) → (c ≤ d → a ≤ b) → Dec (a ≤ b) → leb a b ≡ leb c d
+leb_same a b c d f g (yes h) = le-leb a b h ∙ sym (le-leb c d (f h))
+leb_same a b c d f g (no h) = lt-leb a b (omega arith) ∙ sym (lt-leb c d (lt_of_not-le (λ l. h (g l))))
 
 module _ (s : List ℕ) (k by : ℕ) where
   pub before-bits : (x : ℕ) → by ≤ k → x ≡ get_or s (k - by) 0 → x < 2 ^ 64 → Bits 64 (λ j. up (64 * by) (mem s) (64 * k + j)) x
@@ -27,12 +27,12 @@ module _ (s : List ℕ) (k by : ℕ) where
   before-bits x h e small = record { bits = λ j. at j (dec_lt j 64) }
     where
       at : (j : ℕ) → Dec (j < 64) → bit x j ≡ (ltb j 64 && (leb (64 * by) (64 * k + j) && mem s (64 * k + j - 64 * by)))
-      at j (yes l) = simp (lt-ltb j 64 l, le-leb (64 * by) (64 * k + j) (omega arith), mem-at s (64 * k + j - 64 * by) (k - by) j (omega arith) l, ← e)
+      at j (yes l) = simp (lt-ltb j 64 l, le-leb (64 * by) (64 * k + j) (omega arith), mem_at s (64 * k + j - 64 * by) (k - by) j (omega arith) l, ← e)
       at j (no l) = simp (le-ltb j 64 (omega arith), bit_past 64 x j small (omega arith))
 
-  pub before-none : k < by → Bits 64 (λ j. up (64 * by) (mem s) (64 * k + j)) 0
+  pub before_none : k < by → Bits 64 (λ j. up (64 * by) (mem s) (64 * k + j)) 0
   unfolding up
-  before-none h = record { bits = λ j. bit-zero j ∙ at j (dec_lt j 64) }
+  before_none h = record { bits = λ j. bit_zero j ∙ at j (dec_lt j 64) }
     where
       at : (j : ℕ) → Dec (j < 64) → false ≡ (ltb j 64 && (leb (64 * by) (64 * k + j) && mem s (64 * k + j - 64 * by)))
       at j (yes l) = simp (lt-leb (64 * by) (64 * k + j) (omega arith), and-false)
@@ -51,7 +51,7 @@ module _ (s : List ℕ) (w k x y : ℕ) (bx : Bits 64 (λ j. up (64 * (k / 64)) 
         le-leb (k % 64) j e,
         lt-ltb (j - k % 64) 64 (omega arith),
         le-ltb (1 + (63 - k % 64 + j)) 64 (omega arith),
-        leb-same (64 * (k / 64)) (64 * w + (j - k % 64)) k (64 * w + j) (λ l. omega arith) (λ l. omega arith) (dec_le (64 * (k / 64)) (64 * w + (j - k % 64))),
+        leb_same (64 * (k / 64)) (64 * w + (j - k % 64)) k (64 * w + j) (λ l. omega arith) (λ l. omega arith) (dec_le (64 * (k / 64)) (64 * w + (j - k % 64))),
         or-false,
         n,
       )
@@ -62,7 +62,7 @@ module _ (s : List ℕ) (w k x y : ℕ) (bx : Bits 64 (λ j. up (64 * (k / 64)) 
         lt-ltb j 64 h,
         lt-leb (k % 64) j (omega arith),
         lt-ltb (1 + (63 - k % 64 + j)) 64 (omega arith),
-        leb-same (64 * (k / 64 + 1)) (64 * w + (1 + (63 - k % 64 + j))) k (64 * w + j) (λ l. omega arith) (λ l. omega arith)
+        leb_same (64 * (k / 64 + 1)) (64 * w + (1 + (63 - k % 64 + j))) k (64 * w + j) (λ l. omega arith) (λ l. omega arith)
             (dec_le (64 * (k / 64 + 1)) (64 * w + (1 + (63 - k % 64 + j)))),
         n,
       )
@@ -71,17 +71,17 @@ module _ (s : List ℕ) (w k x y : ℕ) (bx : Bits 64 (λ j. up (64 * (k / 64)) 
   up-bits =
       record {
         bits =
-            λ j. bit-or (x * 2 ^ (k % 64) % 2 ^ 64) (y / 2 ^ 1 / 2 ^ (63 - k % 64)) j
-            ∙ ap₂ (λ (a b : Bool). a || b) (bit-shl x (k % 64) j) (bit-shr (y / 2 ^ 1) (63 - k % 64) j ∙ bit-shr y 1 (63 - k % 64 + j))
+            λ j. bit_or_lem (x * 2 ^ (k % 64) % 2 ^ 64) (y / 2 ^ 1 / 2 ^ (63 - k % 64)) j
+            ∙ ap₂ (λ (a b : Bool). a || b) (bit_shl x (k % 64) j) (bit_shr (y / 2 ^ 1) (63 - k % 64) j ∙ bit_shr y 1 (63 - k % 64 + j))
             ∙ up_at j (dec_lt j 64) (dec_le (k % 64) j);
       }
 
 -- words further up
-pub down-bits : (s : List ℕ) (w k x y : ℕ) → x ≡ get_or s (w + k / 64) 0 → y ≡ get_or s (w + k / 64 + 1) 0 → x < 2 ^ 64
+pub down_bits : (s : List ℕ) (w k x y : ℕ) → x ≡ get_or s (w + k / 64) 0 → y ≡ get_or s (w + k / 64 + 1) 0 → x < 2 ^ 64
     → Bits 64 (λ j. mem s (64 * w + j + k)) (bit_or (x / 2 ^ (k % 64)) (y * 2 ^ 1 % 2 ^ 64 * 2 ^ (63 - k % 64) % 2 ^ 64))
-down-bits s w k x y ex ey small =
+down_bits s w k x y ex ey small =
     same_bits 64 (λ j. mem s (64 * (w + k / 64) + k % 64 + j)) (λ j. mem s (64 * w + j + k)) _ (λ j l. ap (mem s) (omega arith))
-    (pair-bits s (w + k / 64) (k % 64) x y (omega arith) ex ey small)
+    (pair_bits s (w + k / 64) (k % 64) x y (omega arith) ex ey small)
 
 -- one word of what is moved, cut and kept
 module _ (p : ℕ → Bool) (src keep cut : List ℕ) (w u x y z : ℕ) (bu : Bits 64 (λ j. p (64 * w + j)) u)
@@ -90,12 +90,12 @@ module _ (p : ℕ → Bool) (src keep cut : List ℕ) (w u x y z : ℕ) (bu : Bi
       → bit (bit_or (bit_and u (2 ^ 64 - 1 - z)) (bit_and x y)) j
       ≡ (ltb j 64 && ((p (64 * w + j) && not (mem cut (64 * w + j))) || (mem src (64 * w + j) && mem keep (64 * w + j))))
   kept_at j (yes h) =
-      bit-or (bit_and u (2 ^ 64 - 1 - z)) (bit_and x y) j
-      ∙ ap₂ (λ (a b : Bool). a || b) (bit-and u (2 ^ 64 - 1 - z) j ∙ ap₂ (λ (a b : Bool). a && b) (bu.bits j) (bit_not 64 z j sz h)) (bit-and x y j)
-      ∙ simp (lt-ltb j 64 h, mem-at src (64 * w + j) w j refl h, mem-at keep (64 * w + j) w j refl h, mem-at cut (64 * w + j) w j refl h, ← ez, ← ex, ← ey)
+      bit_or_lem (bit_and u (2 ^ 64 - 1 - z)) (bit_and x y) j
+      ∙ ap₂ (λ (a b : Bool). a || b) (bit_and_lem u (2 ^ 64 - 1 - z) j ∙ ap₂ (λ (a b : Bool). a && b) (bu.bits j) (bit_not 64 z j sz h)) (bit_and_lem x y j)
+      ∙ simp (lt-ltb j 64 h, mem_at src (64 * w + j) w j refl h, mem_at keep (64 * w + j) w j refl h, mem_at cut (64 * w + j) w j refl h, ← ez, ← ex, ← ey)
   kept_at j (no h) =
-      bit-or (bit_and u (2 ^ 64 - 1 - z)) (bit_and x y) j
-      ∙ ap₂ (λ (a b : Bool). a || b) (bit-and u (2 ^ 64 - 1 - z) j ∙ ap (λ (a : Bool). a && bit (2 ^ 64 - 1 - z) j) (bu.bits j)) (bit-and x y j)
+      bit_or_lem (bit_and u (2 ^ 64 - 1 - z)) (bit_and x y) j
+      ∙ ap₂ (λ (a b : Bool). a || b) (bit_and_lem u (2 ^ 64 - 1 - z) j ∙ ap (λ (a : Bool). a && bit (2 ^ 64 - 1 - z) j) (bu.bits j)) (bit_and_lem x y j)
       ∙ simp (le-ltb j 64 (omega arith), bit_past 64 x j sx (omega arith))
 
 module _ (src keep cut : List ℕ) (w k u x y z : ℕ) where
@@ -104,7 +104,7 @@ module _ (src keep cut : List ℕ) (w k u x y z : ℕ) where
   unfolding shifted
   shifted-bits bu ez ex ey sz sx = record { bits = λ j. kept_at (up k (mem src)) src keep cut w u x y z bu ez ex ey sz sx j (dec_lt j 64) }
 
-  pub shifted-down-bits : Bits 64 (λ j. mem src (64 * w + j + k)) u → z ≡ get_or cut w 0 → x ≡ get_or src w 0 → y ≡ get_or keep w 0 → z < 2 ^ 64 → x < 2 ^ 64
-      → Bits 64 (λ j. shiftedDown src k keep cut (64 * w + j)) (bit_or (bit_and u (2 ^ 64 - 1 - z)) (bit_and x y))
-  unfolding shiftedDown
-  shifted-down-bits bu ez ex ey sz sx = record { bits = λ j. kept_at (λ i. mem src (i + k)) src keep cut w u x y z bu ez ex ey sz sx j (dec_lt j 64) }
+  pub shifted_down_bits : Bits 64 (λ j. mem src (64 * w + j + k)) u → z ≡ get_or cut w 0 → x ≡ get_or src w 0 → y ≡ get_or keep w 0 → z < 2 ^ 64 → x < 2 ^ 64
+      → Bits 64 (λ j. shifted_down src k keep cut (64 * w + j)) (bit_or (bit_and u (2 ^ 64 - 1 - z)) (bit_and x y))
+  unfolding shifted_down
+  shifted_down_bits bu ez ex ey sz sx = record { bits = λ j. kept_at (λ i. mem src (i + k)) src keep cut w u x y z bu ez ex ey sz sx j (dec_lt j 64) }

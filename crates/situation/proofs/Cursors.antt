@@ -10,15 +10,15 @@ use mathlib.Core.Option.{none, some}
 use lib.ListN.{length, get_or, get_or-append}
 use lib.Dec.{ltb, eqb}
 use borrow.Author.Tests.{lt-ltb, le-ltb, eq-eqb, ltb-true, eqb-true}
-use Rattle.model.specs.Limits.{rowLimit}
+use Rattle.model.specs.Limits.{row_limit}
 use Rattle.model.specs.Bytes.{tab, padded}
 use Rattle.model.specs.Monitor.{Monitor}
 use Rattle.model.specs.Trace.{Packet, Spaced, PacketTrace}
-use Rattle.model.specs.Recording.{countAt, timeAt, rowKindAt, recordingParts, packetsOf, packetsAt}
-use Rattle.model.specs.Situation.{recordedAt}
-use Rattle.model.proofs.Basics.{length-tab, getD-tab, and_left, and_right}
-use Rattle.model.proofs.Instants.{recorded-here, recorded-later}
-use Rattle.situation.specs.Rows.{is_at, heardAt, passed_by, Cursor}
+use Rattle.model.specs.Recording.{count_at, time_at, row_kind_at, recording_parts, packets_of, packets_at}
+use Rattle.model.specs.Situation.{recorded_at}
+use Rattle.model.proofs.Basics.{length-tab, get_or-tab, and_left, and_right}
+use Rattle.model.proofs.Instants.{recorded_here, recorded_later}
+use Rattle.situation.specs.Rows.{is_at, heard_at, passed_by, Cursor}
 
 -- on packets
 
@@ -28,16 +28,16 @@ nowhere = record { time = 0; kind = 0 }
 abbrev time : List Packet → ℕ → ℕ
 time ps k = (get_or ps k nowhere).time
 
-recorded-none : (ps : List Packet) (t : ℕ) → ((k : ℕ) → k < length ps → time ps k ≡ t → ⊥) → recordedAt ps t ≡ none
-unfolding recordedAt
-recorded-none [] t other = refl
-recorded-none (p ∷ r) t other = recorded-later p r t (other 0 (omega arith)) ∙ recorded-none r t (λ k h. other (suc k) (omega arith))
+recorded_none : (ps : List Packet) (t : ℕ) → ((k : ℕ) → k < length ps → time ps k ≡ t → ⊥) → recorded_at ps t ≡ none
+unfolding recorded_at
+recorded_none [] t other = refl
+recorded_none (p ∷ r) t other = recorded_later p r t (other 0 (omega arith)) ∙ recorded_none r t (λ k h. other (suc k) (omega arith))
 
-recorded-first : (ps : List Packet) (i t : ℕ) → i < length ps → time ps i ≡ t → ((k : ℕ) → k < i → time ps k ≡ t → ⊥) → recordedAt ps t ≡ some (get_or ps i nowhere).kind
-recorded-first [] i t h e other = absurd (not-suc-le-zero h)
-recorded-first (p ∷ r) zero t h e other = recorded-here p r t e
-recorded-first (p ∷ r) (suc i) t h e other =
-    recorded-later p r t (other 0 (omega arith)) ∙ recorded-first r i t (omega arith) e (λ k l. other (suc k) (omega arith))
+recorded_first : (ps : List Packet) (i t : ℕ) → i < length ps → time ps i ≡ t → ((k : ℕ) → k < i → time ps k ≡ t → ⊥) → recorded_at ps t ≡ some (get_or ps i nowhere).kind
+recorded_first [] i t h e other = absurd (not-suc-le-zero h)
+recorded_first (p ∷ r) zero t h e other = recorded_here p r t e
+recorded_first (p ∷ r) (suc i) t h e other =
+    recorded_later p r t (other 0 (omega arith)) ∙ recorded_first r i t (omega arith) e (λ k l. other (suc k) (omega arith))
 
 module _ (m : Monitor) where
   later : (p : Packet) (r : List Packet) → Spaced m p r → (k : ℕ) → k < length r → p.time < time r k
@@ -45,15 +45,15 @@ module _ (m : Monitor) where
   later p (q ∷ r) s zero h = omega arith
   later p (q ∷ r) s (suc k) h = let l : q.time < time r k = later q r s.1 k (omega arith) in omega arith
 
-  spaced-rise : (p : Packet) (r : List Packet) → Spaced m p r → (j k : ℕ) → j < k → k < suc (length r) → time (p ∷ r) j < time (p ∷ r) k
-  spaced-rise p r s j zero l h = absurd (not-suc-le-zero l)
-  spaced-rise p r s zero (suc k) l h = later p r s k (omega arith)
-  spaced-rise p [] s (suc j) (suc k) l h = absurd (not-suc-le-zero {n = k} (omega arith))
-  spaced-rise p (q ∷ r) s (suc j) (suc k) l h = spaced-rise q r s.1 j k (omega arith) (omega arith)
+  spaced_rise : (p : Packet) (r : List Packet) → Spaced m p r → (j k : ℕ) → j < k → k < suc (length r) → time (p ∷ r) j < time (p ∷ r) k
+  spaced_rise p r s j zero l h = absurd (not-suc-le-zero l)
+  spaced_rise p r s zero (suc k) l h = later p r s k (omega arith)
+  spaced_rise p [] s (suc j) (suc k) l h = absurd (not-suc-le-zero {n = k} (omega arith))
+  spaced_rise p (q ∷ r) s (suc j) (suc k) l h = spaced_rise q r s.1 j k (omega arith) (omega arith)
 
   rise : (ps : List Packet) → PacketTrace m ps → (j k : ℕ) → j < k → k < length ps → time ps j < time ps k
   rise [] s j k l h = absurd (not-suc-le-zero h)
-  rise (p ∷ r) s j k l h = spaced-rise p r s.1 j k l h
+  rise (p ∷ r) s j k l h = spaced_rise p r s.1 j k l h
 
   positive : (ps : List Packet) → PacketTrace m ps → (k : ℕ) → k < length ps → 1 ≤ time ps k
   positive [] s k h = absurd (not-suc-le-zero h)
@@ -62,44 +62,44 @@ module _ (m : Monitor) where
 
 -- on bytes
 
-column : (f : ℕ → ℕ) (k n : ℕ) → k < n → get_or (padded rowLimit (tab f n)) k 0 ≡ f k
+column : (f : ℕ → ℕ) (k n : ℕ) → k < n → get_or (padded row_limit (tab f n)) k 0 ≡ f k
 unfolding padded
-column f k n h = get_or-append (tab f n) _ 0 k (omega (arith, length-tab f n)) ∙ getD-tab f 0 n k h
+column f k n h = get_or-append (tab f n) _ 0 k (omega (arith, length-tab f n)) ∙ get_or-tab f 0 n k h
 
-row : (b : List ℕ) (k : ℕ) → k < countAt b → get_or (packetsAt b) k nowhere ≡ record { time = timeAt b k; kind = rowKindAt b k }
-unfolding packetsOf recordingParts
-row b k h = getD-tab _ nowhere (countAt b) k h ∙ (λ i. record { time = column (timeAt b) k _ h i; kind = column (rowKindAt b) k _ h i })
+row : (b : List ℕ) (k : ℕ) → k < count_at b → get_or (packets_at b) k nowhere ≡ record { time = time_at b k; kind = row_kind_at b k }
+unfolding packets_of recording_parts
+row b k h = get_or-tab _ nowhere (count_at b) k h ∙ (λ i. record { time = column (time_at b) k _ h i; kind = column (row_kind_at b) k _ h i })
 
-row-time : (b : List ℕ) (k : ℕ) → k < countAt b → time (packetsAt b) k ≡ timeAt b k
+row-time : (b : List ℕ) (k : ℕ) → k < count_at b → time (packets_at b) k ≡ time_at b k
 row-time b k h = ap (λ (p : Packet). p.time) (row b k h)
 
-pub row_count : (b : List ℕ) → length (packetsAt b) ≡ countAt b
-unfolding packetsOf recordingParts
-row_count b = length-tab _ (countAt b)
+pub row_count : (b : List ℕ) → length (packets_at b) ≡ count_at b
+unfolding packets_of recording_parts
+row_count b = length-tab _ (count_at b)
 
 module _ (b : List ℕ) (i t : ℕ) where
-  pub at_row : i < countAt b → is_at b i t ≡ eqb (timeAt b i) t
+  pub at_row : i < count_at b → is_at b i t ≡ eqb (time_at b i) t
   unfolding is_at
   at_row h = simp (lt-ltb _ _ h)
 
-  pub past-rows : countAt b ≤ i → is_at b i t ≡ false
+  pub past-rows : count_at b ≤ i → is_at b i t ≡ false
   unfolding is_at
   past-rows h = simp (le-ltb _ _ h)
 
-  is-at : is_at b i t ≡ true → (i < countAt b) × (timeAt b i ≡ t)
+  is_at_lem : is_at b i t ≡ true → (i < count_at b) × (time_at b i ≡ t)
   unfolding is_at
-  is-at e = (
-    ltb-true i (countAt b) (and_left (ltb i (countAt b)) (eqb (timeAt b i) t) e),
-    eqb-true (timeAt b i) t (and_right (ltb i (countAt b)) (eqb (timeAt b i) t) e),
+  is_at_lem e = (
+    ltb-true i (count_at b) (and_left (ltb i (count_at b)) (eqb (time_at b i) t) e),
+    eqb-true (time_at b i) t (and_right (ltb i (count_at b)) (eqb (time_at b i) t) e),
   )
 
-  is-not : is_at b i t ≡ false → i < countAt b → timeAt b i ≡ t → ⊥
-  is-not e h q = false≢true (sym e ∙ at_row h ∙ eq-eqb (timeAt b i) t q)
+  is_not : is_at b i t ≡ false → i < count_at b → time_at b i ≡ t → ⊥
+  is_not e h q = false≢true (sym e ∙ at_row h ∙ eq-eqb (time_at b i) t q)
 
-module _ (m : Monitor) (b : List ℕ) (trace : PacketTrace m (packetsAt b)) where
-  pub times-rise : (j k : ℕ) → j < k → k < countAt b → timeAt b j < timeAt b k
-  times-rise j k l h =
-      omega (arith, row-time b j (omega arith), row-time b k h, rise m (packetsAt b) trace j k l (omega (arith, row_count b)))
+module _ (m : Monitor) (b : List ℕ) (trace : PacketTrace m (packets_at b)) where
+  pub times_rise : (j k : ℕ) → j < k → k < count_at b → time_at b j < time_at b k
+  times_rise j k l h =
+      omega (arith, row-time b j (omega arith), row-time b k h, rise m (packets_at b) trace j k l (omega (arith, row_count b)))
 
   -- before instant 1 no row is behind
   pub first-cursor : Cursor b 0 1
@@ -107,57 +107,57 @@ module _ (m : Monitor) (b : List ℕ) (trace : PacketTrace m (packetsAt b)) wher
       record {
         within = omega arith;
         before = λ k h. absurd (not-suc-le-zero h);
-        behind = λ k l h. omega (arith, row-time b k h, positive m (packetsAt b) trace k (omega (arith, row_count b)));
+        behind = λ k l h. omega (arith, row-time b k h, positive m (packets_at b) trace k (omega (arith, row_count b)));
       }
 
   module _ {i t : ℕ} (at : Cursor b i t) where
     -- a row at instant t can only be row i
-    only : (k : ℕ) → k < countAt b → timeAt b k ≡ t → k ≡ i
+    only : (k : ℕ) → k < count_at b → time_at b k ≡ t → k ≡ i
     only k h e = on (dec_lt k i) (dec_lt i k)
       where
         on : Dec (k < i) → Dec (i < k) → k ≡ i
         on (yes l) d = omega (arith, at.before k l)
-        on (no l) (yes g) = omega (arith, times-rise i k g h, at.behind i (omega arith) (omega arith))
+        on (no l) (yes g) = omega (arith, times_rise i k g h, at.behind i (omega arith) (omega arith))
         on (no l) (no g) = omega arith
 
-    pub heard-recorded : heardAt b i t ≡ recordedAt (packetsAt b) t
-    unfolding heardAt
-    heard-recorded = on (is_at b i t) refl
+    pub heard_recorded : heard_at b i t ≡ recorded_at (packets_at b) t
+    unfolding heard_at
+    heard_recorded = on (is_at b i t) refl
       where
-        on : (found : Bool) → is_at b i t ≡ found → heardAt b i t ≡ recordedAt (packetsAt b) t
+        on : (found : Bool) → is_at b i t ≡ found → heard_at b i t ≡ recorded_at (packets_at b) t
         on true e =
-            let (h, q) = is-at b i t e in
+            let (h, q) = is_at_lem b i t e in
             (simp e)
             ∙ sym
-            (recorded-first (packetsAt b) i t (omega (arith, row_count b)) (row-time b i h ∙ q)
+            (recorded_first (packets_at b) i t (omega (arith, row_count b)) (row-time b i h ∙ q)
             (λ k l w. omega (arith, at.before k l, row-time b k (omega arith)))
             ∙ ap (λ (p : Packet). some p.kind) (row b i h))
         on false e =
             (simp e)
             ∙ sym
-            (recorded-none (packetsAt b) t
+            (recorded_none (packets_at b) t
             (λ k l w.
-            let h : k < countAt b = omega (arith, row_count b) in
-            let q : timeAt b k ≡ t = sym (row-time b k h) ∙ w in
+            let h : k < count_at b = omega (arith, row_count b) in
+            let q : time_at b k ≡ t = sym (row-time b k h) ∙ w in
             let same : k ≡ i = only k h q in
-            is-not b i t e (omega arith) (ap (timeAt b) (sym same) ∙ q)))
+            is_not b i t e (omega arith) (ap (time_at b) (sym same) ∙ q)))
 
-    up_to : (k : ℕ) → k < i + 1 → timeAt b i ≡ t → timeAt b k < t + 1
+    up_to : (k : ℕ) → k < i + 1 → time_at b i ≡ t → time_at b k < t + 1
     up_to k l q = on (dec_lt k i)
       where
-        on : Dec (k < i) → timeAt b k < t + 1
+        on : Dec (k < i) → time_at b k < t + 1
         on (yes g) = omega (arith, at.before k g)
-        on (no g) = let same : k ≡ i = omega arith in omega (arith, ap (timeAt b) same)
+        on (no g) = let same : k ≡ i = omega arith in omega (arith, ap (time_at b) same)
 
-    past : (k : ℕ) → i ≤ k → k < countAt b → (i < countAt b → timeAt b i ≡ t → ⊥) → t + 1 ≤ timeAt b k
-    past k l g other = on (dec_lt t (timeAt b k))
+    past : (k : ℕ) → i ≤ k → k < count_at b → (i < count_at b → time_at b i ≡ t → ⊥) → t + 1 ≤ time_at b k
+    past k l g other = on (dec_lt t (time_at b k))
       where
-        on : Dec (t < timeAt b k) → t + 1 ≤ timeAt b k
+        on : Dec (t < time_at b k) → t + 1 ≤ time_at b k
         on (yes h) = omega arith
         on (no h) =
-            let q : timeAt b k ≡ t = omega (arith, at.behind k l g) in
+            let q : time_at b k ≡ t = omega (arith, at.behind k l g) in
             let same : k ≡ i = only k g q in
-            absurd (other (omega arith) (ap (timeAt b) (sym same) ∙ q))
+            absurd (other (omega arith) (ap (time_at b) (sym same) ∙ q))
 
     -- so the next cursor has exactly the rows with times at most t before it
     pub passed_cursor : Cursor b (passed_by b i t) (t + 1)
@@ -166,17 +166,17 @@ module _ (m : Monitor) (b : List ℕ) (trace : PacketTrace m (packetsAt b)) wher
       where
         on : (found : Bool) → is_at b i t ≡ found → Cursor b (passed_by b i t) (t + 1)
         on true e =
-            let (h, q) = is-at b i t e in
+            let (h, q) = is_at_lem b i t e in
             rw e
             (record {
               within = omega arith;
               before = λ k l. up_to k l q;
-              behind = λ k l g. omega (arith, times-rise i k (omega arith) g);
+              behind = λ k l g. omega (arith, times_rise i k (omega arith) g);
             })
         on false e =
             rw e
             (record {
               within = at.within;
               before = λ k l. omega (arith, at.before k l);
-              behind = λ k l g. past k l g (is-not b i t e);
+              behind = λ k l g. past k l g (is_not b i t e);
             })

@@ -1,6 +1,6 @@
 // A situation's number: its parts as digits, the first the lowest.
 ghost use Rattle.std.specs.Prelude.{◌≡◌, [], ◌∷◌, ◌+◌, ◌*◌, ◌≤◌, ◌<◌};
-ghost use Rattle.situation.specs.Numbering.{masksOf, shape_of, digitBy, restBy, numberBy, situationBy};
+ghost use Rattle.situation.specs.Numbering.{masks_of, shape_of, digit_by, rest_by, number_by, situation_by};
 
 use crate::Shape;
 use model::{Rule, Situation, TableParts, VARIABLE_LIMIT};
@@ -9,7 +9,7 @@ use sizes::clock_values;
 use wire::short;
 
 fn masks_of(variables: u8) -> u8
-    ensures { result ≡ masksOf variables }
+    ensures { result ≡ masks_of variables }
 {
     if variables <= VARIABLE_LIMIT {
         1 << variables
@@ -40,7 +40,7 @@ fn over(digit: u16, radix: u16, above: u64) -> u64
 }
 
 pub fn number(h: Shape, s: Situation) -> u64
-    ensures { result ≡ numberBy h s }
+    ensures { result ≡ number_by h s }
 {
     let first = short(&s.clocks, 0);
     let second = short(&s.clocks, 1);
@@ -51,20 +51,20 @@ pub fn number(h: Shape, s: Situation) -> u64
 }
 
 fn digit(radix: u64, n: u64) -> u64
-    ensures { (result ≡ digitBy radix n) × (result ≤ radix) }
+    ensures { (result ≡ digit_by radix n) × (result ≤ radix) }
 {
     if radix == 0 { 0 } else { n % radix }
 }
 
 fn rest(radix: u64, n: u64) -> u64
-    ensures { result ≡ restBy radix n }
+    ensures { result ≡ rest_by radix n }
 {
     if radix == 0 { 0 } else { n / radix }
 }
 
 // What both clocks read.
 fn clocks_of(h: Shape, n: u64) -> [u16; 2]
-    ensures { result ≡ digitBy h.first n ∷ digitBy h.second (restBy h.first n) ∷ [] }
+    ensures { result ≡ digit_by h.first n ∷ digit_by h.second (rest_by h.first n) ∷ [] }
 {
     let first = h.first as u64;
     let second = h.second as u64;
@@ -73,13 +73,13 @@ fn clocks_of(h: Shape, n: u64) -> [u16; 2]
 
 // The digits above the clocks'.
 fn above_clocks(h: Shape, n: u64) -> u64
-    ensures { result ≡ restBy h.second (restBy h.first n) }
+    ensures { result ≡ rest_by h.second (rest_by h.first n) }
 {
     rest(h.second as u64, rest(h.first as u64, n))
 }
 
 pub fn situation_of(h: Shape, n: u64) -> Situation
-    ensures { result ≡ situationBy h n }
+    ensures { result ≡ situation_by h n }
 {
     let above = above_clocks(h, n);
     let masks = h.masks as u64;

@@ -1,6 +1,6 @@
 // What a recording's bytes say of an instant.
 ghost use Rattle.std.specs.Prelude.{◌≡◌, true, ◌<◌};
-ghost use Rattle.situation.specs.Rows.{heardOf, is_at, heardAt, passed_by};
+ghost use Rattle.situation.specs.Rows.{heard_of, is_at, heard_at, passed_by};
 
 use crate::Heard;
 use wire::{byte, word};
@@ -17,7 +17,7 @@ fn is_at(recording: &[u8], i: usize, t: u64) -> bool
 
 // The kind of row i, if there is one at instant t.
 pub fn heard_at(recording: &[u8], i: usize, t: u64) -> Heard
-    ensures { heardOf result ≡ heardAt recording.now i t }
+    ensures { heard_of result ≡ heard_at recording.now i t }
 {
     if is_at(recording, i, t) {
         Heard::Kind(byte(recording, 7 + 3 * i))

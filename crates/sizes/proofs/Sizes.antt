@@ -10,32 +10,32 @@ use lib.Pow.{pow_mono}
 use Rattle.model.specs.Bytes.{tab}
 use Rattle.model.specs.Guard.{largest}
 use Rattle.model.specs.Monitor.{Transition}
-use Rattle.model.specs.Size.{largestIn, greatest}
-use Rattle.model.specs.Table.{guardIn, transitionIn}
+use Rattle.model.specs.Size.{largest_in, greatest}
+use Rattle.model.specs.Table.{guard_in, transition_in}
 use Rattle.model.specs.declared.TableParts.{TableParts}
 
-largestIn-last : (i : ℕ) (ts : List Transition) (t : Transition) → largestIn i (ts ++ (t ∷ [])) ≡ max (largestIn i ts) (largest i t.guard)
-unfolding largestIn
-largestIn-last i [] t = omega arith
-largestIn-last i (u ∷ ts) t = omega (arith, largestIn-last i ts t)
+largest_in-last : (i : ℕ) (ts : List Transition) (t : Transition) → largest_in i (ts ++ (t ∷ [])) ≡ max (largest_in i ts) (largest i t.guard)
+unfolding largest_in
+largest_in-last i [] t = omega arith
+largest_in-last i (u ∷ ts) t = omega (arith, largest_in-last i ts t)
 
 greatest-last : (l : List ℕ) (a : ℕ) → greatest (l ++ (a ∷ [])) ≡ max (greatest l) a
 unfolding greatest
 greatest-last [] a = omega arith
 greatest-last (x ∷ l) a = omega (arith, greatest-last l a)
 
-pub bound-more : (i : ℕ) (t : TableParts) (j : ℕ) → largestIn i (tab (transitionIn t) (j + 1)) ≡ max (largestIn i (tab (transitionIn t) j)) (largest i (guardIn t j))
-unfolding tab transitionIn
-bound-more i t j = rw add-one (largestIn-last i (tab (transitionIn t) j) (transitionIn t j))
+pub bound_more : (i : ℕ) (t : TableParts) (j : ℕ) → largest_in i (tab (transition_in t) (j + 1)) ≡ max (largest_in i (tab (transition_in t) j)) (largest i (guard_in t j))
+unfolding tab transition_in
+bound_more i t j = rw add-one (largest_in-last i (tab (transition_in t) j) (transition_in t j))
 
 pub airtime-more : (f : ℕ → ℕ) (n : ℕ) → greatest (tab f (n + 1)) ≡ max (greatest (tab f n)) (f n)
 unfolding tab
 airtime-more f n = rw add-one (greatest-last (tab f n) (f n))
 
 -- a product that stops at a limit may take a factor that stops there
-pub times-least : (a b m : ℕ) → min (a * min b m) m ≡ min (a * b) m
-times-least zero b m = rw (zero-mul (min b m), zero-mul b)
-times-least (suc a) b m = go (dec_le b m)
+pub times_least : (a b m : ℕ) → min (a * min b m) m ≡ min (a * b) m
+times_least zero b m = rw (zero-mul (min b m), zero-mul b)
+times_least (suc a) b m = go (dec_le b m)
   where
     over : m ≤ suc a * m
     over = omega (arith, le-mul_of_pos_right m (zero-lt-suc a), mul_comm m (suc a))
@@ -52,13 +52,13 @@ power_small n h =
     let small : 2 ^ n ≤ 2 ^ 16 = pow_mono {i = n} {j = 16} (omega arith) in
     rw (one-mul (2 ^ n), mod-eq_of_lt {n = 2 ^ n} {m = 18446744073709551616} (omega arith)) (omega arith)
 
-pub power-large : (n : ℕ) → 17 ≤ n → 65537 ≡ min (2 ^ n) 65537
-power-large n h = let large : 2 ^ 17 ≤ 2 ^ n = pow_mono h in omega arith
+pub power_large : (n : ℕ) → 17 ≤ n → 65537 ≡ min (2 ^ n) 65537
+power_large n h = let large : 2 ^ 17 ≤ 2 ^ n = pow_mono h in omega arith
 
 -- the factors of N, one after the other
-pub product-least : (s p x y z m q r t u v : ℕ) → r ≡ min (y * z) m → t ≡ min (x * r) m → q ≡ min p m → u ≡ min (q * t) m → v ≡ min (s * u) m → v ≡ min (s * (p * (x * (y * z)))) m
-product-least s p x y z m q r t u v er et eq eu ev =
-    let a : t ≡ min (x * (y * z)) m = et ∙ rw er (times-least x (y * z) m) in
+pub product_least : (s p x y z m q r t u v : ℕ) → r ≡ min (y * z) m → t ≡ min (x * r) m → q ≡ min p m → u ≡ min (q * t) m → v ≡ min (s * u) m → v ≡ min (s * (p * (x * (y * z)))) m
+product_least s p x y z m q r t u v er et eq eu ev =
+    let a : t ≡ min (x * (y * z)) m = et ∙ rw er (times_least x (y * z) m) in
     let b : u ≡ min (p * (x * (y * z))) m =
-    eu ∙ rw (a, times-least q (x * (y * z)) m, mul_comm q (x * (y * z)), eq, times-least (x * (y * z)) p m, mul_comm (x * (y * z)) p) in
-    ev ∙ rw b (times-least s (p * (x * (y * z))) m)
+    eu ∙ rw (a, times_least q (x * (y * z)) m, mul_comm q (x * (y * z)), eq, times_least (x * (y * z)) p m, mul_comm (x * (y * z)) p) in
+    ev ∙ rw b (times_least s (p * (x * (y * z))) m)

@@ -1,8 +1,8 @@
 // M, A and N of a table's parts, for any parts.
 ghost use Rattle.std.specs.Prelude.{◌≡◌, ◌+◌, ◌*◌, ◌^◌, ◌≤◌, min};
-ghost use Rattle.model.specs.Limits.{sizeLimit};
-ghost use Rattle.model.specs.Size.{largestBound, largestAirtime, cap, tableSize};
-ghost use Rattle.model.specs.Table.{monitorOf};
+ghost use Rattle.model.specs.Limits.{size_limit};
+ghost use Rattle.model.specs.Size.{largest_bound, largest_airtime, cap, table_size};
+ghost use Rattle.model.specs.Table.{monitor_of};
 
 use guard::{guard_bound, larger};
 use model::{GUARD_LIMIT, SIZE_LIMIT, TableParts};
@@ -13,7 +13,7 @@ const MANY: u64 = SIZE_LIMIT + 1;
 
 // M: the largest T compared with a clock in any guard.
 pub fn largest_bound(t: TableParts, clock: usize) -> u64
-    ensures { (result ≡ largestBound (monitorOf t) clock) × (result ≤ 255) }
+    ensures { (result ≡ largest_bound (monitor_of t) clock) × (result ≤ 255) }
 {
     let mut most = 0;
     let mut j = 0;
@@ -38,7 +38,7 @@ pub fn largest_bound(t: TableParts, clock: usize) -> u64
 
 // A: the largest airtime of any kind.
 pub fn largest_airtime(t: TableParts) -> u64
-    ensures { (result ≡ largestAirtime (monitorOf t)) × (result ≤ 255) }
+    ensures { (result ≡ largest_airtime (monitor_of t)) × (result ≤ 255) }
 {
     let mut most = 0;
     let mut i = 0;
@@ -52,7 +52,7 @@ pub fn largest_airtime(t: TableParts) -> u64
 
 // How many values a clock is written with: 0 to M + 1, and 0 alone for a clock that the table does not have.
 pub fn clock_values(t: TableParts, clock: usize) -> u64
-    ensures { (result ≡ cap (monitorOf t) clock + 1) × (result ≤ 257) }
+    ensures { (result ≡ cap (monitor_of t) clock + 1) × (result ≤ 257) }
 {
     if clock < t.clocks as usize {
         largest_bound(t, clock) + 2
@@ -62,21 +62,21 @@ pub fn clock_values(t: TableParts, clock: usize) -> u64
 }
 
 fn times(a: u64, b: u64) -> u64
-    requires { (a ≤ sizeLimit + 1) × (b ≤ sizeLimit + 1) }
-    ensures { (result ≡ min (a * b) (sizeLimit + 1)) × (result ≤ sizeLimit + 1) }
+    requires { (a ≤ size_limit + 1) × (b ≤ size_limit + 1) }
+    ensures { (result ≡ min (a * b) (size_limit + 1)) × (result ≤ size_limit + 1) }
 {
     if MANY < a * b { MANY } else { a * b }
 }
 
 fn power(n: u8) -> u64
-    ensures { (result ≡ min (2 ^ n) (sizeLimit + 1)) × (result ≤ sizeLimit + 1) }
+    ensures { (result ≡ min (2 ^ n) (size_limit + 1)) × (result ≤ size_limit + 1) }
 {
     if n < 17 { 1 << n } else { MANY }
 }
 
 // N, the number of situations, and one above the limit for all that are more.
 pub fn table_size(t: TableParts) -> u64
-    ensures { result ≡ min (tableSize (monitorOf t)) (sizeLimit + 1) }
+    ensures { result ≡ min (table_size (monitor_of t)) (size_limit + 1) }
 {
     let clocks = times(
         clock_values(t, 0),

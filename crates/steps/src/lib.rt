@@ -1,12 +1,12 @@
 // One step: a move and then one tick.
 ghost use Rattle.std.specs.Prelude.{◌≡◌};
 ghost use Rattle.model.specs.Situation.{keep, add, move_of};
-ghost use Rattle.monitor.specs.From.{monitorFrom};
+ghost use Rattle.monitor.specs.From.{monitor_from};
 ghost use Rattle.rests.specs.Resting.{stepped};
-ghost use Rattle.situation.specs.Rows.{heardOf};
-ghost use Rattle.situation.specs.Ruled.{ruledFrom};
-ghost use Rattle.steps.specs.Stepping.{arrivalOf, arriveFrom};
-ghost use Rattle.steps.specs.Steps.{sentBy, triggerKind, triggerFrom};
+ghost use Rattle.situation.specs.Rows.{heard_of};
+ghost use Rattle.situation.specs.Ruled.{ruled_from};
+ghost use Rattle.steps.specs.Stepping.{arrival_of, arrive_from};
+ghost use Rattle.steps.specs.Steps.{sent_by, trigger_kind, trigger_from};
 
 use model::{FIRST_ADD, REST, Situation};
 use monitor::{airtime_of, device_of, fire};
@@ -34,7 +34,7 @@ fn sent<'a>(
     s: Situation,
 ) -> Next
     requires { s.air ≡ 0 }
-    ensures { result ≡ sentBy h (ruledFrom h table.now offsets.now) guess j kind s }
+    ensures { result ≡ sent_by h (ruled_from h table.now offsets.now) guess j kind s }
 {
     let rule = h.rule;
     if !allows(rule, s.window, guess) {
@@ -52,7 +52,7 @@ fn sent<'a>(
 
 // The kind on which transition j fires, if it does from a state.
 fn trigger_from<'a>(table: &'a [u8], offsets: &'a [u16], state: u8, j: usize) -> Trigger
-    ensures { triggerKind result ≡ triggerFrom (monitorFrom table.now offsets.now) state j }
+    ensures { trigger_kind result ≡ trigger_from (monitor_from table.now offsets.now) state j }
 {
     if byte(table, 7) as usize <= j {
         return Trigger::Absent;
@@ -73,7 +73,7 @@ fn kept<'a>(
     j: usize,
 ) -> Next
     requires { s.air ≡ 0 }
-    ensures { result ≡ stepped h (ruledFrom h table.now offsets.now) (heardOf heard) s (keep j) }
+    ensures { result ≡ stepped h (ruled_from h table.now offsets.now) (heard_of heard) s (keep j) }
 {
     match heard {
         Heard::Nothing => nowhere(s),
@@ -91,7 +91,7 @@ fn added<'a>(
     j: usize,
 ) -> Next
     requires { s.air ≡ 0 }
-    ensures { result ≡ stepped h (ruledFrom h table.now offsets.now) (heardOf heard) s (add j) }
+    ensures { result ≡ stepped h (ruled_from h table.now offsets.now) (heard_of heard) s (add j) }
 {
     if let Heard::Kind(_) = heard {
         return nowhere(s);
@@ -113,7 +113,7 @@ pub fn next<'a>(
     s: Situation,
     k: usize,
 ) -> Next
-    ensures { result ≡ stepped h (ruledFrom h table.now offsets.now) (heardOf heard) s (move_of k) }
+    ensures { result ≡ stepped h (ruled_from h table.now offsets.now) (heard_of heard) s (move_of k) }
 {
     if k == REST {
         return rested(table, h, heard, s);
@@ -136,7 +136,7 @@ pub fn arrive<'a>(
     s: Situation,
     k: usize,
 ) -> Arrival
-    ensures { arrivalOf result ≡ arriveFrom table.now offsets.now h (heardOf heard) s k }
+    ensures { arrival_of result ≡ arrive_from table.now offsets.now h (heard_of heard) s k }
 {
     let n = next(table, offsets, h, heard, s, k);
     if n.leads {

@@ -14,20 +14,20 @@ use lib.Seq.{length-take-le}
 use lib.Arith.{mod-mul}
 use Rattle.words.specs.Words.{mem, up, Is, Bits, bit}
 use Rattle.words.proofs.Sets.{mem-past}
-use Rattle.words.proofs.Bit.{bit_mask, bit-zero}
-use Rattle.strides.specs.Strides.{withUp}
-use Rattle.strides.proofs.Parts.{mem-part, mem-within, mem-behind}
+use Rattle.words.proofs.Bit.{bit_mask, bit_zero}
+use Rattle.strides.specs.Strides.{with_up}
+use Rattle.strides.proofs.Parts.{mem_part, mem-within, mem-behind}
 
-pub ltb-same : (a b c d : ℕ) → (a < b → c < d) → (c < d → a < b) → Dec (a < b) → Dec (c < d) → ltb a b ≡ ltb c d
-ltb-same a b c d f g (yes h) e = lt-ltb a b h ∙ sym (lt-ltb c d (f h))
-ltb-same a b c d f g (no h) (yes l) = absurd (h (g l))
-ltb-same a b c d f g (no h) (no l) = le-ltb a b (omega arith) ∙ sym (le-ltb c d (omega arith))
+pub ltb_same : (a b c d : ℕ) → (a < b → c < d) → (c < d → a < b) → Dec (a < b) → Dec (c < d) → ltb a b ≡ ltb c d
+ltb_same a b c d f g (yes h) e = lt-ltb a b h ∙ sym (lt-ltb c d (f h))
+ltb_same a b c d f g (no h) (yes l) = absurd (h (g l))
+ltb_same a b c d f g (no h) (no l) = le-ltb a b (omega arith) ∙ sym (le-ltb c d (omega arith))
 
 -- the words of the numbers below e
 module _ (k e : ℕ) where
   below_by : (x m : ℕ) → ((j : ℕ) → bit x j ≡ ltb j m) → ((j : ℕ) → j < 64 → j < m → 64 * k + j < e) → ((j : ℕ) → j < 64 → 64 * k + j < e → j < m) → m ≤ 64
       → (j : ℕ) → Dec (j < 64) → bit x j ≡ (ltb j 64 && ltb (64 * k + j) e)
-  below_by x m b f g h j (yes l) = b j ∙ ltb-same j m (64 * k + j) e (f j l) (g j l) (dec_lt j m) (dec_lt (64 * k + j) e) ∙ simp (lt-ltb j 64 l)
+  below_by x m b f g h j (yes l) = b j ∙ ltb_same j m (64 * k + j) e (f j l) (g j l) (dec_lt j m) (dec_lt (64 * k + j) e) ∙ simp (lt-ltb j 64 l)
   below_by x m b f g h j (no l) = b j ∙ simp (le-ltb j m (omega arith), le-ltb j 64 (omega arith))
 
   pub below-bits : (x m : ℕ) → ((j : ℕ) → bit x j ≡ ltb j m) → ((j : ℕ) → j < 64 → j < m → 64 * k + j < e) → ((j : ℕ) → j < 64 → 64 * k + j < e → j < m) → m ≤ 64
@@ -41,51 +41,51 @@ module _ (k e : ℕ) where
   below-some h = below-bits (2 ^ (e % 64) - 1) (e % 64) (bit_mask (e % 64)) (λ j l m. omega arith) (λ j l m. omega arith) (omega arith)
 
   pub below_none : e / 64 < k → Bits 64 (λ j. ltb (64 * k + j) e) 0
-  below_none h = below-bits 0 0 (λ j. bit-zero j ∙ sym (le-ltb j 0 (omega arith))) (λ j l m. absurd (omega arith)) (λ j l m. absurd (omega arith)) (omega arith)
+  below_none h = below-bits 0 0 (λ j. bit_zero j ∙ sym (le-ltb j 0 (omega arith))) (λ j l m. absurd (omega arith)) (λ j l m. absurd (omega arith)) (omega arith)
 
 -- only the first m words are joined, since nothing is further up
 module _ (s y : List ℕ) (e m : ℕ) (h : m ≤ length s) (most : m < length s → e / 32 < m) (none : (i : ℕ) → e ≤ i → mem s i ≡ false)
-    (x : Is (withUp e (mem (take m (drop 0 s)))) (take m (drop 0 s)) y) (size : length y ≡ m) where
+    (x : Is (with_up e (mem (take m (drop 0 s)))) (take m (drop 0 s)) y) (size : length y ≡ m) where
   size' : length (take m (drop 0 s)) ≡ m
   size' = length-take-le m s h
 
   first : (i : ℕ) → i < 64 * m → mem (take m (drop 0 s)) i ≡ mem s i
-  first i l = let z : 64 * 0 + i ≡ i = omega arith in mem-part s 0 m i l ∙ ap (mem s) z
+  first i l = let z : 64 * 0 + i ≡ i = omega arith in mem_part s 0 m i l ∙ ap (mem s) z
 
-  grown-by : (i : ℕ) → i < 64 * length s → Dec (i < 64 * m) → mem (y ++ drop m (drop 0 s)) i ≡ withUp e (mem s) i
-  unfolding withUp up
-  grown-by i l (yes b) =
+  grown_by : (i : ℕ) → i < 64 * length s → Dec (i < 64 * m) → mem (y ++ drop m (drop 0 s)) i ≡ with_up e (mem s) i
+  unfolding with_up up
+  grown_by i l (yes b) =
       let z : 64 * 0 + i ≡ i = omega arith in
       ap (λ (n : ℕ). mem (y ++ drop m (drop 0 s)) n) (sym z)
       ∙ mem-within s y (drop m (drop 0 s)) 0 (omega arith) i (omega arith)
       ∙ x.all i (omega (arith, size'))
       ∙ ap₂ (λ (p q : Bool). p || (leb e i && q)) (first i b) (first (i - e) (omega arith))
-  grown-by i l (no b) =
+  grown_by i l (no b) =
       mem-behind s y 0 m (omega arith) size i (omega arith)
       ∙ (let far = most (omega arith) in simp (none i (omega arith), none (i - e) (omega arith), and-false))
 
-  pub grown : Is (withUp e (mem s)) s (y ++ drop m (drop 0 s))
-  grown = record { size = same_len_mid 0 m s y (size ∙ sym size'); all = λ i l. grown-by i l (dec_lt i (64 * m)) }
+  pub grown : Is (with_up e (mem s)) s (y ++ drop m (drop 0 s))
+  grown = record { size = same_len_mid 0 m s y (size ∙ sym size'); all = λ i l. grown_by i l (dec_lt i (64 * m)) }
 
 -- one period, then two times as much
-pub period-first : (s : List ℕ) (e : ℕ) → ((i : ℕ) → e ≤ i → mem s i ≡ false) → Is (λ x. ltb x e && mem s (x % e)) s s
-period-first s e none = record { size = refl; all = λ i l. at i (dec_lt i e) }
+pub period_first : (s : List ℕ) (e : ℕ) → ((i : ℕ) → e ≤ i → mem s i ≡ false) → Is (λ x. ltb x e && mem s (x % e)) s s
+period_first s e none = record { size = refl; all = λ i l. at i (dec_lt i e) }
   where
     at : (i : ℕ) → Dec (i < e) → mem s i ≡ (ltb i e && mem s (i % e))
     at i (yes l) = simp (lt-ltb i e l, mod-eq_of_lt l)
     at i (no l) = none i (omega arith) ∙ simp (le-ltb i e (omega arith))
 
 module _ (s a b : List ℕ) (p e : ℕ) (again : (x : ℕ) → (e + x) % p ≡ x % p) (x : Is (λ i. ltb i e && mem s (i % p)) s a) where
-  pub period-none : (i : ℕ) → e ≤ i → mem a i ≡ false
-  period-none i l = by (dec_lt i (64 * length s))
+  pub period_none : (i : ℕ) → e ≤ i → mem a i ≡ false
+  period_none i l = by (dec_lt i (64 * length s))
     where
       by : Dec (i < 64 * length s) → mem a i ≡ false
       by (yes m) = x.all i m ∙ simp (le-ltb i e l)
       by (no m) = mem-past a i (subst (λ (n : ℕ). 64 * n ≤ i) (sym x.size) (omega arith))
 
-  pub period-more : Is (withUp e (mem a)) a b → Is (λ i. ltb i (2 * e) && mem s (i % p)) s b
-  unfolding withUp up
-  period-more y =
+  pub period_more : Is (with_up e (mem a)) a b → Is (λ i. ltb i (2 * e) && mem s (i % p)) s b
+  unfolding with_up up
+  period_more y =
       record {
         size = y.size ∙ x.size;
         all = λ i l. y.all i (subst (λ (n : ℕ). i < 64 * n) (sym x.size) l) ∙ ap (λ (t : Bool). t || (leb e i && mem a (i - e))) (x.all i l) ∙ at i l (dec_lt i e) (dec_lt i (2 * e));
@@ -98,10 +98,10 @@ module _ (s a b : List ℕ) (p e : ℕ) (again : (x : ℕ) → (e + x) % p ≡ x
           simp (le-ltb i e (omega arith), le-leb e i (omega arith), lt-ltb i (2 * e) n)
           (x.all (i - e) (omega arith) ∙ simp (lt-ltb (i - e) e (omega arith)) (ap (mem s) (sym (again (i - e)) ∙ ap (λ (t : ℕ). t % p) back)))
       at i l (no m) (no n) =
-          simp (le-ltb i e (omega arith), le-ltb i (2 * e) (omega arith), period-none (i - e) (omega arith), and-false)
+          simp (le-ltb i e (omega arith), le-ltb i (2 * e) (omega arith), period_none (i - e) (omega arith), and-false)
 
-  pub period-last : length s ≤ e / 64 → Is (λ i. mem s (i % p)) s a
-  period-last h = record { size = x.size; all = λ i l. x.all i l ∙ simp (lt-ltb i e (omega arith)) }
+  pub period_last : length s ≤ e / 64 → Is (λ i. mem s (i % p)) s a
+  period_last h = record { size = x.size; all = λ i l. x.all i l ∙ simp (lt-ltb i e (omega arith)) }
 
 -- a digit below n, by what is left at its period
 module _ (w r n x : ℕ) (hw : 0 < w) (hr : 0 < r) where
@@ -127,15 +127,15 @@ module _ (w r n x : ℕ) (hw : 0 < w) (hr : 0 < r) where
       omega (arith, left, capped, one, mul-le-mul_right w m)
 
   pub digit-below : ltb (x % (w * r)) (w * min n r) ≡ ltb (x / w % r) n
-  digit-below = ltb-same (x % (w * r)) (w * min n r) (x / w % r) n digit-there digit-back (dec_lt (x % (w * r)) (w * min n r)) (dec_lt (x / w % r) n)
+  digit-below = ltb_same (x % (w * r)) (w * min n r) (x / w % r) n digit-there digit-back (dec_lt (x % (w * r)) (w * min n r)) (dec_lt (x / w % r) n)
 
 -- the numbers below w * min n r, repeated at w * r
 module _ (s a b : List ℕ) (w r n : ℕ) (hw : 0 < w) (hr : 0 < r) (x : Is (λ i. ltb i (w * min n r)) s a) where
   inside : w * min n r ≤ w * r
   inside = let m : min n r ≤ r = omega arith in mul-le-mul_left w m
 
-  pub low-none : (i : ℕ) → w * r ≤ i → mem a i ≡ false
-  low-none i l = by (dec_lt i (64 * length s))
+  pub low_none : (i : ℕ) → w * r ≤ i → mem a i ≡ false
+  low_none i l = by (dec_lt i (64 * length s))
     where
       by : Dec (i < 64 * length s) → mem a i ≡ false
       by (yes m) = x.all i m ∙ le-ltb i (w * min n r) (omega (arith, inside))

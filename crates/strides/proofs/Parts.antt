@@ -8,9 +8,9 @@ use lib.Seq.{get_or-take, get_or-drop, get_or-append-add, length-take-le}
 use Rattle.words.specs.Words.{bit, mem}
 
 -- the k words from word a on
-pub mem-part : (s : List ℕ) (a k i : ℕ) → i < 64 * k → mem (take k (drop a s)) i ≡ mem s (64 * a + i)
+pub mem_part : (s : List ℕ) (a k i : ℕ) → i < 64 * k → mem (take k (drop a s)) i ≡ mem s (64 * a + i)
 unfolding mem
-mem-part s a k i h =
+mem_part s a k i h =
     let word : a + i / 64 ≡ (64 * a + i) / 64 = omega arith in
     let place : i % 64 ≡ (64 * a + i) % 64 = omega arith in
     ap (λ (x : ℕ). bit x (i % 64)) (get_or-take k (drop a s) (i / 64) 0 (omega arith) ∙ get_or-drop a s (i / 64) 0 ∙ ap (λ (j : ℕ). get_or s j 0) word)
@@ -27,16 +27,16 @@ mem-rest s a i =
 
 -- the words y in the place of as many from word a on
 module _ (s y z : List ℕ) (a : ℕ) (h : a ≤ length s) where
-  get-before : (j : ℕ) → j < a → get_or (take a s ++ (y ++ z)) j 0 ≡ get_or s j 0
-  get-before j l = get_or-append (take a s) (y ++ z) 0 j (subst (λ (n : ℕ). j < n) (sym (length-take-le a s h)) l) ∙ get_or-take a s j 0 l
+  get_before : (j : ℕ) → j < a → get_or (take a s ++ (y ++ z)) j 0 ≡ get_or s j 0
+  get_before j l = get_or-append (take a s) (y ++ z) 0 j (subst (λ (n : ℕ). j < n) (sym (length-take-le a s h)) l) ∙ get_or-take a s j 0 l
 
-  get-behind : (j : ℕ) → get_or (take a s ++ (y ++ z)) (a + j) 0 ≡ get_or (y ++ z) j 0
-  get-behind j =
+  get_behind : (j : ℕ) → get_or (take a s ++ (y ++ z)) (a + j) 0 ≡ get_or (y ++ z) j 0
+  get_behind j =
       ap (λ (n : ℕ). get_or (take a s ++ (y ++ z)) (n + j) 0) (sym (length-take-le a s h)) ∙ get_or-append-add (take a s) (y ++ z) j 0
 
   pub mem-before : (i : ℕ) → i < 64 * a → mem (take a s ++ (y ++ z)) i ≡ mem s i
   unfolding mem
-  mem-before i l = ap (λ (x : ℕ). bit x (i % 64)) (get-before (i / 64) (omega arith))
+  mem-before i l = ap (λ (x : ℕ). bit x (i % 64)) (get_before (i / 64) (omega arith))
 
   pub mem-within : (i : ℕ) → i < 64 * length y → mem (take a s ++ (y ++ z)) (64 * a + i) ≡ mem y i
   unfolding mem
@@ -45,7 +45,7 @@ module _ (s y z : List ℕ) (a : ℕ) (h : a ≤ length s) where
       let place : (64 * a + i) % 64 ≡ i % 64 = omega arith in
       ap (λ (j : ℕ). bit (get_or (take a s ++ (y ++ z)) ((64 * a + i) / 64) 0) j) place
       ∙ ap (λ (x : ℕ). bit x (i % 64))
-      (ap (λ (j : ℕ). get_or (take a s ++ (y ++ z)) j 0) word ∙ get-behind (i / 64) ∙ get_or-append y z 0 (i / 64) (omega arith))
+      (ap (λ (j : ℕ). get_or (take a s ++ (y ++ z)) j 0) word ∙ get_behind (i / 64) ∙ get_or-append y z 0 (i / 64) (omega arith))
 
 pub mem-behind : (s y : List ℕ) (a k : ℕ) → a ≤ length s → length y ≡ k → (i : ℕ) → 64 * (a + k) ≤ i → mem (take a s ++ (y ++ drop k (drop a s))) i ≡ mem s i
 unfolding mem
@@ -55,7 +55,7 @@ mem-behind s y a k h e i l =
     let same : k + j ≡ length y + j = omega arith in
     ap (λ (x : ℕ). bit x (i % 64))
     (ap (λ (n : ℕ). get_or (take a s ++ (y ++ drop k (drop a s))) n 0) word
-    ∙ get-behind s y (drop k (drop a s)) a h (k + j)
+    ∙ get_behind s y (drop k (drop a s)) a h (k + j)
     ∙ ap (λ (n : ℕ). get_or (y ++ drop k (drop a s)) n 0) same
     ∙ get_or-append-add y (drop k (drop a s)) j 0
     ∙ get_or-drop k (drop a s) j 0

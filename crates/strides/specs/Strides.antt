@@ -2,8 +2,8 @@
 use Rattle.std.specs.Prelude.{ℕ, ◌+◌, Bool, ◌||◌}
 use Rattle.words.specs.Words.{up}
 
-unfoldable pub withUp : ℕ → (ℕ → Bool) → ℕ → Bool
-withUp k p i = p i || up k p i
+unfoldable pub with_up : ℕ → (ℕ → Bool) → ℕ → Bool
+with_up k p i = p i || up k p i
 
-unfoldable pub withDown : ℕ → (ℕ → Bool) → ℕ → Bool
-withDown k p i = p i || p (k + i)
+unfoldable pub with_down : ℕ → (ℕ → Bool) → ℕ → Bool
+with_down k p i = p i || p (k + i)

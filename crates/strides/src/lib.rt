@@ -1,14 +1,14 @@
 // A set of numbers repeated at a stride, by doubling: once the places below k are there, moving by k more joins those below 2 k.
 ghost use Rattle.std.specs.Prelude.{◌≡◌, false, ℕ, ◌+◌, ◌-◌, ◌*◌, ◌/◌, ◌%◌, ◌^◌, ◌<◌, ◌≤◌, length, ltb};
-ghost use Rattle.words.specs.Words.{Bits, Is, anyBelow, mem, up};
+ghost use Rattle.words.specs.Words.{Bits, Is, any_below, mem, up};
 ghost use Rattle.words.specs.Words.{Upto};
-ghost use Rattle.strides.specs.Strides.{withDown, withUp};
+ghost use Rattle.strides.specs.Strides.{with_down, with_up};
 
 use shifts::word_before;
 use words::{copy, lesser, past, word};
 
 fn word_up(s: &[u64], w: usize, k: usize) -> u64
-    ensures { Bits 64 (λ j. withUp k (mem s.now) (64 * w + j)) result }
+    ensures { Bits 64 (λ j. with_up k (mem s.now) (64 * w + j)) result }
 {
     let q = k / 64;
     let r = k % 64;
@@ -18,7 +18,7 @@ fn word_up(s: &[u64], w: usize, k: usize) -> u64
 // The same where there are words for all of it.
 fn word_up_inner(s: &[u64], w: usize, k: usize) -> u64
     requires { (k / 64 + 1 ≤ w) × (w < length s.now) }
-    ensures { Bits 64 (λ j. withUp k (mem s.now) (64 * w + j)) result }
+    ensures { Bits 64 (λ j. with_up k (mem s.now) (64 * w + j)) result }
 {
     let q = k / 64;
     let r = k % 64;
@@ -27,7 +27,7 @@ fn word_up_inner(s: &[u64], w: usize, k: usize) -> u64
 
 fn up_slow(dst: &mut [u64], src: &[u64], k: usize, e: usize)
     requires { e ≤ length dst.old }
-    ensures { (length dst.new ≡ length dst.old) × Upto (withUp k (mem src.now)) e dst.new }
+    ensures { (length dst.new ≡ length dst.old) × Upto (with_up k (mem src.now)) e dst.new }
 {
     let mut w = 0;
     while w < e {
@@ -38,8 +38,8 @@ fn up_slow(dst: &mut [u64], src: &[u64], k: usize, e: usize)
 
 // The words from v on, with no test of a bound.
 fn up_fast(dst: &mut [u64], src: &[u64], k: usize, v: usize)
-    requires { (length src.now ≡ length dst.old) × (v ≤ length dst.old) × Upto (withUp k (mem src.now)) v dst.old × (v < length dst.old → k / 64 + 1 ≤ v) }
-    ensures { Is (withUp k (mem src.now)) dst.old dst.new }
+    requires { (length src.now ≡ length dst.old) × (v ≤ length dst.old) × Upto (with_up k (mem src.now)) v dst.old × (v < length dst.old → k / 64 + 1 ≤ v) }
+    ensures { Is (with_up k (mem src.now)) dst.old dst.new }
 {
     let e = dst.len();
     let mut w = v;
@@ -51,7 +51,7 @@ fn up_fast(dst: &mut [u64], src: &[u64], k: usize, v: usize)
 
 fn join_up(dst: &mut [u64], src: &[u64], k: usize)
     requires { length src.now ≡ length dst.old }
-    ensures { Is (withUp k (mem src.now)) dst.old dst.new }
+    ensures { Is (with_up k (mem src.now)) dst.old dst.new }
 {
     let v = lesser(k / 64 + 1, dst.len());
     up_slow(dst, src, k, v);
@@ -61,7 +61,7 @@ fn join_up(dst: &mut [u64], src: &[u64], k: usize)
 // a with itself, moved up by k.
 fn step_up(a: &mut [u64], spare: &mut [u64], k: usize)
     requires { length a.old ≡ length spare.old }
-    ensures { Is (withUp k (mem a.old)) a.old a.new }
+    ensures { Is (with_up k (mem a.old)) a.old a.new }
 {
     join_up(spare, a, k);
     copy(a, spare);
@@ -69,7 +69,7 @@ fn step_up(a: &mut [u64], spare: &mut [u64], k: usize)
 
 fn word_down(s: &[u64], w: usize, k: usize) -> u64
     requires { w < 2 ^ 60 }
-    ensures { Bits 64 (λ j. withDown k (mem s.now) (64 * w + j)) result }
+    ensures { Bits 64 (λ j. with_down k (mem s.now) (64 * w + j)) result }
 {
     let q = w + k / 64;
     let r = k % 64;
@@ -78,7 +78,7 @@ fn word_down(s: &[u64], w: usize, k: usize) -> u64
 
 fn word_down_inner(s: &[u64], w: usize, k: usize) -> u64
     requires { w + k / 64 + 1 < length s.now }
-    ensures { Bits 64 (λ j. withDown k (mem s.now) (64 * w + j)) result }
+    ensures { Bits 64 (λ j. with_down k (mem s.now) (64 * w + j)) result }
 {
     let q = w + k / 64;
     let r = k % 64;
@@ -87,7 +87,7 @@ fn word_down_inner(s: &[u64], w: usize, k: usize) -> u64
 
 fn down_fast(dst: &mut [u64], src: &[u64], k: usize, e: usize)
     requires { (length src.now ≡ length dst.old) × (e ≤ length dst.old) × (0 < e → e + k / 64 + 1 ≤ length dst.old) }
-    ensures { (length dst.new ≡ length dst.old) × Upto (withDown k (mem src.now)) e dst.new }
+    ensures { (length dst.new ≡ length dst.old) × Upto (with_down k (mem src.now)) e dst.new }
 {
     let mut w = 0;
     while w < e {
@@ -97,8 +97,8 @@ fn down_fast(dst: &mut [u64], src: &[u64], k: usize, e: usize)
 }
 
 fn down_slow(dst: &mut [u64], src: &[u64], k: usize, v: usize)
-    requires { (v ≤ length dst.old) × Upto (withDown k (mem src.now)) v dst.old }
-    ensures { Is (withDown k (mem src.now)) dst.old dst.new }
+    requires { (v ≤ length dst.old) × Upto (with_down k (mem src.now)) v dst.old }
+    ensures { Is (with_down k (mem src.now)) dst.old dst.new }
 {
     let e = dst.len();
     let mut w = v;
@@ -110,7 +110,7 @@ fn down_slow(dst: &mut [u64], src: &[u64], k: usize, v: usize)
 
 fn join_down(dst: &mut [u64], src: &[u64], k: usize)
     requires { length src.now ≡ length dst.old }
-    ensures { Is (withDown k (mem src.now)) dst.old dst.new }
+    ensures { Is (with_down k (mem src.now)) dst.old dst.new }
 {
     let e = past(dst.len(), k / 64 + 1);
     down_fast(dst, src, k, e);
@@ -120,7 +120,7 @@ fn join_down(dst: &mut [u64], src: &[u64], k: usize)
 // a with itself, moved down by k.
 fn step_down(a: &mut [u64], spare: &mut [u64], k: usize)
     requires { length a.old ≡ length spare.old }
-    ensures { Is (withDown k (mem a.old)) a.old a.new }
+    ensures { Is (with_down k (mem a.old)) a.old a.new }
 {
     join_down(spare, a, k);
     copy(a, spare);
@@ -128,7 +128,7 @@ fn step_down(a: &mut [u64], spare: &mut [u64], k: usize)
 
 fn up_all(a: &mut [u64], spare: &mut [u64], w: usize, n: usize)
     requires { (length a.old ≡ length spare.old) × (w < 2 ^ 32) × (0 < n) × (n < 2 ^ 32) }
-    ensures { Is (λ i. anyBelow (λ d. up (w * d) (mem a.old) i) n) a.old a.new }
+    ensures { Is (λ i. any_below (λ d. up (w * d) (mem a.old) i) n) a.old a.new }
 {
     let mut k = 1;
     while k <= n - k {
@@ -142,7 +142,7 @@ fn up_all(a: &mut [u64], spare: &mut [u64], w: usize, n: usize)
 
 fn down_all(a: &mut [u64], spare: &mut [u64], w: usize, n: usize)
     requires { (length a.old ≡ length spare.old) × (w < 2 ^ 32) × (0 < n) × (n < 2 ^ 32) }
-    ensures { Is (λ i. anyBelow (λ d. mem a.old (i + w * d)) n) a.old a.new }
+    ensures { Is (λ i. any_below (λ d. mem a.old (i + w * d)) n) a.old a.new }
 {
     let mut k = 1;
     while k <= n - k {
@@ -156,7 +156,7 @@ fn down_all(a: &mut [u64], spare: &mut [u64], w: usize, n: usize)
 
 // The numbers of a moved up by 0, w, 2 w, .., n of them.
 pub fn spread_up(a: &mut [u64], spare: &mut [u64], w: u32, n: u32)
-    ensures { (length a.new ≡ length a.old) × (length spare.new ≡ length spare.old) × (length a.old ≤ length spare.old → 0 < n → Is (λ i. anyBelow (λ d. up (w * d) (mem a.old) i) n) a.old a.new) }
+    ensures { (length a.new ≡ length a.old) × (length spare.new ≡ length spare.old) × (length a.old ≤ length spare.old → 0 < n → Is (λ i. any_below (λ d. up (w * d) (mem a.old) i) n) a.old a.new) }
 {
     let len = a.len();
     if spare.len() < len {
@@ -170,7 +170,7 @@ pub fn spread_up(a: &mut [u64], spare: &mut [u64], w: u32, n: u32)
 
 // .. and moved down.
 pub fn spread_down(a: &mut [u64], spare: &mut [u64], w: u32, n: u32)
-    ensures { (length a.new ≡ length a.old) × (length spare.new ≡ length spare.old) × (length a.old ≤ length spare.old → 0 < n → Is (λ i. anyBelow (λ d. mem a.old (i + w * d)) n) a.old a.new) }
+    ensures { (length a.new ≡ length a.old) × (length spare.new ≡ length spare.old) × (length a.old ≤ length spare.old → 0 < n → Is (λ i. any_below (λ d. mem a.old (i + w * d)) n) a.old a.new) }
 {
     let len = a.len();
     if spare.len() < len {
@@ -208,7 +208,7 @@ fn below(a: &mut [u64], e: usize)
 // A set with nothing from e on, joined with itself moved up by e: only the words below 2 e change.
 fn grow(a: &mut [u64], spare: &mut [u64], e: usize)
     requires { (length a.old ≤ length spare.old) × ((i : ℕ) → e ≤ i → mem a.old i ≡ false) }
-    ensures { Is (withUp e (mem a.old)) a.old a.new }
+    ensures { Is (with_up e (mem a.old)) a.old a.new }
 {
     let m = lesser(a.len(), e / 32 + 1);
     let part = &mut a[0..m];

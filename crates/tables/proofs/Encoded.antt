@@ -9,14 +9,14 @@ use lib.ListN.{length, get_or, take, drop, length-append, length-take, length-dr
 use mathlib.Core.Bool.{true, false}
 use borrow.Author.Tests.{le-leb, eq-eqb}
 use lib.Seq.{take-take, take_all, length-take-le}
-use Rattle.model.specs.Limits.{tableVersions, kindLimit, transitionLimit, guardLimit}
+use Rattle.model.specs.Limits.{table_versions, kind_limit, transition_limit, guard_limit}
 use Rattle.model.specs.Bytes.{byte_at, word_at, word_bytes, joined}
-use Rattle.model.specs.First.{unless, and_then, isSound}
-use Rattle.model.specs.Frame.{isVersion, framed}
+use Rattle.model.specs.First.{unless, and_then, is_sound}
+use Rattle.model.specs.Frame.{is_version, framed}
 use Rattle.model.specs.Answers.{Writes}
 use Rattle.model.specs.Room.{write, over}
-use Rattle.model.specs.Kinds.{kindAt, kindBytes}
-use Rattle.model.specs.Table.{guardBytesIn, transitionBytes, countBytes, tableBody, tableBytes, tableLimit, countsOf, tableCounts, scanWith, wholeAnswer, monitorOf, tableWritable, writeTable}
+use Rattle.model.specs.Kinds.{kind_at, kind_bytes}
+use Rattle.model.specs.Table.{guard_bytes_in, transition_bytes, count_bytes, table_body, table_bytes, table_limit, counts_of, table_counts, scan_with, whole_answer, monitor_of, table_writable, write_table}
 use Rattle.model.specs.declared.Edition.TheVariants.{One}
 use Rattle.model.specs.declared.Refusal.TheVariants.{TableFrame, TableVersion}
 use Rattle.model.specs.declared.Reading.{Reading}
@@ -25,54 +25,54 @@ use Rattle.model.specs.declared.Refusal.{Refusal}
 use Rattle.model.specs.declared.Writing.{Writing}
 use Rattle.model.specs.declared.Writing.TheVariants.{Unwritten}
 use Rattle.model.specs.declared.TableParts.{TableParts}
-use Rattle.model.proofs.KindForm.{kind-next, kind-most, kind-length, kinds-length}
-use Rattle.model.proofs.TableTrip.{monitor-back}
+use Rattle.model.proofs.KindForm.{kind_next, kind-most, kind-length, kinds-length}
+use Rattle.model.proofs.TableTrip.{monitor_back}
 use Rattle.wire.specs.Placed.{placed}
 use Rattle.wire.proofs.Room.{placed-behind}
 use Rattle.columns.proofs.Columns.{joined-most}
 use Rattle.frame.proofs.Written.{placed_first, write-refused}
 use Rattle.frame.proofs.Answers.{stops, sound-is}
-use Rattle.scan.proofs.Scans.{counts-bound}
-use Rattle.tables.proofs.Tables.{scan-all}
+use Rattle.scan.proofs.Scans.{counts_bound}
+use Rattle.tables.proofs.Tables.{scan_all}
 
 -- a guard's bytes, cut at its places
 
-take_within : (l : List ℕ) (n : ℕ) → take n (take guardLimit l) ≡ take (min n guardLimit) l
-take_within l n = go (dec_le n guardLimit)
+take_within : (l : List ℕ) (n : ℕ) → take n (take guard_limit l) ≡ take (min n guard_limit) l
+take_within l n = go (dec_le n guard_limit)
   where
-    go : Dec (n ≤ guardLimit) → take n (take guardLimit l) ≡ take (min n guardLimit) l
-    go (yes h) = take-take n guardLimit l h ∙ ap (λ m. take m l) (sym (min-eq_left h))
+    go : Dec (n ≤ guard_limit) → take n (take guard_limit l) ≡ take (min n guard_limit) l
+    go (yes h) = take-take n guard_limit l h ∙ ap (λ m. take m l) (sym (min-eq_left h))
     go (no h) =
-        let k : guardLimit ≤ n = omega arith in
-        take_all n (take guardLimit l) (omega (arith, length-take guardLimit l)) ∙ ap (λ m. take m l) (sym (min-eq_right k))
+        let k : guard_limit ≤ n = omega arith in
+        take_all n (take guard_limit l) (omega (arith, length-take guard_limit l)) ∙ ap (λ m. take m l) (sym (min-eq_right k))
 
-module _ (guards : List ℕ) (j count w : ℕ) (is : w ≡ min count guardLimit) where
-  pub guard-part : take (guardLimit * j + w - guardLimit * j) (drop (guardLimit * j) guards) ≡ guardBytesIn guards count j
-  guard-part =
-      let all : guardLimit * j + w - guardLimit * j ≡ min count guardLimit = omega arith in
-      ap (λ m. take m (drop (guardLimit * j) guards)) all ∙ sym (take_within (drop (guardLimit * j) guards) count)
+module _ (guards : List ℕ) (j count w : ℕ) (is : w ≡ min count guard_limit) where
+  pub guard_part : take (guard_limit * j + w - guard_limit * j) (drop (guard_limit * j) guards) ≡ guard_bytes_in guards count j
+  guard_part =
+      let all : guard_limit * j + w - guard_limit * j ≡ min count guard_limit = omega arith in
+      ap (λ m. take m (drop (guard_limit * j) guards)) all ∙ sym (take_within (drop (guard_limit * j) guards) count)
 
-  pub guard-count : j < transitionLimit → guardLimit * transitionLimit ≤ length guards → guardLimit * j + w - guardLimit * j ≡ length (guardBytesIn guards count j)
+  pub guard-count : j < transition_limit → guard_limit * transition_limit ≤ length guards → guard_limit * j + w - guard_limit * j ≡ length (guard_bytes_in guards count j)
   guard-count h k =
-      ap (λ (n : ℕ). n) (count-is h k) ∙ ap length guard-part
+      ap (λ (n : ℕ). n) (count-is h k) ∙ ap length guard_part
     where
-      count-is : j < transitionLimit → guardLimit * transitionLimit ≤ length guards → guardLimit * j + w - guardLimit * j ≡ length (take (guardLimit * j + w - guardLimit * j) (drop (guardLimit * j) guards))
-      count-is h k = sym (length-take (guardLimit * j + w - guardLimit * j) (drop (guardLimit * j) guards) ∙ omega (arith, length-drop (guardLimit * j) guards))
+      count-is : j < transition_limit → guard_limit * transition_limit ≤ length guards → guard_limit * j + w - guard_limit * j ≡ length (take (guard_limit * j + w - guard_limit * j) (drop (guard_limit * j) guards))
+      count-is h k = sym (length-take (guard_limit * j + w - guard_limit * j) (drop (guard_limit * j) guards) ∙ omega (arith, length-drop (guard_limit * j) guards))
 
-pub kinds-long : (t : TableParts) (head : List ℕ) (i : ℕ) → length head ≡ 8 → length (head ++ joined (kindBytes t) i) ≡ kindAt t.version i
-kinds-long t head i h = length-append head (joined (kindBytes t) i) ∙ omega (arith, kinds-length t i)
+pub kinds-long : (t : TableParts) (head : List ℕ) (i : ℕ) → length head ≡ 8 → length (head ++ joined (kind_bytes t) i) ≡ kind_at t.version i
+kinds-long t head i h = length-append head (joined (kind_bytes t) i) ∙ omega (arith, kinds-length t i)
 
 -- a kind's record ends before the longest table does
-pub kind-room : (t : TableParts) (i : ℕ) → i < kindLimit → kindAt t.version i + length (kindBytes t i) ≤ tableLimit
-kind-room t i h = omega (arith, kind-length t i, kind-next t.version i, kind-most t.version (suc i) kindLimit h)
+pub kind-room : (t : TableParts) (i : ℕ) → i < kind_limit → kind_at t.version i + length (kind_bytes t i) ≤ table_limit
+kind-room t i h = omega (arith, kind-length t i, kind_next t.version i, kind-most t.version (suc i) kind_limit h)
 
 -- a record of two parts, the first of seven bytes
 module _ (head room x y : List ℕ) (at : ℕ) (long : length head ≡ at) (seven : length x ≡ 7) where
-  pub two-long : (r : ℕ) → r ≡ length y → at + 7 + r ≡ length (head ++ (x ++ y))
-  two-long r e = sym (length-append head (x ++ y) ∙ omega (arith, length-append x y))
+  pub two_long : (r : ℕ) → r ≡ length y → at + 7 + r ≡ length (head ++ (x ++ y))
+  two_long r e = sym (length-append head (x ++ y) ∙ omega (arith, length-append x y))
 
-  pub two-placed : at + 7 + length y ≤ length room → (out one two : List ℕ) → out ≡ over head room → one ≡ placed x at out → two ≡ placed y (at + 7) one → two ≡ over (head ++ (x ++ y)) room
-  two-placed fits out one two e f g =
+  pub two_placed : at + 7 + length y ≤ length room → (out one two : List ℕ) → out ≡ over head room → one ≡ placed x at out → two ≡ placed y (at + 7) one → two ≡ over (head ++ (x ++ y)) room
+  two_placed fits out one two e f g =
       let first : one ≡ over (head ++ x) room = f ∙ ap (placed x at) e ∙ placed-behind head x room at long (omega arith) in
       g
       ∙ ap (placed y (at + 7)) first
@@ -83,112 +83,112 @@ module _ (head room x y : List ℕ) (at : ℕ) (long : length head ≡ at) (seve
 
 module _ (t : TableParts) where
   abbrev kinds : List ℕ
-  kinds = joined (kindBytes t) t.kinds
+  kinds = joined (kind_bytes t) t.kinds
 
   abbrev transitions : List ℕ
-  transitions = joined (transitionBytes t) t.transitions
+  transitions = joined (transition_bytes t) t.transitions
 
-  pub body-long : (z : List ℕ) → length z ≡ 8 → length (tableBody t) + 2 ≡ length ((z ++ kinds) ++ transitions)
-  unfolding tableBody
-  body-long z e = sym (length-append (z ++ kinds) transitions ∙ omega (arith, length-append z kinds, length-append kinds transitions))
+  pub body_long : (z : List ℕ) → length z ≡ 8 → length (table_body t) + 2 ≡ length ((z ++ kinds) ++ transitions)
+  unfolding table_body
+  body_long z e = sym (length-append (z ++ kinds) transitions ∙ omega (arith, length-append z kinds, length-append kinds transitions))
 
-  pub table_is : (n : ℕ) → n ≡ length (tableBody t) → ((word_bytes n ++ countBytes t) ++ kinds) ++ transitions ≡ tableBytes t
-  unfolding tableBytes tableBody
-  table_is n e = ap (λ m. word_bytes m ++ (countBytes t ++ kinds ++ transitions)) e
+  pub table_is : (n : ℕ) → n ≡ length (table_body t) → ((word_bytes n ++ count_bytes t) ++ kinds) ++ transitions ≡ table_bytes t
+  unfolding table_bytes table_body
+  table_is n e = ap (λ m. word_bytes m ++ (count_bytes t ++ kinds ++ transitions)) e
 
-  pub table-long : length (tableBytes t) ≡ length (tableBody t) + 2
-  unfolding tableBytes
-  table-long = omega arith
+  pub table_long : length (table_bytes t) ≡ length (table_body t) + 2
+  unfolding table_bytes
+  table_long = omega arith
 
   start : (out : List ℕ) → 8 ≤ length out → out ≡ over (take 8 out) out
   start out h = sym (ap (λ n. take 8 out ++ drop n out) (length-take-le 8 out h) ∙ take-append-drop 8 out)
 
   -- the records, and then what stands before them
-  pub encoded : (out one two three head : List ℕ) (end : ℕ) → length out ≡ tableLimit
-      → ((z room : List ℕ) → length z ≡ 8 → tableLimit ≤ length room → out ≡ over z room → one ≡ over (z ++ kinds) room)
-      → ((z room : List ℕ) → length z ≡ kindAt t.version t.kinds → tableLimit ≤ length room → one ≡ over z room → (two ≡ over (z ++ transitions) room) × (end ≡ length (z ++ transitions)))
-      → end ≤ tableLimit
-      → head ≡ word_bytes (end - 2) ++ countBytes t
+  pub encoded : (out one two three head : List ℕ) (end : ℕ) → length out ≡ table_limit
+      → ((z room : List ℕ) → length z ≡ 8 → table_limit ≤ length room → out ≡ over z room → one ≡ over (z ++ kinds) room)
+      → ((z room : List ℕ) → length z ≡ kind_at t.version t.kinds → table_limit ≤ length room → one ≡ over z room → (two ≡ over (z ++ transitions) room) × (end ≡ length (z ++ transitions)))
+      → end ≤ table_limit
+      → head ≡ word_bytes (end - 2) ++ count_bytes t
       → three ≡ placed head 0 two
-      → (three ≡ over (tableBytes t) out) × (end ≡ length (tableBytes t))
+      → (three ≡ over (table_bytes t) out) × (end ≡ length (table_bytes t))
   encoded out one two three head end l f g most h e =
       let z : List ℕ = take 8 out in
       let eight : length z ≡ 8 = length-take-le 8 out (omega arith) in
       let p = f z out eight (omega arith) (start out (omega arith)) in
       let q = g (z ++ kinds) out (kinds-long t z t.kinds eight) (omega arith) p in
-      let body = body-long z eight in
-      let total : end - 2 ≡ length (tableBody t) = omega (arith, body, q.1) in
+      let body = body_long z eight in
+      let total : end - 2 ≡ length (table_body t) = omega (arith, body, q.1) in
       let flat = append_assoc z kinds transitions in
-      let first = placed_first z (word_bytes (end - 2) ++ countBytes t) (kinds ++ transitions) out eight (omega (arith, ap length flat, q.1)) in (
-        e ∙ ap (λ (b : List ℕ). placed b 0 two) h ∙ ap (placed (word_bytes (end - 2) ++ countBytes t) 0) (q.0 ∙ ap (λ (b : List ℕ). over b out) flat) ∙ first ∙ ap (λ (b : List ℕ). over b out) (table_is (end - 2) total),
-        q.1 ∙ sym body ∙ sym table-long,
+      let first = placed_first z (word_bytes (end - 2) ++ count_bytes t) (kinds ++ transitions) out eight (omega (arith, ap length flat, q.1)) in (
+        e ∙ ap (λ (b : List ℕ). placed b 0 two) h ∙ ap (placed (word_bytes (end - 2) ++ count_bytes t) 0) (q.0 ∙ ap (λ (b : List ℕ). over b out) flat) ∙ first ∙ ap (λ (b : List ℕ). over b out) (table_is (end - 2) total),
+        q.1 ∙ sym body ∙ sym table_long,
       )
 
   -- what reading these bytes gives, where a count is outside its limits
 
-  transition-most : (j : ℕ) → length (transitionBytes t j) ≤ 7 + guardLimit
+  transition-most : (j : ℕ) → length (transition_bytes t j) ≤ 7 + guard_limit
   transition-most j =
-      let places : List ℕ = take guardLimit (drop (guardLimit * j) t.guards) in
+      let places : List ℕ = take guard_limit (drop (guard_limit * j) t.guards) in
       let count : ℕ = get_or t.lengths j 0 in
-      omega (arith, length-take count places, length-take guardLimit (drop (guardLimit * j) t.guards))
+      omega (arith, length-take count places, length-take guard_limit (drop (guard_limit * j) t.guards))
 
-  body-most : t.kinds ≤ 255 → t.transitions ≤ 255 → length (tableBody t) < 65536
-  body-most h k =
+  body_most : t.kinds ≤ 255 → t.transitions ≤ 255 → length (table_body t) < 65536
+  body_most h k =
       let z : List ℕ = 0 ∷ 0 ∷ 0 ∷ 0 ∷ 0 ∷ 0 ∷ 0 ∷ 0 ∷ [] in
-      omega (arith, body-long z refl, length-append (z ++ kinds) transitions, length-append z kinds, kinds-length t t.kinds, kind-most t.version t.kinds 255 h, joined-most (transitionBytes t) (7 + guardLimit) t.transitions transition-most)
+      omega (arith, body_long z refl, length-append (z ++ kinds) transitions, length-append z kinds, kinds-length t t.kinds, kind-most t.version t.kinds 255 h, joined-most (transition_bytes t) (7 + guard_limit) t.transitions transition-most)
 
-  word-is : length (tableBody t) < 65536 → word_at (tableBytes t) 0 ≡ length (tableBody t)
-  unfolding tableBytes
-  word-is h = omega arith
+  word_is : length (table_body t) < 65536 → word_at (table_bytes t) 0 ≡ length (table_body t)
+  unfolding table_bytes
+  word_is h = omega arith
 
-  version-is : byte_at (tableBytes t) 2 ≡ t.version
-  unfolding tableBytes tableBody
+  version-is : byte_at (table_bytes t) 2 ≡ t.version
+  unfolding table_bytes table_body
   version-is = refl
 
-  counts_same : tableCounts (tableBytes t) ≡ countsOf t.states t.variables t.clocks t.kinds t.transitions
-  unfolding countsOf tableBytes tableBody
+  counts_same : table_counts (table_bytes t) ≡ counts_of t.states t.variables t.clocks t.kinds t.transitions
+  unfolding counts_of table_bytes table_body
   counts_same = refl
 
-  body-least : 6 ≤ length (tableBody t)
-  unfolding tableBody
-  body-least = omega arith
+  body_least : 6 ≤ length (table_body t)
+  unfolding table_body
+  body_least = omega arith
 
-  frame_is : length (tableBody t) < 65536 → framed One (tableBytes t) 8 1 tableVersions TableFrame TableVersion ≡ and_then (unless (isVersion 1 tableVersions t.version) TableVersion) Sound
+  frame_is : length (table_body t) < 65536 → framed One (table_bytes t) 8 1 table_versions TableFrame TableVersion ≡ and_then (unless (is_version 1 table_versions t.version) TableVersion) Sound
   unfolding framed
   frame_is h =
-      let all : word_at (tableBytes t) 0 + 2 ≡ length (tableBytes t) = omega (arith, word-is h, table-long) in
-      let least : 8 ≤ length (tableBytes t) = omega (arith, body-least, table-long) in
-      rw (le-leb 8 (length (tableBytes t)) least, eq-eqb (word_at (tableBytes t) 0 + 2) (length (tableBytes t)) all, version-is)
+      let all : word_at (table_bytes t) 0 + 2 ≡ length (table_bytes t) = omega (arith, word_is h, table_long) in
+      let least : 8 ≤ length (table_bytes t) = omega (arith, body_least, table_long) in
+      rw (le-leb 8 (length (table_bytes t)) least, eq-eqb (word_at (table_bytes t) 0 + 2) (length (table_bytes t)) all, version-is)
 
-  refused-scan : (room : List ℕ) (why : Refusal) → scanWith t.devices (tableBytes t) ≡ Unsound why → Writes (writeTable t room) (Unwritten why) room
-  unfolding writeTable
-  refused-scan room why e = write-refused (tableWritable t) (tableBytes t) room why (scan-all (tableBytes t) t.devices ∙ rw e)
+  refused_scan : (room : List ℕ) (why : Refusal) → scan_with t.devices (table_bytes t) ≡ Unsound why → Writes (write_table t room) (Unwritten why) room
+  unfolding write_table
+  refused_scan room why e = write-refused (table_writable t) (table_bytes t) room why (scan_all (table_bytes t) t.devices ∙ rw e)
 
   -- 11
-  pub write-version : (room : List ℕ) → t.kinds ≤ 255 → t.transitions ≤ 255 → isVersion 1 tableVersions t.version ≡ false → Writes (writeTable t room) (Unwritten TableVersion) room
-  unfolding scanWith
-  write-version room h k e = refused-scan room TableVersion (rw (frame_is (body-most h k), e))
+  pub write-version : (room : List ℕ) → t.kinds ≤ 255 → t.transitions ≤ 255 → is_version 1 table_versions t.version ≡ false → Writes (write_table t room) (Unwritten TableVersion) room
+  unfolding scan_with
+  write-version room h k e = refused_scan room TableVersion (rw (frame_is (body_most h k), e))
 
-  module _ (version : isVersion 1 tableVersions t.version ≡ true) (counts : Reading) (is : counts ≡ countsOf t.states t.variables t.clocks t.kinds t.transitions) where
+  module _ (version : is_version 1 table_versions t.version ≡ true) (counts : Reading) (is : counts ≡ counts_of t.states t.variables t.clocks t.kinds t.transitions) where
     -- 12
-    pub write-early : (room : List ℕ) → t.kinds ≤ 255 → t.transitions ≤ 255 → (why : Refusal) → counts ≡ Unsound why → Writes (writeTable t room) (Unwritten why) room
-    unfolding scanWith
-    write-early room h k why e = let same : tableCounts (tableBytes t) ≡ Unsound why = counts_same ∙ sym is ∙ e in refused-scan room why (rw (frame_is (body-most h k), version, same))
+    pub write-early : (room : List ℕ) → t.kinds ≤ 255 → t.transitions ≤ 255 → (why : Refusal) → counts ≡ Unsound why → Writes (write_table t room) (Unwritten why) room
+    unfolding scan_with
+    write-early room h k why e = let same : table_counts (table_bytes t) ≡ Unsound why = counts_same ∙ sym is ∙ e in refused_scan room why (rw (frame_is (body_most h k), version, same))
 
-    pub counts-within : isSound counts ≡ true → (t.kinds ≤ kindLimit) × (t.transitions ≤ transitionLimit)
-    counts-within e = counts-bound t.states t.variables t.clocks t.kinds t.transitions (sym is ∙ sound-is counts e)
+    pub counts-within : is_sound counts ≡ true → (t.kinds ≤ kind_limit) × (t.transitions ≤ transition_limit)
+    counts-within e = counts_bound t.states t.variables t.clocks t.kinds t.transitions (sym is ∙ sound-is counts e)
 
-  pub write-late : (room bytes : List ℕ) (answer : Reading) → bytes ≡ tableBytes t → answer ≡ tableWritable t → (r : Writing) (after : List ℕ)
-      → Writes (write answer bytes room) r after → Writes (writeTable t room) r after
-  unfolding writeTable
+  pub write-late : (room bytes : List ℕ) (answer : Reading) → bytes ≡ table_bytes t → answer ≡ table_writable t → (r : Writing) (after : List ℕ)
+      → Writes (write answer bytes room) r after → Writes (write_table t room) r after
+  unfolding write_table
   write-late room bytes answer e g r after w = rw (g, e) at w
 
   -- the answer from the scan of these bytes, and 16 and 17 of the parts themselves
-  module _ (b : List ℕ) (is : b ≡ tableBytes t) (scan : Reading) (scanned : scan ≡ scanWith t.devices b) where
-    pub writable-refused : isSound scan ≡ false → scan ≡ tableWritable t
-    writable-refused e = sym (scan-all (tableBytes t) t.devices ∙ rw (← is, ← scanned) (stops scan _ e))
+  module _ (b : List ℕ) (is : b ≡ table_bytes t) (scan : Reading) (scanned : scan ≡ scan_with t.devices b) where
+    pub writable_refused : is_sound scan ≡ false → scan ≡ table_writable t
+    writable_refused e = sym (scan_all (table_bytes t) t.devices ∙ rw (← is, ← scanned) (stops scan _ e))
 
-    pub writable-whole : length t.guards ≡ guardLimit * transitionLimit → isSound scan ≡ true → (whole : Reading) → whole ≡ wholeAnswer (monitorOf t) → whole ≡ tableWritable t
-    writable-whole full e whole q =
-        let sound : scanWith t.devices (tableBytes t) ≡ Sound = ap (scanWith t.devices) (sym is) ∙ sym scanned ∙ sound-is scan e in
-        q ∙ ap wholeAnswer (sym (monitor-back t full sound)) ∙ sym (scan-all (tableBytes t) t.devices ∙ rw sound)
+    pub writable_whole : length t.guards ≡ guard_limit * transition_limit → is_sound scan ≡ true → (whole : Reading) → whole ≡ whole_answer (monitor_of t) → whole ≡ table_writable t
+    writable_whole full e whole q =
+        let sound : scan_with t.devices (table_bytes t) ≡ Sound = ap (scan_with t.devices) (sym is) ∙ sym scanned ∙ sound-is scan e in
+        q ∙ ap whole_answer (sym (monitor_back t full sound)) ∙ sym (scan_all (table_bytes t) t.devices ∙ rw sound)

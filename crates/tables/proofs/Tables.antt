@@ -6,92 +6,92 @@ use mathlib.Core.Path.{◌≡◌, refl, sym, ap, ◌∙◌}
 use mathlib.Core.List.{List, [], ◌∷◌}
 use mathlib.Core.Bool.{false}
 use lib.ListN.{length, take, drop, length-take}
-use Rattle.model.specs.Limits.{tableVersions, kindLimit, transitionLimit, guardLimit}
+use Rattle.model.specs.Limits.{table_versions, kind_limit, transition_limit, guard_limit}
 use Rattle.model.specs.Bytes.{joined, padded}
-use Rattle.model.specs.First.{and_then, first_of, isSound}
+use Rattle.model.specs.First.{and_then, first_of, is_sound}
 use Rattle.model.specs.Frame.{framed}
-use Rattle.model.specs.Table.{tableCounts, transitionRecords, statesAt, variablesAt, clocksAt, kindsAt, transitionsAt, transitionAt, guardLengthAt, guardPlace, kindRecords, deviceColumn, scanWith, tableScan, wholeAnswer, answerWith, tableAnswer, table_parts, noTable, readTable, monitorOf}
+use Rattle.model.specs.Table.{table_counts, transition_records, states_at, variables_at, clocks_at, kinds_at, transitions_at, transition_at, guard_length_at, guard_place, kind_records, device_column, scan_with, table_scan, whole_answer, answer_with, table_answer, table_parts, no_table, read_table, monitor_of}
 use Rattle.model.specs.declared.Edition.TheVariants.{One}
 use Rattle.model.specs.declared.TableParts.{TableParts}
 use Rattle.model.specs.declared.TableReading.{TableReading}
 use Rattle.model.specs.declared.Refusal.TheVariants.{TableFrame, TableVersion}
 use Rattle.model.specs.declared.Reading.{Reading}
 use Rattle.model.specs.declared.Reading.TheVariants.{Sound, Unsound}
-use Rattle.model.proofs.TableForm.{TableFacts, scan-facts, places}
+use Rattle.model.proofs.TableForm.{TableFacts, scan_facts, places}
 use Rattle.wire.specs.Placed.{placed}
 use Rattle.columns.proofs.Columns.{joined-long, place-more}
-use Rattle.scan.proofs.Scans.{counts-bound}
-use Rattle.model.proofs.Tests.{then-sound}
+use Rattle.scan.proofs.Scans.{counts_bound}
+use Rattle.model.proofs.Tests.{then_sound}
 
 module _ (b : List ℕ) where
   -- 16 and 17 come after the scan
-  pub scan-all : (devices : List ℕ) → answerWith devices b ≡ and_then (scanWith devices b) (wholeAnswer (monitorOf (table_parts b)))
-  unfolding answerWith
-  scan-all devices = simp then-sound
+  pub scan_all : (devices : List ℕ) → answer_with devices b ≡ and_then (scan_with devices b) (whole_answer (monitor_of (table_parts b)))
+  unfolding answer_with
+  scan_all devices = simp then_sound
 
   -- the scan asks for devices only where there are no more kinds than a sound table has
-  same-scan : (d e : List ℕ) → (kindsAt b ≤ kindLimit → d ≡ e) → scanWith d b ≡ scanWith e b
-  unfolding scanWith
-  same-scan d e same = ap (and_then (framed One b 8 1 tableVersions TableFrame TableVersion)) (go (tableCounts b) refl)
+  same_scan : (d e : List ℕ) → (kinds_at b ≤ kind_limit → d ≡ e) → scan_with d b ≡ scan_with e b
+  unfolding scan_with
+  same_scan d e same = ap (and_then (framed One b 8 1 table_versions TableFrame TableVersion)) (go (table_counts b) refl)
     where
       go :
-          (counts : Reading) → tableCounts b ≡ counts
-          → and_then counts (first_of (kindRecords d b ∷ transitionRecords (transitionsAt b) b (transitionAt b 0) ∷ []))
-          ≡ and_then counts (first_of (kindRecords e b ∷ transitionRecords (transitionsAt b) b (transitionAt b 0) ∷ []))
+          (counts : Reading) → table_counts b ≡ counts
+          → and_then counts (first_of (kind_records d b ∷ transition_records (transitions_at b) b (transition_at b 0) ∷ []))
+          ≡ and_then counts (first_of (kind_records e b ∷ transition_records (transitions_at b) b (transition_at b 0) ∷ []))
       go (Unsound r) q = refl
-      go Sound q = rw (same (counts-bound (statesAt b) (variablesAt b) (clocksAt b) (kindsAt b) (transitionsAt b) q).0)
+      go Sound q = rw (same (counts_bound (states_at b) (variables_at b) (clocks_at b) (kinds_at b) (transitions_at b) q).0)
 
   -- .. of bytes as they are read
 
-  pub read_all : tableAnswer b ≡ and_then (tableScan b) (wholeAnswer (monitorOf (table_parts b)))
-  unfolding tableAnswer tableScan
-  read_all = scan-all (deviceColumn b)
+  pub read_all : table_answer b ≡ and_then (table_scan b) (whole_answer (monitor_of (table_parts b)))
+  unfolding table_answer table_scan
+  read_all = scan_all (device_column b)
 
-  pub read-scan : (d : List ℕ) → (kindsAt b ≤ kindLimit → d ≡ deviceColumn b) → (r : Reading) → r ≡ scanWith d b → r ≡ tableScan b
-  unfolding tableScan
-  read-scan d same r is = is ∙ same-scan d (deviceColumn b) same
+  pub read_scan : (d : List ℕ) → (kinds_at b ≤ kind_limit → d ≡ device_column b) → (r : Reading) → r ≡ scan_with d b → r ≡ table_scan b
+  unfolding table_scan
+  read_scan d same r is = is ∙ same_scan d (device_column b) same
 
-  module _ (sound : tableScan b ≡ Sound) where
-    facts : TableFacts (deviceColumn b) b
-    unfolding tableScan
-    facts = scan-facts (deviceColumn b) b sound
+  module _ (sound : table_scan b ≡ Sound) where
+    facts : TableFacts (device_column b) b
+    unfolding table_scan
+    facts = scan_facts (device_column b) b sound
 
-    pub scan-bounds : (kindsAt b ≤ kindLimit) × (transitionsAt b ≤ transitionLimit)
-    scan-bounds = (facts.counts.kinds, facts.counts.transitions)
+    pub scan_bounds : (kinds_at b ≤ kind_limit) × (transitions_at b ≤ transition_limit)
+    scan_bounds = (facts.counts.kinds, facts.counts.transitions)
 
-    scan-guard : (j : ℕ) → j < transitionsAt b → (guardLengthAt b (transitionAt b j) ≤ guardLimit) × (transitionAt b j + 7 + guardLengthAt b (transitionAt b j) ≤ length b)
+    scan-guard : (j : ℕ) → j < transitions_at b → (guard_length_at b (transition_at b j) ≤ guard_limit) × (transition_at b j + 7 + guard_length_at b (transition_at b j) ≤ length b)
     scan-guard j h = let t = facts.transition j h in (t.few, t.fits)
 
 -- where the next record starts
-pub next-at : (b : List ℕ) (at i l : ℕ) → at ≡ transitionAt b i → l ≡ guardLengthAt b at → at + 7 + l ≡ transitionAt b (i + 1)
-unfolding transitionAt
-next-at b at i l e h = rw (h, e, add-one)
+pub next_at : (b : List ℕ) (at i l : ℕ) → at ≡ transition_at b i → l ≡ guard_length_at b at → at + 7 + l ≡ transition_at b (i + 1)
+unfolding transition_at
+next_at b at i l e h = rw (h, e, add-one)
 
-place_is : (b : List ℕ) (i at l : ℕ) → at ≡ transitionAt b i → l ≡ guardLengthAt b at → guardPlace b i ≡ padded guardLimit (take l (drop (at + 7) b))
-unfolding guardPlace
+place_is : (b : List ℕ) (i at l : ℕ) → at ≡ transition_at b i → l ≡ guard_length_at b at → guard_place b i ≡ padded guard_limit (take l (drop (at + 7) b))
+unfolding guard_place
 place_is b i at l starts long = rw (long, starts)
 
 -- the guard of record i, which starts at an offset and has a length
-module _ (b : List ℕ) (sound : tableScan b ≡ Sound) (i at l : ℕ) (within : i < transitionsAt b) (starts : at ≡ transitionAt b i) (long : l ≡ guardLengthAt b at) where
-  pub guard-inside : (l ≤ guardLimit) × (at + 7 + l ≤ length b)
-  guard-inside = rw (long, starts) (scan-guard b sound i within)
+module _ (b : List ℕ) (sound : table_scan b ≡ Sound) (i at l : ℕ) (within : i < transitions_at b) (starts : at ≡ transition_at b i) (long : l ≡ guard_length_at b at) where
+  pub guard_inside : (l ≤ guard_limit) × (at + 7 + l ≤ length b)
+  guard_inside = rw (long, starts) (scan-guard b sound i within)
 
-  pub guard-turn : (guards : List ℕ) → guards ≡ padded (guardLimit * transitionLimit) (joined (guardPlace b) i)
-      → placed (take (at + 7 + l - (at + 7)) (drop (at + 7) b)) (guardLimit * i) guards ≡ padded (guardLimit * transitionLimit) (joined (guardPlace b) (i + 1))
-  guard-turn guards e =
+  pub guard_turn : (guards : List ℕ) → guards ≡ padded (guard_limit * transition_limit) (joined (guard_place b) i)
+      → placed (take (at + 7 + l - (at + 7)) (drop (at + 7) b)) (guard_limit * i) guards ≡ padded (guard_limit * transition_limit) (joined (guard_place b) (i + 1))
+  guard_turn guards e =
       let all : at + 7 + l - (at + 7) ≡ l = omega arith in
-      let few : transitionsAt b ≤ transitionLimit = (scan-bounds b sound).1 in
-      let short : length (take l (drop (at + 7) b)) ≤ guardLimit = omega (arith, guard-inside.0, length-take l (drop (at + 7) b)) in
-      rw (all, e) (place-more (guardLimit * transitionLimit) guardLimit (guardPlace b) (take l (drop (at + 7) b)) i (omega arith) short (joined-long (guardPlace b) guardLimit i (λ j h. places b (facts b sound) j (omega arith))) (place_is b i at l starts long))
+      let few : transitions_at b ≤ transition_limit = (scan_bounds b sound).1 in
+      let short : length (take l (drop (at + 7) b)) ≤ guard_limit = omega (arith, guard_inside.0, length-take l (drop (at + 7) b)) in
+      rw (all, e) (place-more (guard_limit * transition_limit) guard_limit (guard_place b) (take l (drop (at + 7) b)) i (omega arith) short (joined-long (guard_place b) guard_limit i (λ j h. places b (facts b sound) j (omega arith))) (place_is b i at l starts long))
 
-pub read-refused : (b : List ℕ) (r : Reading) (p : TableParts) → r ≡ tableAnswer b → isSound r ≡ false → p ≡ noTable → ◌≡◌ {A = TableReading} (record { answer = r; parts = p }) (readTable b)
-unfolding readTable
-read-refused b r p e h q = rw (← e, h, q)
+pub read_refused : (b : List ℕ) (r : Reading) (p : TableParts) → r ≡ table_answer b → is_sound r ≡ false → p ≡ no_table → ◌≡◌ {A = TableReading} (record { answer = r; parts = p }) (read_table b)
+unfolding read_table
+read_refused b r p e h q = rw (← e, h, q)
 
-pub read-sound : (b : List ℕ) (r : Reading) (p : TableParts) → r ≡ tableAnswer b → r ≡ Sound → p ≡ table_parts b → ◌≡◌ {A = TableReading} (record { answer = r; parts = p }) (readTable b)
-unfolding readTable
-read-sound b r p e h q = rw (← e, h, q)
+pub read_sound : (b : List ℕ) (r : Reading) (p : TableParts) → r ≡ table_answer b → r ≡ Sound → p ≡ table_parts b → ◌≡◌ {A = TableReading} (record { answer = r; parts = p }) (read_table b)
+unfolding read_table
+read_sound b r p e h q = rw (← e, h, q)
 
 -- 16 and 17 of the parts that were read
-pub whole_of : (b : List ℕ) (r : Reading) (p : TableParts) → tableAnswer b ≡ wholeAnswer (monitorOf (table_parts b)) → p ≡ table_parts b → r ≡ wholeAnswer (monitorOf p) → r ≡ tableAnswer b
-whole_of b r p all e is = is ∙ ap (λ (t : TableParts). wholeAnswer (monitorOf t)) e ∙ sym all
+pub whole_of : (b : List ℕ) (r : Reading) (p : TableParts) → table_answer b ≡ whole_answer (monitor_of (table_parts b)) → p ≡ table_parts b → r ≡ whole_answer (monitor_of p) → r ≡ table_answer b
+whole_of b r p all e is = is ∙ ap (λ (t : TableParts). whole_answer (monitor_of t)) e ∙ sym all

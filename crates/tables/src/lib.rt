@@ -1,15 +1,15 @@
 // The table: its fill, which copies, and what reading and writing give.
 ghost use Rattle.std.specs.Prelude.{◌≡◌, ℕ, ◌+◌, ◌-◌, ◌*◌, ◌%◌, ◌<◌, ◌≤◌, List, ◌++◌, length};
 ghost use Rattle.model.specs.Answers.{Reads, RefusesUnreached, Writes};
-ghost use Rattle.model.specs.Numbers.{readingValues, writingValues};
+ghost use Rattle.model.specs.Numbers.{reading_values, writing_values};
 ghost use Rattle.model.specs.Devices.{JudgesDevices};
-ghost use Rattle.model.specs.Limits.{kindLimit, transitionLimit, guardLimit};
+ghost use Rattle.model.specs.Limits.{kind_limit, transition_limit, guard_limit};
 ghost use Rattle.model.specs.Bytes.{word_bytes, joined, padded};
 ghost use Rattle.model.specs.Room.{over};
 ghost use Rattle.wire.specs.Placed.{placed};
 ghost use Rattle.model.specs.declared.Reading.TheVariants.{Sound};
-ghost use Rattle.model.specs.Kinds.{kindAt, kindBytes};
-ghost use Rattle.model.specs.Table.{apart, kindsAt, transitionsAt, kindColumn, deviceColumn, transitionColumn, guardPlace, table_parts, noTable, tableScan, tableAnswer, readTable, fieldBytes, guardBytesIn, transitionBytes, countBytes, tableBytes, tableLimit, tableWritable, writeTable};
+ghost use Rattle.model.specs.Kinds.{kind_at, kind_bytes};
+ghost use Rattle.model.specs.Table.{apart, kinds_at, transitions_at, kind_column, device_column, transition_column, guard_place, table_parts, no_table, table_scan, table_answer, read_table, field_bytes, guard_bytes_in, transition_bytes, count_bytes, table_bytes, table_limit, table_writable, write_table};
 
 use columns::{bytes_column, smaller};
 use frame::{is_version, put, sound};
@@ -29,8 +29,8 @@ const MOST: usize = FIRST_KIND as usize
 
 // The fill, which writes arrays and tests nothing: a byte of each kind, and of each transition, by its place in the record.
 fn kind_column(b: &[u8], field: u8) -> [u8; KIND_LIMIT]
-    requires { (kindsAt b.now ≤ kindLimit) × (field ≤ 1) }
-    ensures { result ≡ kindColumn b.now field }
+    requires { (kinds_at b.now ≤ kind_limit) × (field ≤ 1) }
+    ensures { result ≡ kind_column b.now field }
 {
     let mut column = [0u8; KIND_LIMIT];
     let width = kind_width(byte(b, 2));
@@ -40,7 +40,7 @@ fn kind_column(b: &[u8], field: u8) -> [u8; KIND_LIMIT]
 
 // The devices of the kinds that the table counts, at most as many as a sound one has.
 fn device_column(b: &[u8]) -> [u8; KIND_LIMIT]
-    ensures { kindsAt b.now ≤ kindLimit → result ≡ deviceColumn b.now }
+    ensures { kinds_at b.now ≤ kind_limit → result ≡ device_column b.now }
 {
     let most = smaller(byte(b, 6) as usize, KIND_LIMIT);
     let mut column = [0u8; KIND_LIMIT];
@@ -53,8 +53,8 @@ fn device_column(b: &[u8]) -> [u8; KIND_LIMIT]
 }
 
 fn transition_column(b: &[u8], field: usize) -> [u8; TRANSITION_LIMIT]
-    requires { (transitionsAt b.now ≤ transitionLimit) × (field ≤ 6) }
-    ensures { result ≡ transitionColumn b.now field }
+    requires { (transitions_at b.now ≤ transition_limit) × (field ≤ 6) }
+    ensures { result ≡ transition_column b.now field }
 {
     let n = byte(b, 7) as usize;
     let mut column = [0u8; TRANSITION_LIMIT];
@@ -70,8 +70,8 @@ fn transition_column(b: &[u8], field: usize) -> [u8; TRANSITION_LIMIT]
 
 // Each guard in its places.
 fn guard_places(b: &[u8]) -> [u8; GUARD_LIMIT * TRANSITION_LIMIT]
-    requires { tableScan b.now ≡ Sound }
-    ensures { result ≡ padded (guardLimit * transitionLimit) (joined (guardPlace b.now) (transitionsAt b.now)) }
+    requires { table_scan b.now ≡ Sound }
+    ensures { result ≡ padded (guard_limit * transition_limit) (joined (guard_place b.now) (transitions_at b.now)) }
 {
     let n = byte(b, 7) as usize;
     let mut guards = [0u8; GUARD_LIMIT * TRANSITION_LIMIT];
@@ -88,7 +88,7 @@ fn guard_places(b: &[u8]) -> [u8; GUARD_LIMIT * TRANSITION_LIMIT]
 }
 
 fn table_parts(b: &[u8], devices: [u8; KIND_LIMIT]) -> TableParts
-    requires { (tableScan b.now ≡ Sound) × (devices ≡ deviceColumn b.now) }
+    requires { (table_scan b.now ≡ Sound) × (devices ≡ device_column b.now) }
     ensures { result ≡ table_parts b.now }
 {
     let directions = kind_column(b, 0);
@@ -123,7 +123,7 @@ fn table_parts(b: &[u8], devices: [u8; KIND_LIMIT]) -> TableParts
 }
 
 fn no_table() -> TableParts
-    ensures { result ≡ noTable }
+    ensures { result ≡ no_table }
 {
     TableParts {
         version: 0,
@@ -147,8 +147,8 @@ fn no_table() -> TableParts
 }
 
 pub fn read_table(b: &[u8]) -> TableReading
-    ensures value { result ≡ readTable b.now }
-    ensures reads { Reads (tableAnswer b.now) (table_parts b.now) noTable result.answer result.parts × RefusesUnreached b.now result.answer × JudgesDevices (table_parts b.now) b.now (readingValues result.answer) }
+    ensures value { result ≡ read_table b.now }
+    ensures reads { Reads (table_answer b.now) (table_parts b.now) no_table result.answer result.parts × RefusesUnreached b.now result.answer × JudgesDevices (table_parts b.now) b.now (reading_values result.answer) }
 {
     let devices = device_column(b);
     let scan = scan_with(b, &devices);
@@ -174,8 +174,8 @@ pub fn read_table(b: &[u8]) -> TableReading
 
 // The table's numbers alone.
 pub fn table_answer(b: &[u8]) -> Reading
-    ensures value { result ≡ tableAnswer b.now }
-    ensures refuses_unreached { RefusesUnreached b.now result × JudgesDevices (table_parts b.now) b.now (readingValues result) }
+    ensures value { result ≡ table_answer b.now }
+    ensures refuses_unreached { RefusesUnreached b.now result × JudgesDevices (table_parts b.now) b.now (reading_values result) }
 {
     let reading = read_table(b);
     reading.answer
@@ -183,8 +183,8 @@ pub fn table_answer(b: &[u8]) -> Reading
 
 // Writing. Each record goes behind what stands in the room already, which a contract calls head.
 fn encode_kinds(t: TableParts, out: &mut [u8])
-    requires { t.kinds ≤ kindLimit }
-    ensures { (head room : List ℕ) → length head ≡ 8 → tableLimit ≤ length room → out.old ≡ over head room → out.new ≡ over (head ++ joined (kindBytes t) t.kinds) room }
+    requires { t.kinds ≤ kind_limit }
+    ensures { (head room : List ℕ) → length head ≡ 8 → table_limit ≤ length room → out.old ≡ over head room → out.new ≡ over (head ++ joined (kind_bytes t) t.kinds) room }
 {
     let version = t.version;
     let width = kind_width(version) as usize;
@@ -199,8 +199,8 @@ fn encode_kinds(t: TableParts, out: &mut [u8])
 }
 
 fn field_bytes(t: TableParts, j: usize) -> [u8; 7]
-    requires { j < transitionLimit }
-    ensures { result ≡ fieldBytes t j }
+    requires { j < transition_limit }
+    ensures { result ≡ field_bytes t j }
 {
     [
         t.sources[j],
@@ -215,8 +215,8 @@ fn field_bytes(t: TableParts, j: usize) -> [u8; 7]
 
 // The bytes of guard j that its length covers, and how many they are.
 fn put_guard<'a>(guards: &'a [u8], j: usize, count: u8, out: &mut [u8], at: usize) -> usize
-    requires { (j < transitionLimit) × (guardLimit * transitionLimit ≤ length guards.now) }
-    ensures { (out.new ≡ placed (guardBytesIn guards.now count j) at out.old) × (result ≡ length (guardBytesIn guards.now count j)) × (result ≤ guardLimit) }
+    requires { (j < transition_limit) × (guard_limit * transition_limit ≤ length guards.now) }
+    ensures { (out.new ≡ placed (guard_bytes_in guards.now count j) at out.old) × (result ≡ length (guard_bytes_in guards.now count j)) × (result ≤ guard_limit) }
 {
     let from = GUARD_LIMIT * j;
     let to = from + smaller(count as usize, GUARD_LIMIT);
@@ -225,8 +225,8 @@ fn put_guard<'a>(guards: &'a [u8], j: usize, count: u8, out: &mut [u8], at: usiz
 }
 
 fn put_transition(t: TableParts, j: usize, at: usize, out: &mut [u8]) -> usize
-    requires { (j < transitionLimit) × (at ≤ tableLimit) }
-    ensures { ((head room : List ℕ) → length head ≡ at → at + (7 + guardLimit) ≤ length room → out.old ≡ over head room → (out.new ≡ over (head ++ transitionBytes t j) room) × (result ≡ length (head ++ transitionBytes t j))) × (result ≤ at + (7 + guardLimit)) }
+    requires { (j < transition_limit) × (at ≤ table_limit) }
+    ensures { ((head room : List ℕ) → length head ≡ at → at + (7 + guard_limit) ≤ length room → out.old ≡ over head room → (out.new ≡ over (head ++ transition_bytes t j) room) × (result ≡ length (head ++ transition_bytes t j))) × (result ≤ at + (7 + guard_limit)) }
 {
     let fields = field_bytes(t, j);
     place(&fields, out, at);
@@ -235,8 +235,8 @@ fn put_transition(t: TableParts, j: usize, at: usize, out: &mut [u8]) -> usize
 }
 
 fn encode_transitions(t: TableParts, out: &mut [u8]) -> usize
-    requires { (t.kinds ≤ kindLimit) × (t.transitions ≤ transitionLimit) }
-    ensures { ((head room : List ℕ) → length head ≡ kindAt t.version t.kinds → tableLimit ≤ length room → out.old ≡ over head room → (out.new ≡ over (head ++ joined (transitionBytes t) t.transitions) room) × (result ≡ length (head ++ joined (transitionBytes t) t.transitions))) × (result ≤ tableLimit) }
+    requires { (t.kinds ≤ kind_limit) × (t.transitions ≤ transition_limit) }
+    ensures { ((head room : List ℕ) → length head ≡ kind_at t.version t.kinds → table_limit ≤ length room → out.old ≡ over head room → (out.new ≡ over (head ++ joined (transition_bytes t) t.transitions) room) × (result ≡ length (head ++ joined (transition_bytes t) t.transitions))) × (result ≤ table_limit) }
 {
     let n = t.transitions as usize;
     let mut at = kind_at(t.version, t.kinds) as usize;
@@ -250,8 +250,8 @@ fn encode_transitions(t: TableParts, out: &mut [u8]) -> usize
 
 // The records first, since their length stands in front of them.
 fn encode(t: TableParts, out: &mut [u8]) -> usize
-    requires { (t.kinds ≤ kindLimit) × (t.transitions ≤ transitionLimit) × (length out.old ≡ tableLimit) }
-    ensures { (out.new ≡ over (tableBytes t) out.old) × (result ≡ length (tableBytes t)) × (result ≤ tableLimit) }
+    requires { (t.kinds ≤ kind_limit) × (t.transitions ≤ transition_limit) × (length out.old ≡ table_limit) }
+    ensures { (out.new ≡ over (table_bytes t) out.old) × (result ≡ length (table_bytes t)) × (result ≤ table_limit) }
 {
     encode_kinds(t, out);
     let end = encode_transitions(t, out);
@@ -262,8 +262,8 @@ fn encode(t: TableParts, out: &mut [u8]) -> usize
 
 // What stands before the records of a table that ends at an offset.
 fn head_bytes(t: TableParts, end: usize) -> [u8; 8]
-    requires { end ≤ tableLimit }
-    ensures { result ≡ word_bytes (end - 2) ++ countBytes t }
+    requires { end ≤ table_limit }
+    ensures { result ≡ word_bytes (end - 2) ++ count_bytes t }
 {
     let total = after_length(end);
     [
@@ -286,8 +286,8 @@ fn after_length(end: usize) -> usize
 
 // What writing parts answers, from their bytes: a version 1 table has none for the devices.
 fn writable(t: TableParts, encoded: &[u8]) -> Reading
-    requires { encoded.now ≡ tableBytes t }
-    ensures { result ≡ tableWritable t }
+    requires { encoded.now ≡ table_bytes t }
+    ensures { result ≡ table_writable t }
 {
     let scan = scan_with(encoded, &t.devices);
     if !sound(scan) {
@@ -297,8 +297,8 @@ fn writable(t: TableParts, encoded: &[u8]) -> Reading
 }
 
 pub fn write_table(t: TableParts, room: &mut [u8]) -> Writing
-    ensures writes { Writes (writeTable t room.old) result room.new }
-    ensures judges_devices { JudgesDevices t (tableBytes t) (writingValues result) }
+    ensures writes { Writes (write_table t room.old) result room.new }
+    ensures judges_devices { JudgesDevices t (table_bytes t) (writing_values result) }
 {
     if !is_version(1, TABLE_VERSIONS, t.version) {
         return Writing::Unwritten(Refusal::TableVersion);

@@ -8,11 +8,11 @@ use mathlib.Core.Bool.{Bool, true, false}
 use lib.ListN.{length, length-append}
 use lib.Dec.{ltb}
 use borrow.Author.Tests.{lt-ltb, le-ltb}
-use Rattle.model.specs.Desk.{digits, spaced, newline, line, rejectedWord, rejectedLine}
+use Rattle.model.specs.Desk.{digits, spaced, newline, line, rejected_word, rejected_line}
 
-pub digits-none : (fuel n : ℕ) → fuel ≡ 0 → digits fuel n ≡ []
+pub digits_none : (fuel n : ℕ) → fuel ≡ 0 → digits fuel n ≡ []
 unfolding digits
-digits-none fuel n e = ap (λ (k : ℕ). digits k n) e
+digits_none fuel n e = ap (λ (k : ℕ). digits k n) e
 
 pub digits_last : (fuel n : ℕ) → 0 < fuel → n < 10 → digits fuel n ≡ (48 + n) ∷ []
 unfolding digits
@@ -43,14 +43,14 @@ pub numbers-length : (word : List ℕ) (a b : ℕ) → length (word ++ spaced a 
 numbers-length word a b =
     omega (arith, length-append (word ++ spaced a) (spaced b), length-append word (spaced a), digits-length 20 a, digits-length 20 b)
 
-pub rejected-length : (cost instant early late : ℕ) → length (rejectedLine cost instant early late) ≤ 93
+pub rejected-length : (cost instant early late : ℕ) → length (rejected_line cost instant early late) ≤ 93
 rejected-length cost instant early late =
-    let front : List ℕ = rejectedWord ++ spaced cost ++ spaced instant in
+    let front : List ℕ = rejected_word ++ spaced cost ++ spaced instant in
     omega (
       arith,
       length-append (front ++ spaced early ++ spaced late) newline,
       numbers-length front early late,
-      numbers-length rejectedWord cost instant,
+      numbers-length rejected_word cost instant,
     )
 
 pub line-length : (word : List ℕ) (a b : ℕ) → length (line word a b) ≤ length word + 43

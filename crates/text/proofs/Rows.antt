@@ -8,7 +8,7 @@ use lib.ListN.{length, length-append}
 use lib.Dec.{eqb}
 use Rattle.model.specs.Bytes.{tab}
 use Rattle.model.specs.Witness.{Row, kept, removed}
-use Rattle.model.specs.Desk.{keptWord, removedWord, addedWord, markWord, spaced, newline, row_line, row_lines}
+use Rattle.model.specs.Desk.{kept_word, removed_word, added_word, mark_word, spaced, newline, row_line, row_lines}
 use Rattle.text.proofs.Digits.{spaced-length, numbers-length}
 
 lines_snoc : (l : List Row) (r : Row) → row_lines (l ++ (r ∷ [])) ≡ row_lines l ++ row_line r
@@ -16,26 +16,26 @@ unfolding row_lines
 lines_snoc [] r = append-nil (row_line r)
 lines_snoc (x ∷ l) r = ap (λ (t : List ℕ). row_line x ++ t) (lines_snoc l r) ∙ sym (append_assoc (row_line x) (row_lines l) (row_line r))
 
-pub lines-tab : (f : ℕ → Row) (n : ℕ) → row_lines (tab f (suc n)) ≡ row_lines (tab f n) ++ row_line (f n)
+pub lines_tab : (f : ℕ → Row) (n : ℕ) → row_lines (tab f (suc n)) ≡ row_lines (tab f n) ++ row_line (f n)
 unfolding tab
-lines-tab f n = lines_snoc (tab f n) (f n)
+lines_tab f n = lines_snoc (tab f n) (f n)
 
-pub mark-length : (mark : ℕ) → length (markWord mark) ≤ 7
+pub mark-length : (mark : ℕ) → length (mark_word mark) ≤ 7
 mark-length mark = by (eqb mark kept) (eqb mark removed)
   where
-    by : (k r : Bool) → length (cond k keptWord (cond r removedWord addedWord)) ≤ 7
+    by : (k r : Bool) → length (cond k kept_word (cond r removed_word added_word)) ≤ 7
     by true r = omega arith
     by false true = omega arith
     by false false = omega arith
 
 pub row-length : (r : Row) → length (row_line r) ≤ 71
 row-length r =
-    let head : List ℕ = markWord r.mark ++ spaced r.time ++ spaced r.kind in
+    let head : List ℕ = mark_word r.mark ++ spaced r.time ++ spaced r.kind in
     omega (
       arith,
       length-append (head ++ spaced r.transition) newline,
       length-append head (spaced r.transition),
-      numbers-length (markWord r.mark) r.time r.kind,
+      numbers-length (mark_word r.mark) r.time r.kind,
       mark-length r.mark,
       spaced-length r.transition,
     )

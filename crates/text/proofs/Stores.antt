@@ -6,7 +6,7 @@ use mathlib.Core.Path.{◌≡◌, refl, sym, ap, ◌∙◌}
 use mathlib.Core.List.{List, [], ◌∷◌, ◌++◌}
 use lib.ListN.{length, set, length-append}
 use lib.Seq.{sets, drop-nil}
-use Rattle.model.specs.Desk.{inText}
+use Rattle.model.specs.Desk.{in_text}
 use Rattle.text.specs.Put.{stored, Wrote}
 
 stored_more : (t : List ℕ) (at : ℕ) (a b : List ℕ) → stored (stored t at a) (at + length a) b ≡ stored t at (a ++ b)
@@ -27,19 +27,19 @@ unfolding stored
 wrote_none t at = record { text = refl; place = sym (add-zero at) }
 
 -- from the front on, the bytes stand in the text as far as they fit
-stored-front : (t bytes : List ℕ) → stored t 0 bytes ≡ inText bytes t
+stored_front : (t bytes : List ℕ) → stored t 0 bytes ≡ in_text bytes t
 unfolding stored
-stored-front [] bytes = none bytes 0 ∙ sym (drop-nil (length bytes))
+stored_front [] bytes = none bytes 0 ∙ sym (drop-nil (length bytes))
   where
     none : (l : List ℕ) (i : ℕ) → sets [] i l ≡ []
     none [] i = refl
     none (x ∷ l) i = none l (suc i)
-stored-front (x ∷ t) [] = refl
-stored-front (x ∷ t) (b ∷ bytes) = behind b t 0 bytes ∙ ap (λ (l : List ℕ). b ∷ l) (stored-front t bytes)
+stored_front (x ∷ t) [] = refl
+stored_front (x ∷ t) (b ∷ bytes) = behind b t 0 bytes ∙ ap (λ (l : List ℕ). b ∷ l) (stored_front t bytes)
   where
     behind : (y : ℕ) (l : List ℕ) (i : ℕ) (m : List ℕ) → sets (y ∷ l) (suc i) m ≡ y ∷ sets l i m
     behind y l i [] = refl
     behind y l i (z ∷ m) = behind y (set l i z) (suc i) m
 
-pub wrote-front : {bytes t u : List ℕ} {r : ℕ} → Wrote bytes 0 t u r → (r ≡ length bytes) × (u ≡ inText bytes t)
-wrote-front {bytes} {t} w = (omega (arith, w.place), w.text ∙ stored-front t bytes)
+pub wrote_front : {bytes t u : List ℕ} {r : ℕ} → Wrote bytes 0 t u r → (r ≡ length bytes) × (u ≡ in_text bytes t)
+wrote_front {bytes} {t} w = (omega (arith, w.place), w.text ∙ stored_front t bytes)

@@ -1,9 +1,9 @@
 -- What a writer leaves in a lent text, and the rows of which a verdict's lines speak.
 use Rattle.std.specs.Prelude.{ℕ, ◌+◌, ◌^◌, ◌≤◌, ◌≡◌, List, [], cond, length, leb}
 use Rattle.std.proofs.lemmas.List.Edits.{sets}
-use Rattle.model.specs.Edition.{mostRows}
+use Rattle.model.specs.Edition.{most_rows}
 use Rattle.model.specs.Bytes.{tab}
-use Rattle.model.specs.Witness.{Row, rowAt}
+use Rattle.model.specs.Witness.{Row, row_at}
 use Rattle.model.specs.declared.Edition.TheVariants.{One}
 use Rattle.model.specs.declared.Verdict.{Verdict}
 use Rattle.model.specs.declared.Verdict.TheVariants.{Accepted, Rejected, Exhausted, Refused}
@@ -21,8 +21,8 @@ abbrev pub Small : ℕ → ℕ → Type 0
 Small at bytes = at + bytes ≤ 2 ^ 40
 
 -- the rows that stand in a witness room, as many as the verdict says; none where it says more than edition 1 has
-abbrev pub rowsStanding : Verdict → List ℕ → List Row
-rowsStanding (Accepted cost rows) witness = cond (leb rows (mostRows One)) (tab (rowAt One witness) rows) []
-rowsStanding (Rejected cost instant notYet no_more) witness = []
-rowsStanding (Exhausted budget instant) witness = []
-rowsStanding (Refused r) witness = []
+abbrev pub rows_standing : Verdict → List ℕ → List Row
+rows_standing (Accepted cost rows) witness = cond (leb rows (most_rows One)) (tab (row_at One witness) rows) []
+rows_standing (Rejected cost instant not_yet no_more) witness = []
+rows_standing (Exhausted budget instant) witness = []
+rows_standing (Refused r) witness = []

@@ -1,13 +1,13 @@
 // The lines that the program prints, written into a lent text: as far as they fit, the rest is dropped.
 // A writer takes the place to write at and returns the place behind what it wrote, whether or not there was room; for other crates that place is the front.
 ghost use Rattle.std.specs.Prelude.{[], ◌∷◌, ◌++◌, ◌+◌, ◌*◌, ◌<◌, ◌≤◌, length};
-ghost use Rattle.model.specs.Edition.{mostRows};
+ghost use Rattle.model.specs.Edition.{most_rows};
 ghost use Rattle.model.specs.declared.Edition.TheVariants.{One};
 ghost use Rattle.model.specs.Bytes.{tab};
-ghost use Rattle.model.specs.Witness.{rowAt};
-ghost use Rattle.model.specs.Desk.{digits, spaced, refusedWord, line, rejectedLine, markWord, row_line, row_lines, verdictLines};
+ghost use Rattle.model.specs.Witness.{row_at};
+ghost use Rattle.model.specs.Desk.{digits, spaced, refused_word, line, rejected_line, mark_word, row_line, row_lines, verdict_lines};
 ghost use Rattle.witness.specs.Rows.{row_of};
-ghost use Rattle.text.specs.Put.{Wrote, Small, rowsStanding};
+ghost use Rattle.text.specs.Put.{Wrote, Small, rows_standing};
 
 use editions::most_rows;
 use model::{Edition, KEPT, REMOVED, Verdict};
@@ -86,7 +86,7 @@ fn rejected_line(
     at: usize,
 ) -> usize
     requires { Small at 93 }
-    ensures { Wrote (rejectedLine cost instant early late) at text.old text.new result }
+    ensures { Wrote (rejected_line cost instant early late) at text.old text.new result }
 {
     let first = numbers(b"rejected", cost, instant, text, at);
     let second = number(early, text, first);
@@ -96,7 +96,7 @@ fn rejected_line(
 
 fn marked(mark: u8, time: u64, kind: u64, text: &mut [u8], at: usize) -> usize
     requires { Small at 49 }
-    ensures { Wrote (markWord mark ++ spaced time ++ spaced kind) at text.old text.new result }
+    ensures { Wrote (mark_word mark ++ spaced time ++ spaced kind) at text.old text.new result }
 {
     if mark == KEPT {
         return numbers(b"kept", time, kind, text, at);
@@ -117,15 +117,15 @@ fn row_line(e: Entry, text: &mut [u8], at: usize) -> usize
 }
 
 fn line_at(witness: &[u8], i: usize, text: &mut [u8], at: usize) -> usize
-    requires { (i < mostRows One) × Small at 71 }
-    ensures { Wrote (row_line (rowAt One witness.now i)) at text.old text.new result }
+    requires { (i < most_rows One) × Small at 71 }
+    ensures { Wrote (row_line (row_at One witness.now i)) at text.old text.new result }
 {
     row_line(row_at(Edition::One, witness, i as u32), text, at)
 }
 
 fn row_lines(witness: &[u8], rows: usize, text: &mut [u8], at: usize) -> usize
-    requires { (rows ≤ mostRows One) × Small at (71 * rows) }
-    ensures { Wrote (row_lines (tab (rowAt One witness.now) rows)) at text.old text.new result }
+    requires { (rows ≤ most_rows One) × Small at (71 * rows) }
+    ensures { Wrote (row_lines (tab (row_at One witness.now) rows)) at text.old text.new result }
 {
     let mut next = at;
     let mut i = 0;
@@ -137,14 +137,14 @@ fn row_lines(witness: &[u8], rows: usize, text: &mut [u8], at: usize) -> usize
 }
 
 pub fn refused_line(number: u64, value: u64, text: &mut [u8]) -> usize
-    ensures { Wrote (line refusedWord number value) 0 text.old text.new result }
+    ensures { Wrote (line refused_word number value) 0 text.old text.new result }
 {
     short_line(b"refused", number, value, text, 0)
 }
 
 // An accepted verdict's rows are read back from the witness room. More than edition 1 has were never written: then none is read.
 pub fn verdict_lines(verdict: Verdict, witness: &[u8], text: &mut [u8]) -> usize
-    ensures { Wrote (verdictLines verdict (rowsStanding verdict witness.now)) 0 text.old text.new result }
+    ensures { Wrote (verdict_lines verdict (rows_standing verdict witness.now)) 0 text.old text.new result }
 {
     match verdict {
         Verdict::Accepted { cost, rows } => {

@@ -11,22 +11,22 @@ use lib.Dec.{leb, ltb, eqb}
 use lib.Bits.{bit_and, bit_or, and_step, or_add_and, and_le_l, and_le_r}
 use borrow.Author.Tests.{le-leb, lt-leb, lt-ltb, le-ltb, eqb-true, eqb-false}
 use Rattle.model.specs.Readiness.{waited}
-use Rattle.model.proofs.Basics.{leb-same}
+use Rattle.model.proofs.Basics.{leb_same}
 use Rattle.model.proofs.ReadinessLaws.{waited-there, waited-past}
-use Rattle.waits.specs.Waits.{bits_of, word_of, waitsOf, rest, others, common, is_none}
+use Rattle.waits.specs.Waits.{bits_of, word_of, waits_of, rest, others, common, is_none}
 
 -- bits
 
-bits-agree : (n : ℕ) (p q : ℕ → Bool) → ((j : ℕ) → j < n → p j ≡ q j) → bits_of n p ≡ bits_of n q
+bits_agree : (n : ℕ) (p q : ℕ → Bool) → ((j : ℕ) → j < n → p j ≡ q j) → bits_of n p ≡ bits_of n q
 unfolding bits_of
-bits-agree zero p q h = refl
-bits-agree (suc n) p q h =
-    ap₂ (λ (b : Bool) (x : ℕ). cond b 1 0 + 2 * x) (h 0 (omega arith)) (bits-agree n (λ j. p (suc j)) (λ j. q (suc j)) (λ j l. h (suc j) (omega arith)))
+bits_agree zero p q h = refl
+bits_agree (suc n) p q h =
+    ap₂ (λ (b : Bool) (x : ℕ). cond b 1 0 + 2 * x) (h 0 (omega arith)) (bits_agree n (λ j. p (suc j)) (λ j. q (suc j)) (λ j l. h (suc j) (omega arith)))
 
-none-bits : (n : ℕ) → bits_of n (λ j. false) ≡ 0
+none_bits : (n : ℕ) → bits_of n (λ j. false) ≡ 0
 unfolding bits_of
-none-bits zero = refl
-none-bits (suc n) = omega (arith, none-bits n)
+none_bits zero = refl
+none_bits (suc n) = omega (arith, none_bits n)
 
 -- a set and its complement make up all
 both_bits : (n : ℕ) (p : ℕ → Bool) → bits_of n (λ j. not (p j)) + bits_of n p + 1 ≡ 2 ^ n
@@ -47,14 +47,14 @@ lowest : (b : Bool) (x : ℕ) → (cond b 1 0 + 2 * x) % 2 ≡ cond b 1 0
 lowest true x = omega arith
 lowest false x = omega arith
 
-and-bits : (n : ℕ) (p q : ℕ → Bool) → bit_and (bits_of n p) (bits_of n q) ≡ bits_of n (λ j. p j && q j)
+and_bits : (n : ℕ) (p q : ℕ → Bool) → bit_and (bits_of n p) (bits_of n q) ≡ bits_of n (λ j. p j && q j)
 unfolding bits_of
-and-bits zero p q = refl
-and-bits (suc n) p q =
+and_bits zero p q = refl
+and_bits (suc n) p q =
     let a : ℕ = bits_of n (λ j. p (suc j)) in
     let b : ℕ = bits_of n (λ j. q (suc j)) in
     and_step (cond (p 0) 1 0 + 2 * a) (cond (q 0) 1 0 + 2 * b)
-    ∙ rw (halved (p 0) a, halved (q 0) b, lowest (p 0) a, lowest (q 0) b, and-bits n (λ j. p (suc j)) (λ j. q (suc j))) (by (p 0) (q 0) (bits_of n (λ j. p (suc j) && q (suc j))))
+    ∙ rw (halved (p 0) a, halved (q 0) b, lowest (p 0) a, lowest (q 0) b, and_bits n (λ j. p (suc j)) (λ j. q (suc j))) (by (p 0) (q 0) (bits_of n (λ j. p (suc j) && q (suc j))))
   where
     by : (b c : Bool) (x : ℕ) → x * 2 + min (cond b 1 0) (cond c 1 0) ≡ cond (b && c) 1 0 + 2 * x
     by true true x = omega arith
@@ -62,16 +62,16 @@ and-bits (suc n) p q =
     by false true x = omega arith
     by false false x = omega arith
 
-ltb-suc : (j e : ℕ) → Dec (j < e) → ltb (suc j) (suc e) ≡ ltb j e
-ltb-suc j e (yes h) = lt-ltb (suc j) (suc e) (omega arith) ∙ sym (lt-ltb j e h)
-ltb-suc j e (no h) = le-ltb (suc j) (suc e) (omega arith) ∙ sym (le-ltb j e (omega arith))
+ltb_suc : (j e : ℕ) → Dec (j < e) → ltb (suc j) (suc e) ≡ ltb j e
+ltb_suc j e (yes h) = lt-ltb (suc j) (suc e) (omega arith) ∙ sym (lt-ltb j e h)
+ltb_suc j e (no h) = le-ltb (suc j) (suc e) (omega arith) ∙ sym (le-ltb j e (omega arith))
 
 first-bits : (n e : ℕ) → e ≤ n → bits_of n (λ j. ltb j e) + 1 ≡ 2 ^ e
 unfolding bits_of
 first-bits zero zero h = refl
 first-bits zero (suc e) h = absurd (not-suc-le-zero h)
-first-bits (suc n) zero h = omega (arith, bits-agree n (λ j. ltb (suc j) 0) (λ j. false) (λ j l. le-ltb (suc j) 0 (omega arith)), none-bits n)
-first-bits (suc n) (suc e) h = rw (lt-ltb 0 (suc e) (omega arith)) (omega (arith, pow-suc 2 e, first-bits n e (omega arith), bits-agree n (λ j. ltb (suc j) (suc e)) (λ j. ltb j e) (λ j l. ltb-suc j e (dec_lt j e))))
+first-bits (suc n) zero h = omega (arith, bits_agree n (λ j. ltb (suc j) 0) (λ j. false) (λ j l. le-ltb (suc j) 0 (omega arith)), none_bits n)
+first-bits (suc n) (suc e) h = rw (lt-ltb 0 (suc e) (omega arith)) (omega (arith, pow-suc 2 e, first-bits n e (omega arith), bits_agree n (λ j. ltb (suc j) (suc e)) (λ j. ltb j e) (λ j l. ltb_suc j e (dec_lt j e))))
 
 no_bits : (n : ℕ) (p : ℕ → Bool) → bits_of n p ≡ 0 → (j : ℕ) → j < n → p j ≡ false
 unfolding bits_of
@@ -92,17 +92,17 @@ some-bit (suc n) p h = by (p 0) refl (λ f. some-bit n (λ j. p (suc j)) f) h
     by true e later f = (0, e)
     by false e later f = let found = later (λ z. f (omega arith)) in (suc found.0, found.1)
 
-or-none : (a b : ℕ) → bit_or a b ≡ 0 → (a ≡ 0) × (b ≡ 0)
-or-none a b e = (omega (arith, or_add_and a b, and_le_r a b), omega (arith, or_add_and a b, and_le_l a b))
+or_none : (a b : ℕ) → bit_or a b ≡ 0 → (a ≡ 0) × (b ≡ 0)
+or_none a b e = (omega (arith, or_add_and a b, and_le_r a b), omega (arith, or_add_and a b, and_le_l a b))
 
 -- words
 
 module _ (p : ℕ → Bool) where
-  word-rest : (from : ℕ) → word_of (λ d. not (p d)) from ≡ rest (word_of p from)
-  word-rest from = omega (arith, both_bits 64 (λ j. p (suc (from + j))))
+  word_rest : (from : ℕ) → word_of (λ d. not (p d)) from ≡ rest (word_of p from)
+  word_rest from = omega (arith, both_bits 64 (λ j. p (suc (from + j))))
 
-  pub waits-not : waitsOf (λ d. not (p d)) ≡ others (waitsOf p)
-  waits-not = λ i. record { first = word-rest 0 i; second = word-rest 64 i; third = word-rest 128 i; fourth = word-rest 192 i }
+  pub waits_not : waits_of (λ d. not (p d)) ≡ others (waits_of p)
+  waits_not = λ i. record { first = word_rest 0 i; second = word_rest 64 i; third = word_rest 128 i; fourth = word_rest 192 i }
 
   word_none : (from : ℕ) → word_of p from ≡ 0 → (d : ℕ) → from < d → d ≤ from + 64 → p d ≡ false
   word_none from e d h k =
@@ -113,11 +113,11 @@ module _ (p : ℕ → Bool) where
   word_some from h = let found = some-bit 64 (λ j. p (suc (from + j))) h in (suc (from + found.0), omega arith, found.1)
 
   -- no wait in an empty set passes
-  pub none-waits : is_none (waitsOf p) ≡ true → (d : ℕ) → 1 ≤ d → d ≤ 256 → p d ≡ false
-  none-waits e d h k =
-      let (three, fourth) = or-none _ (word_of p 192) (eqb-true _ 0 e) in
-      let (two, third) = or-none _ (word_of p 128) three in
-      let (first, second) = or-none (word_of p 0) (word_of p 64) two in
+  pub none_waits : is_none (waits_of p) ≡ true → (d : ℕ) → 1 ≤ d → d ≤ 256 → p d ≡ false
+  none_waits e d h k =
+      let (three, fourth) = or_none _ (word_of p 192) (eqb-true _ 0 e) in
+      let (two, third) = or_none _ (word_of p 128) three in
+      let (first, second) = or_none (word_of p 0) (word_of p 64) two in
       by first second third fourth (dec_lt d 65) (dec_lt d 129) (dec_lt d 193)
     where
       by : word_of p 0 ≡ 0 → word_of p 64 ≡ 0 → word_of p 128 ≡ 0 → word_of p 192 ≡ 0 → Dec (d < 65) → Dec (d < 129) → Dec (d < 193) → p d ≡ false
@@ -127,7 +127,7 @@ module _ (p : ℕ → Bool) where
       by first second third fourth (no a) (no b) (no c) = word_none 192 fourth d (omega arith) (omega arith)
 
   -- some wait of a set that is not empty does
-  pub some-wait : is_none (waitsOf p) ≡ false → (d : ℕ) × (1 ≤ d) × (p d ≡ true)
+  pub some-wait : is_none (waits_of p) ≡ false → (d : ℕ) × (1 ≤ d) × (p d ≡ true)
   some-wait e = by (eqb (word_of p 0) 0) refl (eqb (word_of p 64) 0) refl (eqb (word_of p 128) 0) refl (eqb (word_of p 192) 0) refl
     where
       by : (a : Bool) → eqb (word_of p 0) 0 ≡ a → (b : Bool) → eqb (word_of p 64) 0 ≡ b → (c : Bool) → eqb (word_of p 128) 0 ≡ c → (z : Bool) → eqb (word_of p 192) 0 ≡ z
@@ -137,33 +137,33 @@ module _ (p : ℕ → Bool) where
       by true f true g false h z i = word_some 128 (eqb-false (word_of p 128) 0 h)
       by true f true g true h false i = word_some 192 (eqb-false (word_of p 192) 0 i)
       by true f true g true h true i =
-          let none : is_none (waitsOf p) ≡ true = rw (eqb-true (word_of p 0) 0 f, eqb-true (word_of p 64) 0 g, eqb-true (word_of p 128) 0 h, eqb-true (word_of p 192) 0 i) in
+          let none : is_none (waits_of p) ≡ true = rw (eqb-true (word_of p 0) 0 f, eqb-true (word_of p 64) 0 g, eqb-true (word_of p 128) 0 h, eqb-true (word_of p 192) 0 i) in
           absurd (false≢true (sym e ∙ none))
 
-pub waits-and : (p q : ℕ → Bool) → waitsOf (λ d. p d && q d) ≡ common (waitsOf p) (waitsOf q)
-waits-and p q = λ i. record { first = word 0 i; second = word 64 i; third = word 128 i; fourth = word 192 i }
+pub waits_and : (p q : ℕ → Bool) → waits_of (λ d. p d && q d) ≡ common (waits_of p) (waits_of q)
+waits_and p q = λ i. record { first = word 0 i; second = word 64 i; third = word 128 i; fourth = word 192 i }
   where
     word : (from : ℕ) → word_of (λ d. p d && q d) from ≡ bit_and (word_of p from) (word_of q from)
-    word from = sym (and-bits 64 (λ j. p (suc (from + j))) (λ j. q (suc (from + j))))
+    word from = sym (and_bits 64 (λ j. p (suc (from + j))) (λ j. q (suc (from + j))))
 
-pub none-word : (from : ℕ) → word_of (λ d. false) from ≡ 0
-none-word from = none-bits 64
+pub none_word : (from : ℕ) → word_of (λ d. false) from ≡ 0
+none_word from = none_bits 64
 
-pub all-word : (from : ℕ) → word_of (λ d. true) from ≡ 18446744073709551615
-all-word from = omega (arith, word-rest (λ d. false) from, none-word from)
+pub all_word : (from : ℕ) → word_of (λ d. true) from ≡ 18446744073709551615
+all_word from = omega (arith, word_rest (λ d. false) from, none_word from)
 
 -- the waits up to last, word by word
 
 module _ (last from : ℕ) where
-  pub up-to-none : last ≤ from → word_of (λ d. leb d last) from ≡ 0
-  up-to-none h = bits-agree 64 (λ j. leb (suc (from + j)) last) (λ j. false) (λ j l. lt-leb (suc (from + j)) last (omega arith)) ∙ none-bits 64
+  pub up_to_none : last ≤ from → word_of (λ d. leb d last) from ≡ 0
+  up_to_none h = bits_agree 64 (λ j. leb (suc (from + j)) last) (λ j. false) (λ j l. lt-leb (suc (from + j)) last (omega arith)) ∙ none_bits 64
 
-  pub up-to-all : 64 + from ≤ last → word_of (λ d. leb d last) from ≡ 18446744073709551615
-  up-to-all h = bits-agree 64 (λ j. leb (suc (from + j)) last) (λ j. true) (λ j l. le-leb (suc (from + j)) last (omega arith)) ∙ all-word from
+  pub up_to_all : 64 + from ≤ last → word_of (λ d. leb d last) from ≡ 18446744073709551615
+  up_to_all h = bits_agree 64 (λ j. leb (suc (from + j)) last) (λ j. true) (λ j l. le-leb (suc (from + j)) last (omega arith)) ∙ all_word from
 
-  pub up-to-some : (e : ℕ) → e ≤ 64 → last ≡ from + e → word_of (λ d. leb d last) from + 1 ≡ 2 ^ e
-  up-to-some e h q =
-      ap (λ (x : ℕ). x + 1) (bits-agree 64 (λ j. leb (suc (from + j)) last) (λ j. ltb j e) (λ j l. by j (dec_lt j e))) ∙ first-bits 64 e h
+  pub up_to_some : (e : ℕ) → e ≤ 64 → last ≡ from + e → word_of (λ d. leb d last) from + 1 ≡ 2 ^ e
+  up_to_some e h q =
+      ap (λ (x : ℕ). x + 1) (bits_agree 64 (λ j. leb (suc (from + j)) last) (λ j. ltb j e) (λ j l. by j (dec_lt j e))) ∙ first-bits 64 e h
     where
       by : (j : ℕ) → Dec (j < e) → leb (suc (from + j)) last ≡ ltb j e
       by j (yes l) = le-leb (suc (from + j)) last (omega arith) ∙ sym (lt-ltb j e l)
@@ -171,35 +171,35 @@ module _ (last from : ℕ) where
 
 -- the waits after which a clock is at most, or at least, t
 
-same-waits : (p q : ℕ → Bool) → ((d : ℕ) → p d ≡ q d) → waitsOf p ≡ waitsOf q
-same-waits p q h = ap waitsOf (fun_ext h)
+same_waits : (p q : ℕ → Bool) → ((d : ℕ) → p d ≡ q d) → waits_of p ≡ waits_of q
+same_waits p q h = ap waits_of (fun_ext h)
 
 module _ (c : List ℕ) (n t : ℕ) where
   abbrev most : ℕ → Bool
   most d = leb (get_or (waited d c) n 0) t
 
-  pub absent-most : length c ≤ n → waitsOf (λ d. true) ≡ waitsOf most
-  absent-most h = same-waits (λ d. true) most (λ d. sym (le-leb (get_or (waited d c) n 0) t (omega (arith, waited-past c n d h))))
+  pub absent_most : length c ≤ n → waits_of (λ d. true) ≡ waits_of most
+  absent_most h = same_waits (λ d. true) most (λ d. sym (le-leb (get_or (waited d c) n 0) t (omega (arith, waited-past c n d h))))
 
-  pub past-most : n < length c → t < get_or c n 0 → waitsOf (λ d. false) ≡ waitsOf most
-  past-most h k = same-waits (λ d. false) most (λ d. sym (lt-leb (get_or (waited d c) n 0) t (omega (arith, waited-there c n d h))))
+  pub past-most : n < length c → t < get_or c n 0 → waits_of (λ d. false) ≡ waits_of most
+  past-most h k = same_waits (λ d. false) most (λ d. sym (lt-leb (get_or (waited d c) n 0) t (omega (arith, waited-there c n d h))))
 
-  pub still-most : n < length c → get_or c n 0 ≤ t → waitsOf (λ d. leb d (t - get_or c n 0)) ≡ waitsOf most
+  pub still-most : n < length c → get_or c n 0 ≤ t → waits_of (λ d. leb d (t - get_or c n 0)) ≡ waits_of most
   still-most h k =
-      same-waits (λ d. leb d (t - get_or c n 0)) most
-      (λ d. leb-same d (t - get_or c n 0) (get_or (waited d c) n 0) t (λ l. omega (arith, waited-there c n d h)) (λ l. omega (arith, waited-there c n d h)))
+      same_waits (λ d. leb d (t - get_or c n 0)) most
+      (λ d. leb_same d (t - get_or c n 0) (get_or (waited d c) n 0) t (λ l. omega (arith, waited-there c n d h)) (λ l. omega (arith, waited-there c n d h)))
 
   abbrev least : ℕ → Bool
   least d = leb t (get_or (waited d c) n 0)
 
-  pub every-least : t ≡ 0 → waitsOf (λ d. true) ≡ waitsOf least
-  every-least e = same-waits (λ d. true) least (λ d. sym (le-leb t (get_or (waited d c) n 0) (omega arith)))
+  pub every_least : t ≡ 0 → waits_of (λ d. true) ≡ waits_of least
+  every_least e = same_waits (λ d. true) least (λ d. sym (le-leb t (get_or (waited d c) n 0) (omega arith)))
 
 -- at least t is not at most t - 1
-pub least-most : (c : List ℕ) (n t : ℕ) → (t ≡ 0 → ⊥) → others (waitsOf (most c n (t - 1))) ≡ waitsOf (least c n t)
-least-most c n t h =
-    sym (waits-not (most c n (t - 1)))
-    ∙ same-waits (λ d. not (most c n (t - 1) d)) (least c n t) (λ d. by (get_or (waited d c) n 0) (dec_lt (get_or (waited d c) n 0) t))
+pub least_most : (c : List ℕ) (n t : ℕ) → (t ≡ 0 → ⊥) → others (waits_of (most c n (t - 1))) ≡ waits_of (least c n t)
+least_most c n t h =
+    sym (waits_not (most c n (t - 1)))
+    ∙ same_waits (λ d. not (most c n (t - 1) d)) (least c n t) (λ d. by (get_or (waited d c) n 0) (dec_lt (get_or (waited d c) n 0) t))
   where
     by : (x : ℕ) → Dec (x < t) → not (leb x (t - 1)) ≡ leb t x
     by x (yes l) = ap not (le-leb x (t - 1) (omega arith)) ∙ sym (lt-leb t x l)

@@ -13,8 +13,8 @@ abbrev pub word_of : (ℕ → Bool) → ℕ → ℕ
 word_of p from = bits_of 64 (λ j. p (suc (from + j)))
 
 -- the waits from 1 to 256 that pass
-abbrev pub waitsOf : (ℕ → Bool) → Waits
-waitsOf p = record { first = word_of p 0; second = word_of p 64; third = word_of p 128; fourth = word_of p 192 }
+abbrev pub waits_of : (ℕ → Bool) → Waits
+waits_of p = record { first = word_of p 0; second = word_of p 64; third = word_of p 128; fourth = word_of p 192 }
 
 abbrev pub rest : ℕ → ℕ
 rest word = 18446744073709551615 - word

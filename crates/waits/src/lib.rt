@@ -2,7 +2,7 @@
 // Bounds are bytes: where no wait up to 256 makes a guard hold, none will.
 ghost use Rattle.std.specs.Prelude.{◌≡◌, get_or, leb};
 ghost use Rattle.model.specs.Readiness.{waited};
-ghost use Rattle.waits.specs.Waits.{word_of, waitsOf, others, common, is_none};
+ghost use Rattle.waits.specs.Waits.{word_of, waits_of, others, common, is_none};
 
 use wire::short;
 
@@ -16,7 +16,7 @@ pub struct Waits {
 
 // Every wait, or none.
 pub fn constant(every: bool) -> Waits
-    ensures { result ≡ waitsOf (λ d. every) }
+    ensures { result ≡ waits_of (λ d. every) }
 {
     let word = if every { u64::MAX } else { 0 };
     Waits {
@@ -71,7 +71,7 @@ fn word_up_to(last: u16, from: u16) -> u64
 }
 
 fn up_to(last: u16) -> Waits
-    ensures { result ≡ waitsOf (λ d. leb d last) }
+    ensures { result ≡ waits_of (λ d. leb d last) }
 {
     Waits {
         first: word_up_to(last, 0),
@@ -83,7 +83,7 @@ fn up_to(last: u16) -> Waits
 
 // The waits after which clock n reads at most t. A clock that is not there reads 0 for ever.
 pub fn most_waits(c: &[u16], n: usize, t: u8) -> Waits
-    ensures { result ≡ waitsOf (λ d. leb (get_or (waited d c.now) n 0) t) }
+    ensures { result ≡ waits_of (λ d. leb (get_or (waited d c.now) n 0) t) }
 {
     if c.len() <= n {
         return constant(true);
@@ -98,7 +98,7 @@ pub fn most_waits(c: &[u16], n: usize, t: u8) -> Waits
 
 // The waits after which it reads at least t: those after which it does not read less.
 pub fn least_waits(c: &[u16], n: usize, t: u8) -> Waits
-    ensures { result ≡ waitsOf (λ d. leb t (get_or (waited d c.now) n 0)) }
+    ensures { result ≡ waits_of (λ d. leb t (get_or (waited d c.now) n 0)) }
 {
     if t == 0 {
         return constant(true);

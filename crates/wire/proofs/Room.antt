@@ -14,9 +14,9 @@ module _ (bytes : List ℕ) (at : ℕ) (room : List ℕ) where
   unfolding placed
   placed-fits h = simp (le-leb _ _ h)
 
-  pub placed-not : length room < at + length bytes → placed bytes at room ≡ room
+  pub placed_not : length room < at + length bytes → placed bytes at room ≡ room
   unfolding placed
-  placed-not h = simp (lt-leb _ _ h)
+  placed_not h = simp (lt-leb _ _ h)
 
 -- bytes placed behind those that are written already are written behind them
 pub placed-behind : (done bytes room : List ℕ) (at : ℕ) → length done ≡ at → at + length bytes ≤ length room → placed bytes at (over done room) ≡ over (done ++ bytes) room

@@ -1,6 +1,6 @@
 // Reads that are total, 0 past the end, and writing into a lent room.
 ghost use Rattle.std.specs.Prelude.{◌≡◌, ◌<◌, get_or};
-ghost use Rattle.model.specs.Bytes.{byte_at, word_at, longAt};
+ghost use Rattle.model.specs.Bytes.{byte_at, word_at, long_at};
 ghost use Rattle.wire.specs.Placed.{placed};
 
 pub fn byte(s: &[u8], at: usize) -> u8
@@ -24,7 +24,7 @@ pub fn word(s: &[u8], at: usize) -> u16
 
 // The four-byte number at an offset, big-endian.
 pub fn long(s: &[u8], at: usize) -> u32
-    ensures { (result ≡ longAt s.now at) × (result < 4294967296) }
+    ensures { (result ≡ long_at s.now at) × (result < 4294967296) }
 {
     if at < s.len() {
         let high = word(s, at) as u32;

@@ -8,5 +8,5 @@ abbrev pub row_of : Entry → Row
 row_of e = record { mark = e.mark; time = e.time; kind = e.kind; transition = e.transition }
 
 -- the row before, where there is one: times are from 1 up
-abbrev pub beforeOf : Entry → Option Row
-beforeOf e = cond (eqb e.time 0) none (some (row_of e))
+abbrev pub before_of : Entry → Option Row
+before_of e = cond (eqb e.time 0) none (some (row_of e))

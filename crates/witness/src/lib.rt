@@ -2,8 +2,8 @@
 ghost use Rattle.std.specs.Prelude.{◌<◌, ◌≡◌};
 ghost use Rattle.std.proofs.Math.Option.{none};
 ghost use Rattle.model.specs.Bytes.{tab};
-ghost use Rattle.model.specs.Witness.{inForm, inPlace, misformed, badRow, witnessCountAt, rowAt, witnessFrame, witnessAnswer, rowBytes};
-ghost use Rattle.witness.specs.Rows.{row_of, beforeOf};
+ghost use Rattle.model.specs.Witness.{in_form, in_place, misformed, bad_row, witness_count_at, row_at, witness_frame, witness_answer, row_bytes};
+ghost use Rattle.witness.specs.Rows.{row_of, before_of};
 
 use editions::{count_place, latest_time, most_rows, rows_place, size_at, size_width};
 use frame::{rows_framed, sound};
@@ -21,7 +21,7 @@ pub struct Entry {
 
 // 40, 41 and 42.
 pub fn witness_frame(edition: Edition, b: &[u8]) -> Reading
-    ensures { result ≡ witnessFrame edition b.now }
+    ensures { result ≡ witness_frame edition b.now }
 {
     let limit = most_rows(edition);
     rows_framed(
@@ -40,13 +40,13 @@ pub fn witness_frame(edition: Edition, b: &[u8]) -> Reading
 }
 
 pub fn count_at(edition: Edition, b: &[u8]) -> u32
-    ensures { (result ≡ witnessCountAt edition b.now) × (result < 4294967296) }
+    ensures { (result ≡ witness_count_at edition b.now) × (result < 4294967296) }
 {
     size_at(edition, b, count_place(edition))
 }
 
 pub fn row_at(edition: Edition, b: &[u8], i: u32) -> Entry
-    ensures { row_of result ≡ rowAt edition b.now i }
+    ensures { row_of result ≡ row_at edition b.now i }
 {
     let from = rows_place(edition) + 5 * i as usize;
     Entry {
@@ -59,7 +59,7 @@ pub fn row_at(edition: Edition, b: &[u8], i: u32) -> Entry
 
 // A row by itself.
 fn in_form(edition: Edition, e: Entry) -> bool
-    ensures { result ≡ inForm edition (row_of e) }
+    ensures { result ≡ in_form edition (row_of e) }
 {
     if ADDED < e.mark {
         return false;
@@ -78,7 +78,7 @@ fn in_form(edition: Edition, e: Entry) -> bool
 
 // A row by itself and behind the row before it, if there is one: one of time 0 is none. Times rise strictly.
 pub fn in_place(edition: Edition, before: Entry, e: Entry) -> bool
-    ensures { result ≡ inPlace edition (beforeOf before) (row_of e) }
+    ensures { result ≡ in_place edition (before_of before) (row_of e) }
 {
     if !in_form(edition, e) {
         return false;
@@ -91,7 +91,7 @@ pub fn in_place(edition: Edition, before: Entry, e: Entry) -> bool
 
 // No row: what stands before the first one.
 pub fn no_row() -> Entry
-    ensures { beforeOf result ≡ none }
+    ensures { before_of result ≡ none }
 {
     Entry {
         mark: 0,
@@ -103,7 +103,7 @@ pub fn no_row() -> Entry
 
 // 43 for the first row that breaks the form.
 fn rows_answer(edition: Edition, b: &[u8], count: u32) -> Reading
-    ensures { result ≡ badRow (misformed edition none 0 (tab (rowAt edition b.now) count)) }
+    ensures { result ≡ bad_row (misformed edition none 0 (tab (row_at edition b.now) count)) }
 {
     let mut before = no_row();
     let mut i = 0;
@@ -120,7 +120,7 @@ fn rows_answer(edition: Edition, b: &[u8], count: u32) -> Reading
 
 // The form alone, 40 to 43: tests every row and fills no array.
 pub fn witness_answer(edition: Edition, b: &[u8]) -> Reading
-    ensures { result ≡ witnessAnswer edition b.now }
+    ensures { result ≡ witness_answer edition b.now }
 {
     let frame = witness_frame(edition, b);
     if sound(frame) {
@@ -131,7 +131,7 @@ pub fn witness_answer(edition: Edition, b: &[u8]) -> Reading
 
 // A row's five bytes.
 pub fn row_bytes(e: Entry) -> [u8; 5]
-    ensures { result ≡ rowBytes (row_of e) }
+    ensures { result ≡ row_bytes (row_of e) }
 {
     [
         e.mark,

@@ -2,14 +2,14 @@
 ghost use Rattle.std.specs.Prelude.{◌+◌, ◌*◌, ◌≤◌, ◌≡◌, length};
 ghost use Rattle.std.proofs.Math.Option.{none};
 ghost use Rattle.model.specs.Answers.{Reads, Writes};
-ghost use Rattle.model.specs.Limits.{witnessPlaces};
-ghost use Rattle.model.specs.Edition.{rowsPlace};
+ghost use Rattle.model.specs.Limits.{witness_places};
+ghost use Rattle.model.specs.Edition.{rows_place};
 ghost use Rattle.model.specs.Bytes.{tab, padded};
 ghost use Rattle.model.specs.Room.{over};
-ghost use Rattle.model.specs.Witness.{misformed, badRow, witnessCountAt, rowPlace, witnessAnswer, noWitness, witnessParts, readWitness, rowBytes, witnessBytes, writeWitness};
+ghost use Rattle.model.specs.Witness.{misformed, bad_row, witness_count_at, row_place, witness_answer, no_witness, witness_parts, read_witness, row_bytes, witness_bytes, write_witness};
 ghost use Rattle.wire.specs.Placed.{placed};
 ghost use Rattle.witness.specs.Rows.{row_of};
-ghost use Rattle.witnesses.specs.Columns.{columnAt, timeAt, rowAmong};
+ghost use Rattle.witnesses.specs.Columns.{column_at, time_at, row_among};
 
 use columns::{bytes_column, words_column};
 use editions::{count_place, most_rows, rows_place};
@@ -20,8 +20,8 @@ use witness::{Entry, count_at, in_place, no_row, row_bytes, witness_answer};
 
 // The byte of each row that stands at start in row 0.
 fn column(b: &[u8], start: u8, count: u32) -> [u8; WITNESS_PLACES]
-    requires { count ≤ witnessPlaces }
-    ensures { result ≡ padded witnessPlaces (tab (columnAt b.now start) count) }
+    requires { count ≤ witness_places }
+    ensures { result ≡ padded witness_places (tab (column_at b.now start) count) }
 {
     let mut column = [0u8; WITNESS_PLACES];
     bytes_column(b, start, 5, count, &mut column);
@@ -30,8 +30,8 @@ fn column(b: &[u8], start: u8, count: u32) -> [u8; WITNESS_PLACES]
 
 // The time of each row, which stands at start in row 0.
 fn time_column(b: &[u8], start: u8, count: u32) -> [u16; WITNESS_PLACES]
-    requires { count ≤ witnessPlaces }
-    ensures { result ≡ padded witnessPlaces (tab (timeAt b.now start) count) }
+    requires { count ≤ witness_places }
+    ensures { result ≡ padded witness_places (tab (time_at b.now start) count) }
 {
     let mut column = [0u16; WITNESS_PLACES];
     words_column(b, start, 5, count, &mut column);
@@ -39,8 +39,8 @@ fn time_column(b: &[u8], start: u8, count: u32) -> [u16; WITNESS_PLACES]
 }
 
 fn parts_at(edition: Edition, b: &[u8]) -> WitnessParts
-    requires { witnessCountAt edition b.now ≤ witnessPlaces }
-    ensures { result ≡ witnessParts edition b.now }
+    requires { witness_count_at edition b.now ≤ witness_places }
+    ensures { result ≡ witness_parts edition b.now }
 {
     let count = count_at(edition, b);
     let start = rows_place(edition) as u8;
@@ -58,7 +58,7 @@ fn parts_at(edition: Edition, b: &[u8]) -> WitnessParts
 }
 
 fn no_parts() -> WitnessParts
-    ensures { result ≡ noWitness }
+    ensures { result ≡ no_witness }
 {
     WitnessParts {
         count: 0,
@@ -70,8 +70,8 @@ fn no_parts() -> WitnessParts
 }
 
 pub fn read_witness(edition: Edition, b: &[u8]) -> WitnessReading
-    ensures value { result ≡ readWitness edition b.now }
-    ensures reads { Reads (witnessAnswer edition b.now) (witnessParts edition b.now) noWitness result.answer result.parts }
+    ensures value { result ≡ read_witness edition b.now }
+    ensures reads { Reads (witness_answer edition b.now) (witness_parts edition b.now) no_witness result.answer result.parts }
 {
     let answer = witness_answer(edition, b);
     if sound(answer) {
@@ -89,7 +89,7 @@ fn row_among<'a>(
     transitions: &'a [u8],
     i: usize,
 ) -> Entry
-    ensures { row_of result ≡ rowAmong marks.now times.now kinds.now transitions.now i }
+    ensures { row_of result ≡ row_among marks.now times.now kinds.now transitions.now i }
 {
     Entry {
         mark: byte(marks, i),
@@ -108,7 +108,7 @@ fn columns_answer<'a>(
     transitions: &'a [u8],
     count: u32,
 ) -> Reading
-    ensures { result ≡ badRow (misformed edition none 0 (tab (rowAmong marks.now times.now kinds.now transitions.now) count)) }
+    ensures { result ≡ bad_row (misformed edition none 0 (tab (row_among marks.now times.now kinds.now transitions.now) count)) }
 {
     let mut before = no_row();
     let mut i = 0;
@@ -132,7 +132,7 @@ fn put_row<'a>(
     i: u32,
     out: &mut [u8],
 )
-    ensures { out.new ≡ placed (rowBytes (rowAmong marks.now times.now kinds.now transitions.now i)) (rowPlace edition i) out.old }
+    ensures { out.new ≡ placed (row_bytes (row_among marks.now times.now kinds.now transitions.now i)) (row_place edition i) out.old }
 {
     let row = row_bytes(row_among(marks, times, kinds, transitions, i as usize));
     place(&row, out, rows_place(edition) + 5 * i as usize);
@@ -147,8 +147,8 @@ fn encode<'a>(
     count: u32,
     out: &mut [u8],
 )
-    requires { rowsPlace edition + 5 * count ≤ length out.old }
-    ensures { out.new ≡ over (witnessBytes edition (tab (rowAmong marks.now times.now kinds.now transitions.now) count)) out.old }
+    requires { rows_place edition + 5 * count ≤ length out.old }
+    ensures { out.new ≡ over (witness_bytes edition (tab (row_among marks.now times.now kinds.now transitions.now) count)) out.old }
 {
     put_frame(edition, 5, count, out);
     let mut i = 0;
@@ -160,7 +160,7 @@ fn encode<'a>(
 
 // The rows are tested before the first byte is written: a refusal leaves the room as it was.
 pub fn write_witness(edition: Edition, w: WitnessParts, room: &mut [u8]) -> Writing
-    ensures { Writes (writeWitness edition w room.old) result room.new }
+    ensures { Writes (write_witness edition w room.old) result room.new }
 {
     let count = w.count;
     if most_rows(edition) < count {

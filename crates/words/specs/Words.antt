@@ -25,9 +25,9 @@ unfoldable pub below : ℕ → (ℕ → Bool) → ℕ → Bool
 below n p i = ltb i n && p i
 
 -- some number below n passes
-unfoldable pub anyBelow : (ℕ → Bool) → ℕ → Bool
-anyBelow p zero = false
-anyBelow p (suc n) = anyBelow p n || p n
+unfoldable pub any_below : (ℕ → Bool) → ℕ → Bool
+any_below p zero = false
+any_below p (suc n) = any_below p n || p n
 
 -- the numbers of a and of b, each from a place on
 unfoldable pub meet : List ℕ → ℕ → List ℕ → ℕ → ℕ → Bool

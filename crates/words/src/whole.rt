@@ -1,6 +1,6 @@
 // Whole sets. Words that one of two sets lacks count as 0: what both have is one loop with no test of a bound.
 ghost use Rattle.std.specs.Prelude.{◌≡◌, not, true, false, ◌&&◌, ◌+◌, ◌-◌, ◌*◌, ◌≤◌, length};
-ghost use Rattle.words.specs.Words.{mem, below, anyBelow, Is, Part};
+ghost use Rattle.words.specs.Words.{mem, below, any_below, Is, Part};
 
 use crate::{lesser, past};
 
@@ -73,7 +73,7 @@ pub fn complement(a: &mut [u64])
 // How far, from word k on and before word e, words are 0, by eights.
 fn empty_to(a: &[u64], k: usize, e: usize) -> usize
     requires { (k ≤ e) × (e ≤ length a.now) }
-    ensures { (k ≤ result) × (result ≤ e) × (anyBelow (λ i. mem a.now (64 * k + i)) (64 * (result - k)) ≡ false) }
+    ensures { (k ≤ result) × (result ≤ e) × (any_below (λ i. mem a.now (64 * k + i)) (64 * (result - k)) ≡ false) }
 {
     let mut j = k;
     while 8 <= e - j {
@@ -89,7 +89,7 @@ fn empty_to(a: &[u64], k: usize, e: usize) -> usize
 
 // Is any number in n words from word k on?
 pub fn any_words(a: &[u64], k: usize, n: usize) -> bool
-    ensures { result ≡ anyBelow (λ i. mem a.now (64 * k + i)) (64 * n) }
+    ensures { result ≡ any_below (λ i. mem a.now (64 * k + i)) (64 * n) }
 {
     let e = k + lesser(n, past(a.len(), k));
     if e <= k {
@@ -106,7 +106,7 @@ pub fn any_words(a: &[u64], k: usize, n: usize) -> bool
 }
 
 pub fn any(a: &[u64]) -> bool
-    ensures { result ≡ anyBelow (mem a.now) (64 * length a.now) }
+    ensures { result ≡ any_below (mem a.now) (64 * length a.now) }
 {
     any_words(a, 0, a.len())
 }

@@ -1,9 +1,9 @@
-use Rattle.account.proofs.Steps.{stepped-as, not-accounted, account-kept, account-removed, account-added, ready-row}
-use Rattle.model.specs.Rules.{noneBefore}
+use Rattle.account.proofs.Steps.{stepped_as, not_accounted, account-kept, account-removed, account-added, ready-row}
+use Rattle.model.specs.Rules.{none_before}
 use lib.Dec.{leb}
 use lib.ListN.{drop}
-use Rattle.model.specs.Recording.{packetsAt}
-use Rattle.row_tests.specs.Under.{ruledFrom}
+use Rattle.model.specs.Recording.{packets_at}
+use Rattle.row_tests.specs.Under.{ruled_from}
 use borrow.Author.Tests.{not-true, not-false, lt-leb}
 use mathlib.Core.Bool.{true, false}
 use mathlib.Core.Path.{refl, sym, ◌∙◌}
@@ -20,10 +20,10 @@ refused-requires c κs = search rules
 returns : tie.Need-returns
 returns c =
     let a = c.before.before.before.before.before.before.before.args in
-    let ps = packetsAt a.recording.now in
-    stepped-as ps (c.refused.ensures ps)
-    (not-accounted a.edition (ruledFrom a.rule a.table.now a.offsets.now) ps a.s a.e
-    false (noneBefore (drop a.s.next ps) a.e.time) (leb a.s.free a.e.time)
+    let ps = packets_at a.recording.now in
+    stepped_as ps (c.refused.ensures ps)
+    (not_accounted a.edition (ruled_from a.rule a.table.now a.offsets.now) ps a.s a.e
+    false (none_before (drop a.s.next ps) a.e.time) (leb a.s.free a.e.time)
     (sym c.before.before.in_place.ensures ∙ not-true _ c.before.if1.true) refl refl refl)
 
 none-before-requires : tie.Need-none-before-requires
@@ -35,9 +35,9 @@ refused-requires-2 c κs = search rules
 returns-2 : tie.Need-returns-2
 returns-2 c =
     let a = c.before.before.before.before.before.before.before.before.before.args in
-    let ps = packetsAt a.recording.now in
-    stepped-as ps (c.refused2.ensures ps)
-    (not-accounted a.edition (ruledFrom a.rule a.table.now a.offsets.now) ps a.s a.e
+    let ps = packets_at a.recording.now in
+    stepped_as ps (c.refused2.ensures ps)
+    (not_accounted a.edition (ruled_from a.rule a.table.now a.offsets.now) ps a.s a.e
     true false (leb a.s.free a.e.time)
     (sym c.before.before.before.before.in_place.ensures ∙ not-false _ c.before.before.before.if1.false)
     (sym c.before.before.none_before.ensures ∙ not-true _ c.before.if2.true) refl refl)
@@ -51,9 +51,9 @@ refused-requires-3 c κs = search rules
 returns-3 : tie.Need-returns-3
 returns-3 c =
     let a = c.before.before.before.before.before.before.before.before.before.before.before.before.args in
-    let ps = packetsAt a.recording.now in
-    stepped-as ps (c.refused3.ensures ps)
-    (not-accounted a.edition (ruledFrom a.rule a.table.now a.offsets.now) ps a.s a.e
+    let ps = packets_at a.recording.now in
+    stepped_as ps (c.refused3.ensures ps)
+    (not_accounted a.edition (ruled_from a.rule a.table.now a.offsets.now) ps a.s a.e
     true true false
     (sym c.before.before.before.before.before.before.before.in_place.ensures ∙ not-false _ c.before.before.before.before.before.before.if1.false)
     (sym c.before.before.before.before.before.none_before.ensures ∙ not-false _ c.before.before.before.before.if2.false)
@@ -67,9 +67,9 @@ keep-row-requires c κs =
 returns-4 : tie.Need-returns-4
 returns-4 c =
     let a = c.before.before.before.before.before.before.before.before.before.before.before.before.before.before.args in
-    let ps = packetsAt a.recording.now in
-    stepped-as ps c.keep_row.ensures
-    (account-kept a.edition (ruledFrom a.rule a.table.now a.offsets.now) ps a.s a.e
+    let ps = packets_at a.recording.now in
+    stepped_as ps c.keep_row.ensures
+    (account-kept a.edition (ruled_from a.rule a.table.now a.offsets.now) ps a.s a.e
     (sym c.before.before.before.before.before.before.before.before.before.in_place.ensures ∙ not-false _ c.before.before.before.before.before.before.before.before.if1.false)
     (sym c.before.before.before.before.before.before.before.none_before.ensures ∙ not-false _ c.before.before.before.before.before.before.if2.false)
     c.before.before.before.if3.false c.before.if4.true)
@@ -82,9 +82,9 @@ remove-row-requires c κs =
 returns-5 : tie.Need-returns-5
 returns-5 c =
     let a = c.before.before.before.before.before.before.before.before.before.before.before.before.before.before.before.before.args in
-    let ps = packetsAt a.recording.now in
-    stepped-as ps (c.remove-row.ensures a.rule)
-    (account-removed a.edition (ruledFrom a.rule a.table.now a.offsets.now) ps a.s a.e
+    let ps = packets_at a.recording.now in
+    stepped_as ps (c.remove-row.ensures a.rule)
+    (account-removed a.edition (ruled_from a.rule a.table.now a.offsets.now) ps a.s a.e
     (sym c.before.before.before.before.before.before.before.before.before.before.before.in_place.ensures ∙ not-false _ c.before.before.before.before.before.before.before.before.before.before.if1.false)
     (sym c.before.before.before.before.before.before.before.before.before.none_before.ensures ∙ not-false _ c.before.before.before.before.before.before.before.before.if2.false)
     c.before.before.before.before.before.if3.false c.before.if5.true)
@@ -97,9 +97,9 @@ add-row-requires c κs =
 returns-6 : tie.Need-returns-6
 returns-6 c =
     let a = c.before.before.before.before.before.before.before.before.before.before.before.before.before.before.before.before.args in
-    let ps = packetsAt a.recording.now in
-    stepped-as ps c.add_row.ensures
-    (account-added a.edition (ruledFrom a.rule a.table.now a.offsets.now) ps a.s a.e
+    let ps = packets_at a.recording.now in
+    stepped_as ps c.add_row.ensures
+    (account-added a.edition (ruled_from a.rule a.table.now a.offsets.now) ps a.s a.e
     (sym c.before.before.before.before.before.before.before.before.before.before.before.in_place.ensures ∙ not-false _ c.before.before.before.before.before.before.before.before.before.before.if1.false)
     (sym c.before.before.before.before.before.before.before.before.before.none_before.ensures ∙ not-false _ c.before.before.before.before.before.before.before.before.if2.false)
     c.before.before.before.before.before.if3.false c.before.before.before.if4.false c.before.if5.false)

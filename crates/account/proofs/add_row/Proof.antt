@@ -1,6 +1,6 @@
-use Rattle.account.proofs.Steps.{stepped-as, not-added, added-sent}
-use Rattle.model.specs.Recording.{packetsAt}
-use Rattle.row_tests.specs.Under.{ruledFrom}
+use Rattle.account.proofs.Steps.{stepped_as, not_added, added-sent}
+use Rattle.model.specs.Recording.{packets_at}
+use Rattle.row_tests.specs.Under.{ruled_from}
 use borrow.Author.Tests.{not-true, not-false}
 use mathlib.Core.Path.{sym, ◌∙◌}
 use borrow.Author.Rules.{rules}
@@ -15,16 +15,16 @@ refused-requires c κs = search rules
 
 returns : tie.Need-returns
 returns c = let a = c.before.before.before.before.before.before.args in
-    let ps = packetsAt a.recording.now in
-    stepped-as ps (c.refused.ensures ps) (not-added (ruledFrom a.rule a.table.now a.offsets.now) ps a.s a.e (sym c.before.before.none-at.ensures ∙ not-true _ c.before.if1.true))
+    let ps = packets_at a.recording.now in
+    stepped_as ps (c.refused.ensures ps) (not_added (ruled_from a.rule a.table.now a.offsets.now) ps a.s a.e (sym c.before.before.none_at_lem.ensures ∙ not-true _ c.before.if1.true))
 
 sent-requires : tie.Need-sent-requires
 sent-requires c κs = search rules
 
 returns-2 : tie.Need-returns-2
 returns-2 c = let a = c.before.before.before.before.before.before.args in
-    let ps = packetsAt a.recording.now in
-    stepped-as ps (c.sent.ensures ps) (added-sent (ruledFrom a.rule a.table.now a.offsets.now) ps a.s a.e (sym c.before.before.none-at.ensures ∙ not-false _ c.before.if1.false))
+    let ps = packets_at a.recording.now in
+    stepped_as ps (c.sent.ensures ps) (added-sent (ruled_from a.rule a.table.now a.offsets.now) ps a.s a.e (sym c.before.before.none_at_lem.ensures ∙ not-false _ c.before.if1.false))
 
 pub add-row-spec : {M : Type 1} → statement M
 add-row-spec =

@@ -2,18 +2,18 @@ use Prim.Native.Nat.{◌-◌}
 use native.Mathlib.Omega.{arith}
 use mathlib.Core.Path.{◌≡◌}
 use borrow.Author.Tests.{not-true, not-false}
-use Rattle.model.specs.Recording.{packetsAt}
-use Rattle.model.specs.Witness.{witnessCountAt}
-use Rattle.row_tests.specs.Under.{ruledFrom}
+use Rattle.model.specs.Recording.{packets_at}
+use Rattle.model.specs.Witness.{witness_count_at}
+use Rattle.row_tests.specs.Under.{ruled_from}
 use Rattle.account.specs.Standing.{Bounded}
-use Rattle.account.proofs.Pass.{Ahead, ahead-first, ahead_more, ahead-broken, ahead-left, ahead-done}
+use Rattle.account.proofs.Pass.{Ahead, ahead_first, ahead_more, ahead_broken, ahead_left, ahead_done}
 use borrow.Author.Rules.{rules}
 use Rattle.account.proofs.check_rows.Statement.{statement}
 use Rattle.account.proofs.check_rows.Tie as tie
 
 abbrev invariant-loop : tie.invariant-loop
 invariant-loop rule edition table offsets recording witness count s₀ changed₀ i₀ s changed i =
-    (count ≡ witnessCountAt edition witness) × Bounded s × Ahead edition (ruledFrom rule table offsets) recording witness s changed i
+    (count ≡ witness_count_at edition witness) × Bounded s × Ahead edition (ruled_from rule table offsets) recording witness s changed i
 
 abbrev decreases-loop : tie.decreases-loop
 decreases-loop rule edition table offsets recording witness count s₀ changed₀ i₀ s changed i = count - i
@@ -26,8 +26,8 @@ begun-requires c κs = search rules
 
 loop-holds : tie.Need-loop-init invariant-loop decreases-loop
 loop-holds c = let a = c.before.before.before.before.before.before.args in
-    let m = ruledFrom a.rule a.table.now a.offsets.now in
-    (c.before.count_at.ensures.0, c.begun.ensures.0, ahead-first a.edition m a.recording.now a.witness.now c.begun.result (c.begun.ensures.1 (packetsAt a.recording.now)))
+    let m = ruled_from a.rule a.table.now a.offsets.now in
+    (c.before.count_at.ensures.0, c.begun.ensures.0, ahead_first a.edition m a.recording.now a.witness.now c.begun.result (c.begun.ensures.1 (packets_at a.recording.now)))
 
 row-at-requires : tie.Need-row-at-requires invariant-loop decreases-loop
 row-at-requires c κs = search rules
@@ -40,9 +40,9 @@ cast-t14 c = search rules
 
 returns : tie.Need-returns invariant-loop decreases-loop
 returns c = let a = c.before.before.before.before.before.before.before.before.before.before.before.before.args in
-    let m = ruledFrom a.rule a.table.now a.offsets.now in
+    let m = ruled_from a.rule a.table.now a.offsets.now in
     let l = c.before.before.before.before.before.loop in
-    ahead-broken a.edition m a.recording.now a.witness.now l.s l.changed l.i l.invariant.2 c.before.before.before.row_at.result c.before.before.accounted.result
+    ahead_broken a.edition m a.recording.now a.witness.now l.s l.changed l.i l.invariant.2 c.before.before.before.row_at.result c.before.before.accounted.result
     (omega (arith, l.invariant.0, c.before.before.before.before.loop-test.true)) c.before.before.before.row_at.ensures c.before.before.accounted.ensures (not-true _ c.if1.true)
 
 change-by-requires : tie.Need-change-by-requires invariant-loop decreases-loop
@@ -60,7 +60,7 @@ loop-less c = search rules
 
 loop-again : tie.Need-loop-preserved invariant-loop decreases-loop
 loop-again c = let a = c.before.before.before.before.before.before.before.before.before.before.before.before.before.before.args in
-    let m = ruledFrom a.rule a.table.now a.offsets.now in
+    let m = ruled_from a.rule a.table.now a.offsets.now in
     let l = c.before.before.before.before.before.before.before.loop in
     let g = c.before.before.before.before.accounted.ensures in
     let t = not-false _ c.before.before.if1.false in (
@@ -77,18 +77,18 @@ cast-t19 c = search rules
 
 returns-2 : tie.Need-returns-2 invariant-loop decreases-loop
 returns-2 c = let a = c.before.before.before.before.before.before.before.before.before.before.before.args in
-    let m = ruledFrom a.rule a.table.now a.offsets.now in
+    let m = ruled_from a.rule a.table.now a.offsets.now in
     let l = c.before.before.before.before.loop in
-    ahead-left a.edition m a.recording.now a.witness.now l.s l.changed l.i l.invariant.2 (omega (arith, l.invariant.0, c.before.before.before.loop-test.false)) (omega (arith, c.before.before.word.ensures.0, c.if2.true))
+    ahead_left a.edition m a.recording.now a.witness.now l.s l.changed l.i l.invariant.2 (omega (arith, l.invariant.0, c.before.before.before.loop-test.false)) (omega (arith, c.before.before.word.ensures.0, c.if2.true))
 
 cast-t21 : tie.Need-overflow-cast-t21 invariant-loop decreases-loop
 cast-t21 c = search rules
 
 returns-3 : tie.Need-returns-3 invariant-loop decreases-loop
 returns-3 c = let a = c.before.before.before.before.before.before.before.before.before.before.before.args in
-    let m = ruledFrom a.rule a.table.now a.offsets.now in
+    let m = ruled_from a.rule a.table.now a.offsets.now in
     let l = c.before.before.before.before.loop in
-    ahead-done a.edition m a.recording.now a.witness.now l.s l.changed l.i l.invariant.2 (omega (arith, l.invariant.0, c.before.before.before.loop-test.false)) (omega (arith, c.before.before.word.ensures.0, c.if2.false))
+    ahead_done a.edition m a.recording.now a.witness.now l.s l.changed l.i l.invariant.2 (omega (arith, l.invariant.0, c.before.before.before.loop-test.false)) (omega (arith, c.before.before.word.ensures.0, c.if2.false))
 
 pub check-rows-spec : {M : Type 1} → statement M
 check-rows-spec =

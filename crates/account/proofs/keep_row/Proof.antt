@@ -1,6 +1,6 @@
-use Rattle.account.proofs.Steps.{stepped-as, not-next-kept, kept-sent}
-use Rattle.model.specs.Recording.{packetsAt}
-use Rattle.row_tests.specs.Under.{ruledFrom}
+use Rattle.account.proofs.Steps.{stepped_as, not_next_kept, kept-sent}
+use Rattle.model.specs.Recording.{packets_at}
+use Rattle.row_tests.specs.Under.{ruled_from}
 use borrow.Author.Tests.{not-true, not-false}
 use mathlib.Core.Path.{sym, ◌∙◌}
 use native.Mathlib.Omega.{arith}
@@ -16,8 +16,8 @@ refused-requires c κs = search rules
 
 returns : tie.Need-returns
 returns c = let a = c.before.before.before.before.before.before.args in
-    let ps = packetsAt a.recording.now in
-    stepped-as ps (c.refused.ensures ps) (not-next-kept (ruledFrom a.rule a.table.now a.offsets.now) ps a.s a.e (sym c.before.before.is-next.ensures.0 ∙ not-true _ c.before.if1.true))
+    let ps = packets_at a.recording.now in
+    stepped_as ps (c.refused.ensures ps) (not_next_kept (ruled_from a.rule a.table.now a.offsets.now) ps a.s a.e (sym c.before.before.is-next.ensures.0 ∙ not-true _ c.before.if1.true))
 
 add-sent : tie.Need-overflow-add-sent
 add-sent c = omega (arith, c.before.is-next.ensures.1 (not-false _ c.if1.false))
@@ -27,8 +27,8 @@ sent-requires c κs = search rules
 
 returns-2 : tie.Need-returns-2
 returns-2 c = let a = c.before.before.before.before.before.before.args in
-    let ps = packetsAt a.recording.now in
-    stepped-as ps (c.sent.ensures ps) (kept-sent (ruledFrom a.rule a.table.now a.offsets.now) ps a.s a.e (sym c.before.before.is-next.ensures.0 ∙ not-false _ c.before.if1.false))
+    let ps = packets_at a.recording.now in
+    stepped_as ps (c.sent.ensures ps) (kept-sent (ruled_from a.rule a.table.now a.offsets.now) ps a.s a.e (sym c.before.before.is-next.ensures.0 ∙ not-false _ c.before.if1.false))
 
 pub keep-row-spec : {M : Type 1} → statement M
 keep-row-spec =

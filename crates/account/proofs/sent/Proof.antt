@@ -1,9 +1,9 @@
 use mathlib.Core.Path.{sym, ◌∙◌}
 use borrow.Author.Rules.{rules}
 use borrow.Author.Tests.{not-true, not-false}
-use Rattle.monitor.specs.From.{monitorFrom}
+use Rattle.monitor.specs.From.{monitor_from}
 use Rattle.rule.specs.Within.{within}
-use Rattle.account.proofs.Steps.{stepped-as, sent-forbidden, sent-unfired, sent-fired}
+use Rattle.account.proofs.Steps.{stepped_as, sent_forbidden, sent_unfired, sent-fired}
 use Rattle.account.proofs.sent.Statement.{statement}
 use Rattle.account.proofs.sent.Tie as tie
 
@@ -22,8 +22,8 @@ returns c =
     let asked = rule.before in
     let a = asked.before.before.before.args in
     λ ps.
-    stepped-as ps (c.refused.ensures ps)
-    (sent-forbidden (within a.rule) (monitorFrom a.table.now a.offsets.now) ps a.s a.e a.next asked.is-guess.result (asked.is-guess.ensures a.offsets.now)
+    stepped_as ps (c.refused.ensures ps)
+    (sent_forbidden (within a.rule) (monitor_from a.table.now a.offsets.now) ps a.s a.e a.next asked.is-guess.result (asked.is-guess.ensures a.offsets.now)
     (sym rule.allows.ensures ∙ not-true _ c.before.if1.true))
 
 sub-waited : tie.Need-overflow-sub-waited
@@ -49,8 +49,8 @@ returns-2 c =
     let asked = allowed.before.before in
     let a = asked.before.before.before.args in
     λ ps.
-    stepped-as ps (c.refused2.ensures ps)
-    (sent-unfired (within a.rule) (monitorFrom a.table.now a.offsets.now) ps a.s a.e a.next asked.is-guess.result (asked.is-guess.ensures a.offsets.now)
+    stepped_as ps (c.refused2.ensures ps)
+    (sent_unfired (within a.rule) (monitor_from a.table.now a.offsets.now) ps a.s a.e a.next asked.is-guess.result (asked.is-guess.ensures a.offsets.now)
     (sym allowed.before.allows.ensures ∙ not-false _ allowed.if1.false)
     waits.waited.result waits.waited.ensures fired.fire.result fired.fire.ensures
     (not-true _ c.before.if2.true))
@@ -71,7 +71,7 @@ returns-3 c =
     let start = asked.before.before.before in
     let a = start.args in
     λ ps.
-    sent-fired (within a.rule) (monitorFrom a.table.now a.offsets.now) ps a.s a.e a.next asked.is-guess.result (asked.is-guess.ensures a.offsets.now)
+    sent-fired (within a.rule) (monitor_from a.table.now a.offsets.now) ps a.s a.e a.next asked.is-guess.result (asked.is-guess.ensures a.offsets.now)
     (sym allowed.before.allows.ensures ∙ not-false _ allowed.if1.false)
     waits.waited.result waits.waited.ensures fired.fire.result fired.fire.ensures
     c.before.free-after.result c.window-behind.result start.requires (not-false _ fires.if2.false)

@@ -1,4 +1,4 @@
-use Rattle.account.proofs.Places.{wait-two}
+use Rattle.account.proofs.Places.{wait_two}
 use borrow.Author.Rules.{rules}
 use Rattle.account.proofs.waited.Statement.{statement}
 use Rattle.account.proofs.waited.Tie as tie
@@ -16,7 +16,7 @@ add-t11 : tie.Need-overflow-add-t11
 add-t11 c = search rules
 
 returns : tie.Need-returns
-returns c = wait-two c.before.args.c c.before.args.ticks c.before.requires.0
+returns c = wait_two c.before.args.c c.before.args.ticks c.before.requires.0
 
 pub waited-spec : {M : Type 1} → statement M
 waited-spec = tie.close (tie.spec array-read-t6 add-t7 array-read-t10 add-t11 returns)

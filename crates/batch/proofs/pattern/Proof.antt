@@ -7,13 +7,13 @@ use mathlib.Core.List.{List, ◌++◌, append-nil}
 use lib.ListN.{length, drop, set, length-set}
 use lib.Seq.{drop-length}
 use Rattle.model.specs.Bytes.{tab}
-use Rattle.columns.proofs.Columns.{column-more}
-use Rattle.batch.specs.Batch.{patternAt}
+use Rattle.columns.proofs.Columns.{column_more}
+use Rattle.batch.specs.Batch.{pattern_at}
 use Rattle.batch.proofs.pattern.Statement.{statement}
 use Rattle.batch.proofs.pattern.Tie as tie
 
 abbrev invariant-loop : tie.invariant-loop
-invariant-loop bytes₀ next₀ i₀ bytes next i = (i ≤ length bytes₀) × (next ≡ (7 * i + 1) % 256) × (bytes ≡ tab patternAt i ++ drop i bytes₀) × (length bytes ≡ length bytes₀)
+invariant-loop bytes₀ next₀ i₀ bytes next i = (i ≤ length bytes₀) × (next ≡ (7 * i + 1) % 256) × (bytes ≡ tab pattern_at i ++ drop i bytes₀) × (length bytes ≡ length bytes₀)
 
 abbrev decreases-loop : tie.decreases-loop
 decreases-loop bytes₀ next₀ i₀ bytes next i = length bytes₀ - i
@@ -38,7 +38,7 @@ loop-less : tie.Need-loop-smaller invariant-loop decreases-loop
 loop-less c = search rules
 
 loop-again : tie.Need-loop-preserved invariant-loop decreases-loop
-unfolding patternAt
+unfolding pattern_at
 loop-again c =
     let at-loop = c.before in
     let i = at-loop.loop.i in
@@ -47,8 +47,8 @@ loop-again c =
       omega arith,
       omega arith,
       ap (λ (l : List ℕ). set l i at-loop.loop.next) at-loop.loop.invariant.2
-          ∙ ap (λ (n : ℕ). set (tab patternAt i ++ drop i bytes) i n) at-loop.loop.invariant.1
-          ∙ column-more patternAt bytes i within,
+          ∙ ap (λ (n : ℕ). set (tab pattern_at i ++ drop i bytes) i n) at-loop.loop.invariant.1
+          ∙ column_more pattern_at bytes i within,
       length-set at-loop.loop.bytes i at-loop.loop.next ∙ at-loop.loop.invariant.3,
     )
 
@@ -61,9 +61,9 @@ returns c =
     let bytes = at-loop.before.args.bytes.now in
     let done : at-loop.loop.i ≡ length bytes = omega arith in
     at-loop.loop.invariant.2
-    ∙ ap (λ (n : ℕ). tab patternAt n ++ drop n bytes) done
-    ∙ ap (λ (l : List ℕ). tab patternAt (length bytes) ++ l) (drop-length bytes)
-    ∙ append-nil (tab patternAt (length bytes))
+    ∙ ap (λ (n : ℕ). tab pattern_at n ++ drop n bytes) done
+    ∙ ap (λ (l : List ℕ). tab pattern_at (length bytes) ++ l) (drop-length bytes)
+    ∙ append-nil (tab pattern_at (length bytes))
 
 pub pattern-spec : {M : Type 1} → statement M
 pattern-spec =

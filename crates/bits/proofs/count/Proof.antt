@@ -2,7 +2,7 @@
 use Rattle.std.proofs.Common.{◌≡◌, ℕ, ◌-◌, ◌*◌, ◌/◌, ◌%◌, ◌^◌, ◌≤◌, length, ap, arith, rules}
 use Rattle.bits.specs.Member.{mem}
 use Rattle.bits.specs.Counting.{tally}
-use Rattle.bits.proofs.Words.{tally-word, counted}
+use Rattle.bits.proofs.Words.{tally_word, counted}
 use Rattle.bits.proofs.count.Statement.{statement}
 use Rattle.bits.proofs.count.Tie as tie
 
@@ -32,7 +32,7 @@ loop-again : tie.Need-loop-preserved invariant-loop decreases-loop
 loop-again c =
     let at-loop = c.before.before.before in
     let s = at-loop.before.before.args.s.now in
-    (omega arith, omega (arith, c.wrapping-add-u64.ensures, c.before.count_word.ensures, tally-word s at-loop.loop.k))
+    (omega arith, omega (arith, c.wrapping-add-u64.ensures, c.before.count_word.ensures, tally_word s at-loop.loop.k))
 
 count-word-requires-2 : tie.Need-count-word-requires-2 invariant-loop decreases-loop
 count-word-requires-2 c κs = search rules
@@ -47,7 +47,7 @@ returns c =
     let last = length s / 8 in
     let done : at-loop.loop.k ≡ last = omega arith in
     counted s c.wrapping-add-u642.result
-    (omega (arith, c.wrapping-add-u642.ensures, c.before.count-word2.ensures, at-loop.loop.invariant.1, ap (λ (k : ℕ). tally (mem s) (64 * k)) done, tally-word s last))
+    (omega (arith, c.wrapping-add-u642.ensures, c.before.count-word2.ensures, at-loop.loop.invariant.1, ap (λ (k : ℕ). tally (mem s) (64 * k)) done, tally_word s last))
 
 pub count_spec : {M : Type 1} → statement M
 count_spec =

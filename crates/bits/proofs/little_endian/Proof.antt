@@ -1,14 +1,14 @@
 -- `bits::little_endian` meets its contract: x is the number of the bytes from i on. Assumes nothing.
 use Rattle.std.proofs.Common.{◌≡◌, ℕ, ◌-◌, ◌^◌, ◌<◌, ◌≤◌, length, get_or, drop, ap, ◌∙◌, arith, rules}
-use Rattle.bits.specs.LittleEndian.{littleEndian}
-use Rattle.bits.proofs.LittleEndian.{none_read, read_below, one-more-read}
+use Rattle.bits.specs.LittleEndian.{little_endian}
+use Rattle.bits.proofs.LittleEndian.{none_read, read_below, one_more_read}
 use Rattle.bits.proofs.little_endian.Statement.{statement}
 use Rattle.bits.proofs.little_endian.Tie as tie
 use Rattle.bits.proofs.little_endian.Reads as reads
 use Rattle.bits.proofs.little_endian.Lts as lts
 
 abbrev invariant-loop : tie.invariant-loop
-invariant-loop b x₀ i₀ x i = (i ≤ length b) × (x ≡ littleEndian (drop i b))
+invariant-loop b x₀ i₀ x i = (i ≤ length b) × (x ≡ little_endian (drop i b))
 
 abbrev decreases-loop : tie.decreases-loop
 decreases-loop b x₀ i₀ x i = i
@@ -47,13 +47,13 @@ loop-less c = search rules
 loop-again : tie.Need-loop-preserved invariant-loop decreases-loop
 loop-again c =
     let at-loop = c.before.before in
-    (omega arith, one-more-read at-loop.before.args.b.now at-loop.loop.i at-loop.loop.x (omega arith) (omega arith) at-loop.loop.invariant.1)
+    (omega arith, one_more_read at-loop.before.args.b.now at-loop.loop.i at-loop.loop.x (omega arith) (omega arith) at-loop.loop.invariant.1)
 
 returns : tie.Need-returns invariant-loop decreases-loop
 returns c =
     let at-loop = c.before in
     let done : at-loop.loop.i ≡ 0 = omega arith in
-    at-loop.loop.invariant.1 ∙ ap (λ (i : ℕ). littleEndian (drop i at-loop.before.args.b.now)) done
+    at-loop.loop.invariant.1 ∙ ap (λ (i : ℕ). little_endian (drop i at-loop.before.args.b.now)) done
 
 pub little-endian-spec : {M : Type 1} → statement M
 little-endian-spec =

@@ -1,11 +1,11 @@
 -- `bits::word` meets its contract: the bytes are eight, or those that are left. Assumes nothing.
 use Rattle.std.proofs.Common.{◌+◌, ◌-◌, ◌*◌, length, arith, rules}
-use Rattle.bits.proofs.Words.{word_of, word-past}
+use Rattle.bits.proofs.Words.{word_of, word_past}
 use Rattle.bits.proofs.word.Statement.{statement}
 use Rattle.bits.proofs.word.Tie as tie
 
 returns : tie.Need-returns
-returns c = word-past c.before.before.args.s.now c.before.before.args.k (omega arith)
+returns c = word_past c.before.before.args.s.now c.before.before.args.k (omega arith)
 
 mul-from : tie.Need-overflow-mul-from
 mul-from c = search rules

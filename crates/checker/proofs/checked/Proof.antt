@@ -2,11 +2,11 @@ use Prim.Native.Nat.{ℕ}
 use mathlib.Core.List.{List}
 use mathlib.Core.Path.{◌≡◌, sym, ap, ◌∙◌}
 use borrow.Author.Rules.{rules}
-use Rattle.model.specs.Recording.{packetsAt}
+use Rattle.model.specs.Recording.{packets_at}
 use Rattle.model.specs.Witness.{rows_at}
 use Rattle.model.specs.declared.Reading.TheVariants.{Unsound}
-use Rattle.row_tests.specs.Under.{ruledFrom}
-use Rattle.account.specs.Standing.{checkedRows}
+use Rattle.row_tests.specs.Under.{ruled_from}
+use Rattle.account.specs.Standing.{checked_rows}
 use Rattle.checker.proofs.Answers.{answer-read, answer-framed, answer-checked}
 use Rattle.checker.proofs.checked.Statement.{statement}
 use Rattle.checker.proofs.checked.Tie as tie
@@ -64,7 +64,7 @@ returns-3 c =
     let read = sound.before.before in
     let a = read.before.before.before.before.args in
     c.check-rows.ensures
-    ∙ ap (λ (l : List ℕ). checkedRows a.edition (ruledFrom a.rule a.table.now l) (packetsAt a.recording.now) (rows_at a.edition a.witness.now)) starts.offsets.ensures
+    ∙ ap (λ (l : List ℕ). checked_rows a.edition (ruled_from a.rule a.table.now l) (packets_at a.recording.now) (rows_at a.edition a.witness.now)) starts.offsets.ensures
     ∙ answer-checked a.rule a.edition a.table.now a.recording.now a.witness.now (sym read.read_under.ensures.0 ∙ sound.enum_told.given.1)
     (sym framed.witness-frame.ensures ∙ fits.enum-told2.given.1)
 

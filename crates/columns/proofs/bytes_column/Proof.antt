@@ -5,7 +5,7 @@ use mathlib.Core.Path.{◌≡◌, refl, ap, ◌∙◌}
 use mathlib.Core.List.{List, ◌++◌}
 use Rattle.model.specs.Bytes.{byte_at, tab}
 use Rattle.columns.specs.Filled.{filled}
-use Rattle.columns.proofs.Columns.{column-more, step-bound}
+use Rattle.columns.proofs.Columns.{column_more, step_bound}
 use borrow.Author.Rules.{rules}
 use Rattle.columns.proofs.bytes_column.Statement.{statement}
 use Rattle.columns.proofs.bytes_column.Tie as tie
@@ -24,10 +24,10 @@ unfolding tab
 loop-holds c = (omega arith, search rules, refl, refl)
 
 mul-byte : tie.Need-overflow-mul-byte invariant-loop decreases-loop
-mul-byte c = omega (arith, step-bound c.before.before.before.before.before.args.step c.before.loop.i (omega arith) (omega arith))
+mul-byte c = omega (arith, step_bound c.before.before.before.before.before.args.step c.before.loop.i (omega arith) (omega arith))
 
 add-byte : tie.Need-overflow-add-byte invariant-loop decreases-loop
-add-byte c = omega (arith, step-bound c.before.before.before.before.before.args.step c.before.loop.i (omega arith) (omega arith))
+add-byte c = omega (arith, step_bound c.before.before.before.before.before.args.step c.before.loop.i (omega arith) (omega arith))
 
 byte-requires : tie.Need-byte-requires invariant-loop decreases-loop
 byte-requires c κs = search rules
@@ -48,7 +48,7 @@ loop-again c = let a = c.before.before.before.before.before.before.args in
       c.before.before.loop.invariant.1,
       simp length-set c.before.before.loop.invariant.2,
       ap (λ (l : List ℕ). set l i c.byte.result) c.before.before.loop.invariant.3
-          ∙ rw c.byte.ensures.0 (column-more (λ k. byte_at a.b.now (a.from + a.step * k)) a.column.now i (omega arith)),
+          ∙ rw c.byte.ensures.0 (column_more (λ k. byte_at a.b.now (a.from + a.step * k)) a.column.now i (omega arith)),
     )
 
 same_length : tie.Need-same-length invariant-loop decreases-loop

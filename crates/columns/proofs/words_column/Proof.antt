@@ -5,7 +5,7 @@ use mathlib.Core.Path.{◌≡◌, refl, ap, ◌∙◌}
 use mathlib.Core.List.{List, ◌++◌}
 use Rattle.model.specs.Bytes.{word_at, tab}
 use Rattle.columns.specs.Filled.{filled}
-use Rattle.columns.proofs.Columns.{column-more, step-bound}
+use Rattle.columns.proofs.Columns.{column_more, step_bound}
 use borrow.Author.Rules.{rules}
 use Rattle.columns.proofs.words_column.Statement.{statement}
 use Rattle.columns.proofs.words_column.Tie as tie
@@ -24,10 +24,10 @@ unfolding tab
 loop-holds c = (omega arith, search rules, refl, refl)
 
 mul-word : tie.Need-overflow-mul-word invariant-loop decreases-loop
-mul-word c = omega (arith, step-bound c.before.before.before.before.before.args.step c.before.loop.i (omega arith) (omega arith))
+mul-word c = omega (arith, step_bound c.before.before.before.before.before.args.step c.before.loop.i (omega arith) (omega arith))
 
 add-word : tie.Need-overflow-add-word invariant-loop decreases-loop
-add-word c = omega (arith, step-bound c.before.before.before.before.before.args.step c.before.loop.i (omega arith) (omega arith))
+add-word c = omega (arith, step_bound c.before.before.before.before.before.args.step c.before.loop.i (omega arith) (omega arith))
 
 word-requires : tie.Need-word-requires invariant-loop decreases-loop
 word-requires c κs = search rules
@@ -51,7 +51,7 @@ loop-again c = let a = c.before.before.before.before.before.before.args in
       c.before.before.loop.invariant.1,
       simp length-set c.before.before.loop.invariant.2,
       ap (λ (l : List ℕ). set l i c.word.result) c.before.before.loop.invariant.3
-          ∙ rw c.word.ensures.0 (column-more (λ k. word_at a.b.now (a.from + a.step * k)) a.column.now i (omega arith)),
+          ∙ rw c.word.ensures.0 (column_more (λ k. word_at a.b.now (a.from + a.step * k)) a.column.now i (omega arith)),
     )
 
 same_length : tie.Need-same-length invariant-loop decreases-loop

@@ -2,7 +2,7 @@ use Prim.Native.Nat.{ℕ}
 use mathlib.Core.Path.{sym}
 use lib.ListN.{length-replicate}
 use borrow.Author.Rules.{rules}
-use Rattle.desk.proofs.Own.{own-lines}
+use Rattle.desk.proofs.Own.{own_lines}
 use Rattle.desk.proofs.answer.Statement.{statement}
 use Rattle.desk.proofs.answer.Tie as tie
 
@@ -20,7 +20,7 @@ same_length : tie.Need-same-length
 same_length c = search rules
 
 returns : tie.Need-returns
-returns c = own-lines _ _ _ _ _ _ _ _ (length-replicate {A = ℕ} 65536 0) (length-replicate {A = ℕ} 23045 0) c.before.before.before.before.lines.ensures
+returns c = own_lines _ _ _ _ _ _ _ _ (length-replicate {A = ℕ} 65536 0) (length-replicate {A = ℕ} 23045 0) c.before.before.before.before.lines.ensures
 
 pub answer-spec : {M : Type 1} → statement M
 answer-spec =

@@ -4,14 +4,14 @@ use native.Mathlib.Omega.{arith}
 use mathlib.Core.Path.{◌≡◌, sym, ◌∙◌}
 use lib.ListN.{length}
 use borrow.Author.Rules.{rules}
-use Rattle.model.specs.Edition.{latestTime}
-use Rattle.model.specs.Recording.{packetsAt, end_of}
-use Rattle.model.specs.Ruled.{monitorUnder, ruledAnswer, SoundUnder}
+use Rattle.model.specs.Edition.{latest_time}
+use Rattle.model.specs.Recording.{packets_at, end_of}
+use Rattle.model.specs.Ruled.{monitor_under, ruled_answer, SoundUnder}
 use Rattle.model.specs.Table.{table_parts}
-use Rattle.model.specs.Validation.{scratchWanted, roomWanted, refusalOf}
+use Rattle.model.specs.Validation.{scratch_wanted, room_wanted, refusal_of}
 use Rattle.model.specs.declared.Reading.{Reading}
 use Rattle.measures.proofs.Rows.{product}
-use Rattle.engine.proofs.ValidateLaws.{unread, scratch-is, room-is, refused, by-lent, lent-enough, row-few, judging, judged-part}
+use Rattle.engine.proofs.ValidateLaws.{unread, scratch-is, room-is, refused, by_lent, lent_enough, row-few, judging, judged_part}
 use Rattle.engine.proofs.judged.Statement.{statement}
 use Rattle.engine.proofs.judged.Tie as tie
 
@@ -27,7 +27,7 @@ parts c = c.before.before.read_under.ensures.1 c.enum_told.given.1
 
 wanted : (c : tie.After-measure)
     → let a = c.before.before.before.before.before.before.before.before.before.args in
-    let g = c.measure.result in g.row * (g.last + 1) ≡ scratchWanted (monitorUnder a.rule a.table.now) (packetsAt a.recording.now)
+    let g = c.measure.result in g.row * (g.last + 1) ≡ scratch_wanted (monitor_under a.rule a.table.now) (packets_at a.recording.now)
 wanted c =
     let a = c.before.before.before.before.before.before.before.before.before.args in
     let told = c.before.before in
@@ -36,7 +36,7 @@ wanted c =
 roomy : (c : tie.After-word)
     → let measured = c.before.before.before.before in
     let a = measured.before.before.before.before.before.before.before.before.before.args in
-    c.before.rows-place.result + 5 * (measured.measure.result.last + c.word.result) ≡ roomWanted a.edition (packetsAt a.recording.now)
+    c.before.rows-place.result + 5 * (measured.measure.result.last + c.word.result) ≡ room_wanted a.edition (packets_at a.recording.now)
 roomy c =
     let measured = c.before.before.before.before in
     room-is measured.before.before.before.before.before.before.before.before.before.args.edition _ _ _ _ c.before.rows-place.ensures.0 measured.measure.ensures.last c.word.ensures.0
@@ -44,13 +44,13 @@ roomy c =
 -- what is lent decides
 lent : (c : tie.After-lent-answer)
     → let a = c.before.before.before.before.before.before.before.before.before.before.before.before.before.before.before.args in
-    refusalOf (ruledAnswer a.rule a.table.now a.recording.now) a.edition (monitorUnder a.rule a.table.now) (packetsAt a.recording.now) (length a.scratch.now) (length a.room.now)
+    refusal_of (ruled_answer a.rule a.table.now a.recording.now) a.edition (monitor_under a.rule a.table.now) (packets_at a.recording.now) (length a.scratch.now) (length a.room.now)
     ≡ c.lent-answer.result
 lent c =
     let a = c.before.before.before.before.before.before.before.before.before.before.before.before.before.before.before.args in
     let read = c.before.before in
     let measured = read.before.before.before.before in
-    by-lent _ a.edition (monitorUnder a.rule a.table.now) a.recording.now a.scratch.now a.room.now (sound measured.before.before) _ _ _ measured.measure.ensures.last (wanted measured) (roomy read) _ c.lent-answer.ensures
+    by_lent _ a.edition (monitor_under a.rule a.table.now) a.recording.now a.scratch.now a.room.now (sound measured.before.before) _ _ _ measured.measure.ensures.last (wanted measured) (roomy read) _ c.lent-answer.ensures
 
 -- where nothing is refused, what is lent is enough
 enough : (c : tie.After-enum-told2)
@@ -58,13 +58,13 @@ enough : (c : tie.After-enum-told2)
     let g = measured.measure.result in
     let a = measured.before.before.before.before.before.before.before.before.before.args in
     (g.row * (g.last + 1) ≤ length a.scratch.now)
-    × (end_of (packetsAt a.recording.now) ≤ latestTime a.edition)
+    × (end_of (packets_at a.recording.now) ≤ latest_time a.edition)
     × (c.before.before.before.before.before.rows-place.result + 5 * (g.last + c.before.before.before.before.word.result) ≤ length a.room.now)
 enough c =
     let read = c.before.before.before.before in
     let measured = read.before.before.before.before in
     let a = measured.before.before.before.before.before.before.before.before.before.args in
-    lent-enough _ a.edition (monitorUnder a.rule a.table.now) a.recording.now a.scratch.now a.room.now (sound measured.before.before) _ _ _ measured.measure.ensures.last (wanted measured) (roomy read) _ c.before.before.lent-answer.ensures c.enum-told2.given.1
+    lent_enough _ a.edition (monitor_under a.rule a.table.now) a.recording.now a.scratch.now a.room.now (sound measured.before.before) _ _ _ measured.measure.ensures.last (wanted measured) (roomy read) _ c.before.before.lent-answer.ensures c.enum-told2.given.1
 
 read-under-requires : tie.Need-read-under-requires
 read-under-requires c κs = search rules
@@ -151,7 +151,7 @@ returns-3 c =
     let measured = told.before.before.before.before.before.before.before.before in
     let read = measured.before.before in
     let a = measured.before.before.before.before.before.before.before.before.before.args in
-    judged-part a.rule a.table.now a.recording.now (sound read) _ (parts read) _ measured.measure.ensures _ _ _ _ (lent told.before.before ∙ told.enum-told2.given.1) (enough told).0 (enough told).1 _ _ _ c.before.before.before.before.judge.ensures
+    judged_part a.rule a.table.now a.recording.now (sound read) _ (parts read) _ measured.measure.ensures _ _ _ _ (lent told.before.before ∙ told.enum-told2.given.1) (enough told).0 (enough told).1 _ _ _ c.before.before.before.before.judge.ensures
 
 pub judged-spec : {M : Type 1} → statement M
 judged-spec =

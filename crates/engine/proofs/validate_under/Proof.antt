@@ -1,4 +1,4 @@
-use Rattle.engine.proofs.ValidateLaws.{validates-under}
+use Rattle.engine.proofs.ValidateLaws.{validates_under}
 use borrow.Author.Rules.{rules}
 use Rattle.engine.proofs.validate_under.Statement.{statement}
 use Rattle.engine.proofs.validate_under.Tie as tie
@@ -18,7 +18,7 @@ same-length-2 c = search rules
 returns : tie.Need-returns
 returns c =
     let a = c.before.before.before.before.before.before.before.before.before.before.before.before.args in
-    validates-under a.rule a.edition a.table.now a.recording.now a.budget a.scratch.now a.room.now _ _ _ c.before.before.before.before.before.judged.ensures _ c.ruled.ensures
+    validates_under a.rule a.edition a.table.now a.recording.now a.budget a.scratch.now a.room.now _ _ _ c.before.before.before.before.before.judged.ensures _ c.ruled.ensures
 
 pub validate-under-spec : {M : Type 1} → statement M
 validate-under-spec =

@@ -1,7 +1,7 @@
 use Prim.Native.Nat.{◌*◌, ◌%◌, ◌<◌}
 use native.Mathlib.Omega.{arith}
 use borrow.Author.Rules.{rules}
-use Rattle.monitor.specs.From.{transitionFrom}
+use Rattle.monitor.specs.From.{transition_from}
 use Rattle.firings.proofs.Bounds.{product}
 use Rattle.firings.proofs.base.Statement.{statement}
 use Rattle.firings.proofs.base.Tie as tie
@@ -57,7 +57,7 @@ add-result : tie.Need-overflow-add-result
 add-result c = omega (arith, sets c.before.before, airs c.before.before)
 
 returns : tie.Need-returns
-unfolding transitionFrom
+unfolding transition_from
 returns c =
     let f = c.before.before in
     (λ offsets. cc (f.airtime-of.ensures offsets), omega (arith, sets f, airs f))

@@ -3,15 +3,15 @@ use native.Mathlib.Omega.{arith}
 use mathlib.Core.Path.{◌≡◌, subst}
 use borrow.Author.Rules.{rules}
 use Rattle.words.specs.Words.{Joined}
-use Rattle.firings.specs.Fired.{carriedEach}
-use Rattle.firings.proofs.Bounds.{planes-fit, planes-near, planes-end}
+use Rattle.firings.specs.Fired.{carried_each}
+use Rattle.firings.proofs.Bounds.{planes_fit, planes_near, planes_end}
 use Rattle.firings.proofs.Planes.{each_none, each_more}
 use Rattle.firings.proofs.carry_each.Statement.{statement}
 use Rattle.firings.proofs.carry_each.Tie as tie
 
 abbrev invariant-loop : tie.invariant-loop
 invariant-loop p variables sets clears here to guard planes src dst₀ masks plane v₀ dst v =
-    (v ≤ masks) × Joined (carriedEach p src planes variables sets clears here to guard v) dst₀ dst
+    (v ≤ masks) × Joined (carried_each p src planes variables sets clears here to guard v) dst₀ dst
 
 abbrev decreases-loop : tie.decreases-loop
 decreases-loop p variables sets clears here to guard planes src dst₀ masks plane v₀ dst v = masks - v
@@ -34,41 +34,41 @@ cast-carry : tie.Need-overflow-cast-carry invariant-loop decreases-loop
 cast-carry c = search rules
 
 mul-carry : tie.Need-overflow-mul-carry invariant-loop decreases-loop
-mul-carry c = let s = entry c.before.before in record { fits = planes-fit _ _ (omega (arith, s.good)) (omega (arith, s.good)) }
+mul-carry c = let s = entry c.before.before in record { fits = planes_fit _ _ (omega (arith, s.good)) (omega (arith, s.good)) }
 
 add-carry : tie.Need-overflow-add-carry invariant-loop decreases-loop
 add-carry c =
     let s = entry c.before.before in
-    record { fits = planes-end _ _ (omega (arith, s.good)) (omega (arith, s.good)) _ (omega (arith, s.pre.0)) }
+    record { fits = planes_end _ _ (omega (arith, s.good)) (omega (arith, s.good)) _ (omega (arith, s.pre.0)) }
 
 cast-carry-2 : tie.Need-overflow-cast-carry-2 invariant-loop decreases-loop
 cast-carry-2 c = search rules
 
 mul-carry-2 : tie.Need-overflow-mul-carry-2 invariant-loop decreases-loop
-mul-carry-2 c = let s = entry c.before.before in record { fits = planes-fit _ _ (omega (arith, s.good)) (omega arith) }
+mul-carry-2 c = let s = entry c.before.before in record { fits = planes_fit _ _ (omega (arith, s.good)) (omega arith) }
 
 add-carry-2 : tie.Need-overflow-add-carry-2 invariant-loop decreases-loop
 add-carry-2 c =
     let s = entry c.before.before in
-    record { fits = planes-end _ _ (omega (arith, s.good)) (omega arith) _ s.pre.1 }
+    record { fits = planes_end _ _ (omega (arith, s.good)) (omega arith) _ s.pre.1 }
 
 cast-carry-3 : tie.Need-overflow-cast-carry-3 invariant-loop decreases-loop
 cast-carry-3 c = search rules
 
 mul-carry-3 : tie.Need-overflow-mul-carry-3 invariant-loop decreases-loop
-mul-carry-3 c = let s = entry c.before.before in record { fits = planes-fit _ _ (omega (arith, s.good)) (omega (arith, s.good)) }
+mul-carry-3 c = let s = entry c.before.before in record { fits = planes_fit _ _ (omega (arith, s.good)) (omega (arith, s.good)) }
 
 add-carry-3 : tie.Need-overflow-add-carry-3 invariant-loop decreases-loop
 add-carry-3 c =
     let s = entry c.before.before in
-    record { fits = planes-end _ _ (omega (arith, s.good)) (omega (arith, s.good)) _ (omega (arith, s.pre.2)) }
+    record { fits = planes_end _ _ (omega (arith, s.good)) (omega (arith, s.good)) _ (omega (arith, s.pre.2)) }
 
 carry-requires : tie.Need-carry-requires invariant-loop decreases-loop
 carry-requires c κs =
     let s = entry c.before.before.before in (
-      planes-near _ _ (omega (arith, s.good)) (omega (arith, s.good)) _ (omega (arith, s.pre.0)),
-      planes-near _ _ (omega (arith, s.good)) (omega arith) _ s.pre.1,
-      planes-near _ _ (omega (arith, s.good)) (omega (arith, s.good)) _ (omega (arith, s.pre.2)),
+      planes_near _ _ (omega (arith, s.good)) (omega (arith, s.good)) _ (omega (arith, s.pre.0)),
+      planes_near _ _ (omega (arith, s.good)) (omega arith) _ s.pre.1,
+      planes_near _ _ (omega (arith, s.good)) (omega (arith, s.good)) _ (omega (arith, s.pre.2)),
       omega (arith, s.good),
     )
 
@@ -98,7 +98,7 @@ returns c =
     let at-loop = c.before in
     let a = (entry at-loop).args in
     let done : at-loop.loop.v ≡ a.p.shape.masks = omega arith in
-    subst (λ (n : ℕ). Joined (carriedEach a.p a.src.now a.planes.now a.variables a.sets a.clears a.here a.to a.guard n) a.dst.now at-loop.loop.dst) done
+    subst (λ (n : ℕ). Joined (carried_each a.p a.src.now a.planes.now a.variables a.sets a.clears a.here a.to a.guard n) a.dst.now at-loop.loop.dst) done
     at-loop.loop.invariant.1
 
 pub carry-each-spec : {M : Type 1} → statement M

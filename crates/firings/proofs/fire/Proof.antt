@@ -4,7 +4,7 @@ use mathlib.Core.Path.{◌≡◌, subst, ◌∙◌}
 use borrow.Author.Rules.{rules}
 use Rattle.words.specs.Words.{Joined}
 use Rattle.firings.specs.Fired.{fired}
-use Rattle.firings.proofs.Planes.{fired-none, fired-more}
+use Rattle.firings.proofs.Planes.{fired_none, fired-more}
 use Rattle.firings.proofs.fire.Statement.{statement}
 use Rattle.firings.proofs.fire.Tie as tie
 
@@ -20,7 +20,7 @@ transitions-requires c κs = search rules
 loop-holds : tie.Need-loop-init invariant-loop decreases-loop
 loop-holds c =
     let a = c.before.before.before.before.before.before.args in
-    (omega arith, fired-none a.p a.table.now a.offsets.now a.src.now a.planes.now a.dst.now)
+    (omega arith, fired_none a.p a.table.now a.offsets.now a.src.now a.planes.now a.dst.now)
 
 fire-one-requires : tie.Need-fire-one-requires invariant-loop decreases-loop
 fire-one-requires c κs = omega arith

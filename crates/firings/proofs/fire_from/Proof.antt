@@ -3,11 +3,11 @@ use native.Mathlib.Omega.{arith}
 use mathlib.Core.List.{List}
 use borrow.Author.Rules.{rules}
 use Rattle.words.specs.Words.{Joined}
-use Rattle.monitor.specs.From.{transitionFrom, monitorFrom}
-use Rattle.situation.specs.Ruled.{ruledFrom}
-use Rattle.firings.specs.Fired.{carriedEach, firedFrom}
-use Rattle.firings.proofs.Bounds.{planes-fit, planes-long}
-use Rattle.firings.proofs.Planes.{each_row, each-fired}
+use Rattle.monitor.specs.From.{transition_from, monitor_from}
+use Rattle.situation.specs.Ruled.{ruled_from}
+use Rattle.firings.specs.Fired.{carried_each, fired_from}
+use Rattle.firings.proofs.Bounds.{planes_fit, planes_long}
+use Rattle.firings.proofs.Planes.{each_row, each_fired}
 use Rattle.firings.proofs.fire_from.Statement.{statement}
 use Rattle.firings.proofs.fire_from.Tie as tie
 
@@ -51,7 +51,7 @@ cast-run-2 : tie.Need-overflow-cast-run-2
 cast-run-2 c = search rules
 
 mul-run : tie.Need-overflow-mul-run
-mul-run c = let s = entry c.before.before.before in record { fits = planes-fit _ _ (omega (arith, s.good)) (omega (arith, s.good)) }
+mul-run c = let s = entry c.before.before.before in record { fits = planes_fit _ _ (omega (arith, s.good)) (omega (arith, s.good)) }
 
 carry-requires : tie.Need-carry-requires
 carry-requires c κs =
@@ -61,7 +61,7 @@ carry-requires c κs =
       omega (arith, to.before.place.ensures.1),
       omega (arith, to.there.ensures.1),
       omega (arith, s.pre.1),
-      planes-long _ _ (omega (arith, s.good)) (omega (arith, s.good)),
+      planes_long _ _ (omega (arith, s.good)) (omega (arith, s.good)),
     )
 
 carry-each-requires : tie.Need-carry-each-requires
@@ -75,9 +75,9 @@ fires : (c : tie.After-byte4) (offsets dst : List ℕ)
     → let s = entry c in
     let a = s.args in
     let to = c.before.before.before in
-    Joined (carriedEach a.p a.src.now a.planes.now c.before.before.byte2.result c.before.byte3.result c.byte4.result to.before.place.result to.there.result a.guard a.p.shape.masks) a.dst.now dst
-    → Joined (firedFrom a.p (ruledFrom a.p.shape a.table.now offsets) a.src.now a.planes.now a.guess (transitionFrom a.table.now a.at) a.guard a.w) a.dst.now dst
-unfolding transitionFrom monitorFrom
+    Joined (carried_each a.p a.src.now a.planes.now c.before.before.byte2.result c.before.byte3.result c.byte4.result to.before.place.result to.there.result a.guard a.p.shape.masks) a.dst.now dst
+    → Joined (fired_from a.p (ruled_from a.p.shape a.table.now offsets) a.src.now a.planes.now a.guess (transition_from a.table.now a.at) a.guard a.w) a.dst.now dst
+unfolding transition_from monitor_from
 fires c offsets dst =
     let s = entry c in
     let a = s.args in
@@ -87,7 +87,7 @@ fires c offsets dst =
     let here = to.before in
     let behind = here.before in
     let source = behind.before.before in
-    each-fired a.p (ruledFrom a.p.shape a.table.now offsets) a.guess (transitionFrom a.table.now a.at) a.w a.src.now a.planes.now a.guard
+    each_fired a.p (ruled_from a.p.shape a.table.now offsets) a.guess (transition_from a.table.now a.at) a.w a.src.now a.planes.now a.guard
     source.byte.result a.shared behind.window-behind.result here.place.result to.there.result many.byte2.result sets.byte3.result c.byte4.result
     a.dst.now dst source.byte.ensures.0 here.place.ensures.0 (s.pre.3 offsets) behind.window-behind.ensures to.there.ensures.0
     many.byte2.ensures.0 sets.byte3.ensures.0 c.byte4.ensures.0

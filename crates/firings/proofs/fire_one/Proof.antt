@@ -4,17 +4,17 @@ use mathlib.Core.Path.{◌≡◌, ap, sym, ◌∙◌}
 use borrow.Author.Tests.{not-true, not-false}
 use borrow.Author.Rules.{rules}
 use Rattle.words.specs.Words.{bit}
-use Rattle.monitor.specs.From.{transitionFrom}
+use Rattle.monitor.specs.From.{transition_from}
 use Rattle.firings.proofs.Bounds.{product}
-use Rattle.firings.proofs.Planes.{one-dead, one-unfit, one-fires}
+use Rattle.firings.proofs.Planes.{one_dead, one_unfit, one_fires}
 use Rattle.firings.proofs.fire_one.Statement.{statement}
 use Rattle.firings.proofs.fire_one.Tie as tie
 
 abbrev entry : tie.After-is-live → tie.Start
 entry c = c.before.before.before.before.before.before.before.before
 
-live : (c : tie.After-is-live) → let a = (entry c).args in bit a.p.live (transitionFrom a.table.now c.before.before.short.result).source ≡ c.is_live.result
-unfolding transitionFrom
+live : (c : tie.After-is-live) → let a = (entry c).args in bit a.p.live (transition_from a.table.now c.before.before.short.result).source ≡ c.is_live.result
+unfolding transition_from
 live c = let a = (entry c).args in ap (bit a.p.live) (sym c.before.byte.ensures.0) ∙ sym c.is_live.ensures
 
 far : (c : tie.After-is-live) → (entry c).args.p.apart * (entry c).args.j < 274877906944
@@ -37,7 +37,7 @@ returns c =
     let l = c.before in
     let a = (entry l).args in
     let at = l.before.before.short in
-    one-dead a.p a.table.now a.offsets.now a.src.now a.planes.now a.j at.result at.ensures.0 a.dst.now (live l ∙ not-true _ c.if1.true)
+    one_dead a.p a.table.now a.offsets.now a.src.now a.planes.now a.j at.result at.ensures.0 a.dst.now (live l ∙ not-true _ c.if1.true)
 
 is-fit-requires : tie.Need-is-fit-requires
 is-fit-requires c κs = search rules
@@ -47,7 +47,7 @@ returns-2 c =
     let l = c.before.before.before in
     let a = (entry l).args in
     let at = l.before.before.short in
-    one-unfit a.p a.table.now a.offsets.now a.src.now a.planes.now a.j at.result at.ensures.0 a.dst.now
+    one_unfit a.p a.table.now a.offsets.now a.src.now a.planes.now a.j at.result at.ensures.0 a.dst.now
     (sym c.before.is-fit.ensures ∙ not-true _ c.if2.true)
 
 is-guess-requires : tie.Need-is-guess-requires
@@ -75,7 +75,7 @@ returns-3 c =
     let l = fit.before.before in
     let a = (entry l).args in
     let at = l.before.before.short in
-    one-fires a.p a.table.now a.offsets.now a.src.now a.planes.now a.j at.result at.ensures.0 a.dst.now after.fire-windows.new.1.1.1.1.1.1.1.0
+    one_fires a.p a.table.now a.offsets.now a.src.now a.planes.now a.j at.result at.ensures.0 a.dst.now after.fire-windows.new.1.1.1.1.1.1.1.0
     guess.is-guess.result
     (live l ∙ not-false _ fit.before.if1.false)
     (sym fit.is-fit.ensures ∙ not-false _ guess.before.if2.false)

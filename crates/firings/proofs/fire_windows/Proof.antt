@@ -5,17 +5,17 @@ use mathlib.Core.List.{List, []}
 use mathlib.Core.Logic.{⊎_elim}
 use borrow.Author.Rules.{rules}
 use Rattle.words.specs.Words.{Joined}
-use Rattle.monitor.specs.From.{transitionFrom}
-use Rattle.situation.specs.Ruled.{ruledFrom}
-use Rattle.firings.specs.Fired.{firedBy}
-use Rattle.firings.proofs.Planes.{windows-none, windows-more, windows-over}
+use Rattle.monitor.specs.From.{transition_from}
+use Rattle.situation.specs.Ruled.{ruled_from}
+use Rattle.firings.specs.Fired.{fired_by}
+use Rattle.firings.proofs.Planes.{windows_none, windows-more, windows-over}
 use Rattle.firings.proofs.fire_windows.Statement.{statement}
 use Rattle.firings.proofs.fire_windows.Tie as tie
 
 abbrev invariant-loop : tie.invariant-loop
 invariant-loop p table at guess guard planes src dst₀ shared windows rule w₀ dst w =
     (w ≤ windows)
-    × ((offsets : List ℕ) → Joined (firedBy p (ruledFrom p.shape table offsets) src planes guess (transitionFrom table at) guard w) dst₀ dst)
+    × ((offsets : List ℕ) → Joined (fired_by p (ruled_from p.shape table offsets) src planes guess (transition_from table at) guard w) dst₀ dst)
 
 abbrev decreases-loop : tie.decreases-loop
 decreases-loop p table at guess guard planes src dst₀ shared windows rule w₀ dst w = windows - w
@@ -26,7 +26,7 @@ base-requires c κs = search rules
 loop-holds : tie.Need-loop-init invariant-loop decreases-loop
 loop-holds c =
     let a = c.before.before.before.before.before.before.args in
-    (omega arith, λ offsets. windows-none a.p (ruledFrom a.p.shape a.table.now offsets) a.src.now a.planes.now a.guess (transitionFrom a.table.now a.at) a.guard a.dst.now)
+    (omega arith, λ offsets. windows_none a.p (ruled_from a.p.shape a.table.now offsets) a.src.now a.planes.now a.guess (transition_from a.table.now a.at) a.guard a.dst.now)
 
 allows-requires : tie.Need-allows-requires invariant-loop decreases-loop
 allows-requires c κs = search rules
@@ -49,17 +49,17 @@ loop-again c =
     let at-loop = tested.before.before in
     let a = at-loop.before.before.before.before.before.before.before.args in
     let w = at-loop.loop.w in
-    let t = transitionFrom a.table.now a.at in (
+    let t = transition_from a.table.now a.at in (
       omega arith,
       λ offsets.
-          let m = ruledFrom a.p.shape a.table.now offsets in
+          let m = ruled_from a.p.shape a.table.now offsets in
           ⊎_elim
           (λ q.
-          subst (λ (d : List ℕ). Joined (firedBy a.p m a.src.now a.planes.now a.guess t a.guard (w + 1)) a.dst.now d) (sym q.5)
+          subst (λ (d : List ℕ). Joined (fired_by a.p m a.src.now a.planes.now a.guess t a.guard (w + 1)) a.dst.now d) (sym q.5)
           (windows-more a.p m a.src.now a.planes.now a.guess t a.guard w a.dst.now at-loop.loop.dst q.2.last.1.1.1.1.1.1.1.1.1.0
           (sym tested.allows.ensures ∙ q.0.taken) (at-loop.loop.invariant.1 offsets) (q.2.ensures offsets)))
           (λ q.
-          subst (λ (d : List ℕ). Joined (firedBy a.p m a.src.now a.planes.now a.guess t a.guard (w + 1)) a.dst.now d) (sym q.1)
+          subst (λ (d : List ℕ). Joined (fired_by a.p m a.src.now a.planes.now a.guess t a.guard (w + 1)) a.dst.now d) (sym q.1)
           (windows-over a.p m a.src.now a.planes.now a.guess t a.guard w a.dst.now at-loop.loop.dst
           (sym tested.allows.ensures ∙ q.0.left) (at-loop.loop.invariant.1 offsets)))
           c.if1.branch,
@@ -74,7 +74,7 @@ returns c =
     let a = at-loop.before.before.before.before.before.before.before.args in
     let done : at-loop.loop.w ≡ a.p.shape.windows = omega arith in
     λ offsets.
-    subst (λ (n : ℕ). Joined (firedBy a.p (ruledFrom a.p.shape a.table.now offsets) a.src.now a.planes.now a.guess (transitionFrom a.table.now a.at) a.guard n) a.dst.now at-loop.loop.dst) done
+    subst (λ (n : ℕ). Joined (fired_by a.p (ruled_from a.p.shape a.table.now offsets) a.src.now a.planes.now a.guess (transition_from a.table.now a.at) a.guard n) a.dst.now at-loop.loop.dst) done
     (at-loop.loop.invariant.1 offsets)
 
 pub fire-windows-spec : {M : Type 1} → statement M

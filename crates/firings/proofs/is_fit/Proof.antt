@@ -2,8 +2,8 @@ use Prim.Native.Nat.{ℕ}
 use mathlib.Core.Path.{◌≡◌, ap, sym, ◌∙◌}
 use borrow.Author.Rules.{rules}
 use lib.Dec.{eqb}
-use Rattle.monitor.specs.From.{transitionFrom}
-use Rattle.situation.specs.Rows.{heardOf}
+use Rattle.monitor.specs.From.{transition_from}
+use Rattle.situation.specs.Rows.{heard_of}
 use Rattle.situation.specs.declared.Heard.{Heard}
 use Rattle.situation.specs.declared.Heard.TheVariants.{Kind}
 use Rattle.instants.specs.Firing.{fits}
@@ -26,12 +26,12 @@ returns : tie.Need-returns
 returns c = search rules
 
 returns-2 : tie.Need-returns-2
-unfolding transitionFrom
+unfolding transition_from
 returns-2 c =
     let a = c.before.before.before.before.before.args in
     let kind = c.before.before.heard.given.0.0 in
     let e : a.heard ≡ Kind kind = cc in
-    ap (λ (k : ℕ). eqb k kind) c.byte.ensures.0 ∙ ap (λ (x : Heard). fits (heardOf x) (transitionFrom a.table.now a.at)) (sym e)
+    ap (λ (k : ℕ). eqb k kind) c.byte.ensures.0 ∙ ap (λ (x : Heard). fits (heard_of x) (transition_from a.table.now a.at)) (sym e)
 
 pub is-fit-spec : {M : Type 1} → statement M
 is-fit-spec =

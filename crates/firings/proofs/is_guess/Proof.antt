@@ -3,9 +3,9 @@ use mathlib.Core.Path.{ap, sym, ◌∙◌}
 use borrow.Author.Rules.{rules}
 use lib.Dec.{eqb}
 use Rattle.model.specs.Monitor.{device}
-use Rattle.monitor.specs.From.{transitionFrom, monitorFrom}
-use Rattle.situation.specs.Rows.{heardOf}
-use Rattle.situation.specs.Ruled.{ruledFrom}
+use Rattle.monitor.specs.From.{transition_from, monitor_from}
+use Rattle.situation.specs.Rows.{heard_of}
+use Rattle.situation.specs.Ruled.{ruled_from}
 use Rattle.situation.specs.declared.Heard.{Heard}
 use Rattle.instants.specs.Firing.{guessed}
 use Rattle.firings.proofs.is_guess.Statement.{statement}
@@ -27,20 +27,20 @@ enum-told-2 : tie.Need-enum-told-2
 enum-told-2 c = search rules
 
 returns : tie.Need-returns
-unfolding transitionFrom
+unfolding transition_from
 returns c =
     let b = c.before.before in
     let a = b.before.before.before.before.args in
     λ offsets.
     ap (λ (d : ℕ). eqb d a.p.shape.rule.device)
-    (c.before.device-of.ensures offsets ∙ ap (λ (k : ℕ). device (monitorFrom a.table.now offsets) k) b.byte.ensures.0)
-    ∙ ap (λ (x : Heard). guessed (ruledFrom a.p.shape a.table.now offsets) (heardOf x) (transitionFrom a.table.now a.at)) (sym b.before.enum_told.given.1)
+    (c.before.device-of.ensures offsets ∙ ap (λ (k : ℕ). device (monitor_from a.table.now offsets) k) b.byte.ensures.0)
+    ∙ ap (λ (x : Heard). guessed (ruled_from a.p.shape a.table.now offsets) (heard_of x) (transition_from a.table.now a.at)) (sym b.before.enum_told.given.1)
 
 returns-2 : tie.Need-returns-2
 returns-2 c =
     let a = c.before.before.before.args in
     λ offsets.
-    ap (λ (x : Heard). guessed (ruledFrom a.p.shape a.table.now offsets) (heardOf x) (transitionFrom a.table.now a.at)) (sym c.enum-told2.given.1)
+    ap (λ (x : Heard). guessed (ruled_from a.p.shape a.table.now offsets) (heard_of x) (transition_from a.table.now a.at)) (sym c.enum-told2.given.1)
 
 pub is-guess-spec : {M : Type 1} → statement M
 is-guess-spec =

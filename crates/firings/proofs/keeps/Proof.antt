@@ -7,14 +7,14 @@ use lib.Pow.{shl_exact}
 use borrow.Author.Rules.{rules}
 use borrow.Author.Tests.{leb-true}
 use Rattle.model.specs.Monitor.{changed}
-use Rattle.firings.proofs.Planes.{changed-none}
+use Rattle.firings.proofs.Planes.{changed_none}
 use Rattle.firings.proofs.keeps.Statement.{statement}
 use Rattle.firings.proofs.keeps.Tie as tie
 
 few : (masks n v sets clears : ℕ) → sets ≡ 0 → clears ≡ 0 → n < 8 → leb masks (1 * 2 ^ n % 2 ^ 16) ≡ true → v < masks → changed n v sets clears ≡ v
 few masks n v sets clears e f h l k =
     let one : 1 * 2 ^ n % 2 ^ 16 ≡ 1 * 2 ^ n = shl_exact 1 n 16 (omega arith) (omega arith) in
-    ap₂ (λ (s c : ℕ). changed n v s c) e f ∙ changed-none n v (omega (arith, leb-true masks (1 * 2 ^ n % 2 ^ 16) l, one))
+    ap₂ (λ (s c : ℕ). changed n v s c) e f ∙ changed_none n v (omega (arith, leb-true masks (1 * 2 ^ n % 2 ^ 16) l, one))
 
 returns : tie.Need-returns
 returns c = λ v e h. absurd (false≢true e)

@@ -3,7 +3,7 @@ use native.Mathlib.Omega.{arith}
 use mathlib.Core.Path.{refl}
 use borrow.Author.Rules.{rules}
 use Rattle.situation.proofs.Digits.{below}
-use Rattle.firings.specs.Fired.{placeBy}
+use Rattle.firings.specs.Fired.{place_by}
 use Rattle.firings.proofs.Bounds.{product}
 use Rattle.firings.proofs.place.Statement.{statement}
 use Rattle.firings.proofs.place.Tie as tie
@@ -58,7 +58,7 @@ mul-result-3 : tie.Need-overflow-mul-result-3
 mul-result-3 c = omega (arith, whole c)
 
 returns : tie.Need-returns
-unfolding placeBy
+unfolding place_by
 returns c = (refl, omega (arith, whole c))
 
 pub place-spec : {M : Type 1} → statement M

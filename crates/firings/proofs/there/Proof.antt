@@ -1,6 +1,6 @@
 use native.Mathlib.Omega.{arith}
 use borrow.Author.Rules.{rules}
-use Rattle.monitor.specs.From.{transitionFrom}
+use Rattle.monitor.specs.From.{transition_from}
 use Rattle.firings.proofs.there.Statement.{statement}
 use Rattle.firings.proofs.there.Tie as tie
 
@@ -17,7 +17,7 @@ add-result : tie.Need-overflow-add-result
 add-result c = search rules
 
 returns : tie.Need-returns
-unfolding transitionFrom
+unfolding transition_from
 returns c = (cc, omega arith)
 
 pub there-spec : {M : Type 1} → statement M

@@ -6,16 +6,16 @@ use borrow.Author.Tests.{not-true, not-false}
 use borrow.Author.Rules.{rules}
 use lib.Dec.{eqb}
 use Rattle.words.specs.Words.{bit}
-use Rattle.monitor.specs.From.{transitionFrom}
-use Rattle.firings.proofs.UsedLaws.{bit-more, uses-dead, uses-unfit, uses-now}
+use Rattle.monitor.specs.From.{transition_from}
+use Rattle.firings.proofs.UsedLaws.{bit-more, uses_dead, uses_unfit, uses_now}
 use Rattle.firings.proofs.with_used.Statement.{statement}
 use Rattle.firings.proofs.with_used.Tie as tie
 
 abbrev entry : tie.After-is-live → tie.Start
 entry c = c.before.before.before.before.before
 
-live : (c : tie.After-is-live) → let a = (entry c).args in bit a.p.live (transitionFrom a.table.now c.before.before.short.result).source ≡ c.is_live.result
-unfolding transitionFrom
+live : (c : tie.After-is-live) → let a = (entry c).args in bit a.p.live (transition_from a.table.now c.before.before.short.result).source ≡ c.is_live.result
+unfolding transition_from
 live c = let a = (entry c).args in ap (bit a.p.live) (sym c.before.byte.ensures.0) ∙ sym c.is_live.ensures
 
 short-requires : tie.Need-short-requires
@@ -36,7 +36,7 @@ returns c =
     let l = c.before in
     let a = (entry l).args in
     let at = l.before.before.short in
-    uses-dead a.p a.table.now a.offsets.now a.j at.result at.ensures.0 (bit a.found r) r (live l ∙ not-true _ c.if1.true)
+    uses_dead a.p a.table.now a.offsets.now a.j at.result at.ensures.0 (bit a.found r) r (live l ∙ not-true _ c.if1.true)
 
 is-fit-requires : tie.Need-is-fit-requires
 is-fit-requires c κs = search rules
@@ -47,7 +47,7 @@ returns-2 c =
     let l = c.before.before.before in
     let a = (entry l).args in
     let at = l.before.before.short in
-    uses-unfit a.p a.table.now a.offsets.now a.j at.result at.ensures.0 (bit a.found r) r
+    uses_unfit a.p a.table.now a.offsets.now a.j at.result at.ensures.0 (bit a.found r) r
     (sym c.before.is-fit.ensures ∙ not-true _ c.if2.true)
 
 add-byte : tie.Need-overflow-add-byte
@@ -63,7 +63,7 @@ shl-result : tie.Need-overflow-shl-result
 shl-result c = search rules
 
 returns-3 : tie.Need-returns-3
-unfolding transitionFrom
+unfolding transition_from
 returns-3 c =
     λ r.
     let fit = c.before.before in
@@ -75,7 +75,7 @@ returns-3 c =
     ∙ ap (λ (b : Bool). bit a.found r || b)
     (ap (λ (x : ℕ). eqb (x % 4) r) c.byte2.ensures.0
     ∙ sym
-    (uses-now a.p a.table.now a.offsets.now a.j at.result at.ensures.0 (bit a.found r) r
+    (uses_now a.p a.table.now a.offsets.now a.j at.result at.ensures.0 (bit a.found r) r
     (live l ∙ not-false _ fit.before.if1.false)
     (sym fit.is-fit.ensures ∙ not-false _ c.before.if2.false)))
 

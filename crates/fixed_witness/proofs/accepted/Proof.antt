@@ -1,5 +1,5 @@
 use borrow.Author.Rules.{rules}
-use Rattle.fixed_witness.proofs.Accepting.{cost-met, cost-missed}
+use Rattle.fixed_witness.proofs.Accepting.{cost_met, cost-missed}
 use Rattle.fixed_witness.proofs.accepted.Statement.{statement}
 use Rattle.fixed_witness.proofs.accepted.Tie as tie
 
@@ -16,7 +16,7 @@ enum-told-3 : tie.Need-enum-told-3
 enum-told-3 c = search rules
 
 returns : tie.Need-returns
-returns c = cost-met _ _ _ _ _ c.before.before.verdict.given.1 c.if1.true
+returns c = cost_met _ _ _ _ _ c.before.before.verdict.given.1 c.if1.true
 
 returns-2 : tie.Need-returns-2
 returns-2 c = cost-missed _ _ _ _ _ c.before.before.verdict.given.1 c.if1.false

@@ -4,7 +4,7 @@ use mathlib.Core.Path.{ap}
 use mathlib.Core.List.{List}
 use lib.ListN.{take, drop}
 use borrow.Author.Rules.{rules}
-use Rattle.model.specs.Validation.{scratchLeft, room_left}
+use Rattle.model.specs.Validation.{scratch_left, room_left}
 use Rattle.examples.proofs.Examples.{run_of}
 use Rattle.fixed_witness.proofs.main.Statement.{statement}
 use Rattle.fixed_witness.proofs.main.Tie as tie
@@ -28,7 +28,7 @@ accepted-requires : tie.Need-accepted-requires
 accepted-requires c κs = search rules
 
 expect-requires : tie.Need-expect-requires
-unfolding run_of scratchLeft room_left
+unfolding run_of scratch_left room_left
 expect-requires c κs = c.accepted.ensures.1 c.before.before.before.validate.ensures.answered
 
 sub_same : tie.Need-overflow-sub-same
@@ -47,7 +47,7 @@ same-requires : tie.Need-same-requires
 same-requires c κs = search rules
 
 expect-requires-2 : tie.Need-expect-requires-2
-unfolding run_of scratchLeft room_left
+unfolding run_of scratch_left room_left
 expect-requires-2 c κs =
     c.same.ensures.1 (ap (λ (l : List ℕ). take 10 (drop 0 l)) c.before.before.before.before.before.before.before.before.validate.ensures.written)
 
@@ -67,7 +67,7 @@ same-requires-2 : tie.Need-same-requires-2
 same-requires-2 c κs = search rules
 
 expect-requires-3 : tie.Need-expect-requires-3
-unfolding run_of scratchLeft room_left
+unfolding run_of scratch_left room_left
 expect-requires-3 c κs =
     c.same2.ensures.1 (ap (λ (l : List ℕ). take 80 (drop 10 l)) c.before.before.before.before.before.before.before.before.before.before.before.before.before.validate.ensures.written)
 
@@ -87,7 +87,7 @@ same-requires-3 : tie.Need-same-requires-3
 same-requires-3 c κs = search rules
 
 expect-requires-4 : tie.Need-expect-requires-4
-unfolding run_of scratchLeft room_left
+unfolding run_of scratch_left room_left
 expect-requires-4 c κs =
     c.same3.ensures.1 (ap (λ (l : List ℕ). take 12 (drop 0 l)) c.before.before.before.before.before.before.before.before.before.before.before.before.before.before.before.before.before.before.validate.ensures.cleared)
 
@@ -107,7 +107,7 @@ same-requires-4 : tie.Need-same-requires-4
 same-requires-4 c κs = search rules
 
 expect-requires-5 : tie.Need-expect-requires-5
-unfolding run_of scratchLeft room_left
+unfolding run_of scratch_left room_left
 expect-requires-5 c κs =
     c.same4.ensures.1 (ap (λ (l : List ℕ). take 88 (drop 12 l)) c.before.before.before.before.before.before.before.before.before.before.before.before.before.before.before.before.before.before.before.before.before.before.before.validate.ensures.cleared)
 

@@ -1,9 +1,9 @@
 -- `forward::emptied` meets its contract: the product fits, and the rest is one law.
 use native.Mathlib.Omega.{arith}
 use borrow.Author.Rules.{rules}
-use Rattle.situation.specs.Rows.{heardOf}
+use Rattle.situation.specs.Rows.{heard_of}
 use Rattle.measures.proofs.Rows.{product}
-use Rattle.forward.proofs.EmptiedPairs.{emptied-pairs}
+use Rattle.forward.proofs.EmptiedPairs.{emptied_pairs}
 use Rattle.forward.proofs.emptied.Statement.{statement}
 use Rattle.forward.proofs.emptied.Tie as tie
 
@@ -26,7 +26,7 @@ returns : tie.Need-returns
 returns c =
     let heard = c.before.before in
     let args = heard.before.before.before.before.before.before.args in
-    λ given. emptied-pairs given (heardOf heard.heard-at.result) heard.heard-at.ensures args.cost c.count-pairs.result c.count-pairs.ensures
+    λ given. emptied_pairs given (heard_of heard.heard-at.result) heard.heard-at.ensures args.cost c.count-pairs.result c.count-pairs.ensures
 
 pub emptied-spec : {M : Type 1} → statement M
 emptied-spec =

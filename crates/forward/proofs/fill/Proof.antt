@@ -4,7 +4,7 @@ use native.Mathlib.Omega.{arith}
 use mathlib.Core.Path.{refl, sym, subst, ◌∙◌}
 use borrow.Author.Rules.{rules}
 use Rattle.images.specs.Buffers.{Kept}
-use Rattle.measures.specs.Setting.{monitorBy, Setting}
+use Rattle.measures.specs.Setting.{monitor_by, Setting}
 use Rattle.measures.specs.Working.{Working}
 use Rattle.forward.specs.Forwarding.{Filled, Carrying, Ended}
 use Rattle.measures.proofs.Roominess.{roomy-kept}
@@ -16,11 +16,11 @@ abbrev invariant-loop : tie.invariant-loop
 invariant-loop table offsets recording g marks planes budget scratch₀ cur₀ sets₀ one₀ two₀ memo₀ cost₀ work₀ i₀ t₀ scratch cur sets one two memo cost work i t =
     Kept scratch₀ scratch × Kept cur₀ cur × Kept sets₀ sets × Kept one₀ one × Kept two₀ two × Kept memo₀ memo × (cost ≤ 65536 * t) × (work ≤ 65536)
     × (Setting table offsets recording g
-    → Filled (monitorBy g table) recording scratch₀ g.row 0 0
+    → Filled (monitor_by g table) recording scratch₀ g.row 0 0
     → Working table offsets g marks planes
-    → Carrying (monitorBy g table) recording g.words 0 cur₀ sets₀ one₀ two₀ memo₀
-    → Passing (monitorBy g table) recording scratch budget g.row g.last t i cost work
-    × Carrying (monitorBy g table) recording g.words t cur sets one two memo)
+    → Carrying (monitor_by g table) recording g.words 0 cur₀ sets₀ one₀ two₀ memo₀
+    → Passing (monitor_by g table) recording scratch budget g.row g.last t i cost work
+    × Carrying (monitor_by g table) recording g.words t cur sets one two memo)
 
 abbrev decreases-loop : tie.decreases-loop
 decreases-loop table offsets recording g marks planes budget scratch₀ cur₀ sets₀ one₀ two₀ memo₀ cost₀ work₀ i₀ t₀ scratch cur sets one two memo cost work i t = g.last - t

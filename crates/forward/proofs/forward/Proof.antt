@@ -3,7 +3,7 @@ use mathlib.Core.Path.{refl, sym, ◌∙◌}
 use mathlib.Core.Bool.{false≢true}
 use borrow.Author.Rules.{rules}
 use borrow.Author.Tests.{not-true, not-false}
-use Rattle.measures.proofs.Roominess.{first_fits, roomy-kept, roomy-by}
+use Rattle.measures.proofs.Roominess.{first_fits, roomy-kept, roomy_by}
 use Rattle.forward.proofs.forward.Statement.{statement}
 use Rattle.forward.proofs.forward.Tie as tie
 
@@ -16,7 +16,7 @@ is-roomy-requires : tie.Need-is-roomy-requires
 is-roomy-requires c κs = search rules
 
 returns : tie.Need-returns
-returns c = (refl, refl, refl, refl, refl, refl, λ given working sized long. absurd (false≢true (sym (not-true _ c.if1.true) ∙ c.before.is-roomy.ensures.1 (roomy-by given.setting given.long))))
+returns c = (refl, refl, refl, refl, refl, refl, λ given working sized long. absurd (false≢true (sym (not-true _ c.if1.true) ∙ c.before.is-roomy.ensures.1 (roomy_by given.setting given.long))))
 
 start-requires : tie.Need-start-requires
 start-requires c κs = first_fits (c.before.before.before.is-roomy.ensures.0 (not-false _ c.before.before.if1.false))

@@ -3,7 +3,7 @@ use native.Mathlib.Omega.{arith}
 use mathlib.Core.Path.{◌∙◌}
 use borrow.Author.Rules.{rules}
 use Rattle.measures.proofs.Rows.{row-stored}
-use Rattle.forward.proofs.ForwardRows.{count-few, within, next_fits, begin-fits, end_fits, holds-next, turned}
+use Rattle.forward.proofs.ForwardRows.{count-few, within, next_fits, begin-fits, end_fits, holds_next, turned}
 use Rattle.forward.proofs.instant.Statement.{statement}
 use Rattle.forward.proofs.instant.Tie as tie
 
@@ -96,7 +96,7 @@ returns c =
       λ turn given carry.
           let ready = given.ready in
           let (moved, known) = kept.5 _ _ given (within ready _ _ carry.holds) carry.sized carry.known in
-          let holds = holds-next turn ready carry.holds after.before.before.before.before.before.before.heard-at.ensures kept.0 moved in (
+          let holds = holds_next turn ready carry.holds after.before.before.before.before.before.before.heard-at.ensures kept.0 moved in (
             turned turn ready holds row c.count.ensures,
             record {
               holds = holds;

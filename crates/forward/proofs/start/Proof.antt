@@ -1,6 +1,6 @@
 -- `forward::start` meets its contract: two laws.
 use borrow.Author.Rules.{rules}
-use Rattle.forward.proofs.ForwardPass.{first-filled, first-loaded}
+use Rattle.forward.proofs.ForwardPass.{first-filled, first_loaded}
 use Rattle.forward.proofs.start.Statement.{statement}
 use Rattle.forward.proofs.start.Tie as tie
 
@@ -29,7 +29,7 @@ returns : tie.Need-returns
 returns c =
     let load = c.before.before in
     let into = load.before.before.before.before.before.before.put.ensures in
-    (into.size, load.load.ensures.size, λ table offsets recording given long. (first-filled given into, first-loaded given into long load.load.ensures))
+    (into.size, load.load.ensures.size, λ table offsets recording given long. (first-filled given into, first_loaded given into long load.load.ensures))
 
 pub start_spec : {M : Type 1} → statement M
 start_spec =

@@ -22,7 +22,7 @@ add-if2 c = search rules
 
 returns-2 : tie.Need-returns-2
 unfolding framed
-returns-2 c = rw (le-leb _ _ c.before.before.before.if1.false, ← c.before.before.size-at.ensures.0, ← c.before.size-width.ensures.0, ne_eqb _ _ c.if2.true)
+returns-2 c = rw (le-leb _ _ c.before.before.before.if1.false, ← c.before.before.size_at_lem.ensures.0, ← c.before.size-width.ensures.0, ne_eqb _ _ c.if2.true)
 
 byte-requires : tie.Need-byte-requires
 byte-requires c κs = search rules
@@ -32,11 +32,11 @@ is-version-requires c κs = search rules
 
 returns-3 : tie.Need-returns-3
 unfolding framed
-returns-3 c = rw (le-leb _ _ c.before.before.before.before.before.before.if1.false, ← c.before.before.before.before.before.size-at.ensures.0, ← c.before.before.before.before.size-width.ensures.0, eq-eqb _ _ c.before.before.before.if2.false, ← c.before.before.byte.ensures.0, ← c.before.is-version.ensures, not-true c.before.is-version.result c.if3.true)
+returns-3 c = rw (le-leb _ _ c.before.before.before.before.before.before.if1.false, ← c.before.before.before.before.before.size_at_lem.ensures.0, ← c.before.before.before.before.size-width.ensures.0, eq-eqb _ _ c.before.before.before.if2.false, ← c.before.before.byte.ensures.0, ← c.before.is-version.ensures, not-true c.before.is-version.result c.if3.true)
 
 returns-4 : tie.Need-returns-4
 unfolding framed
-returns-4 c = rw (le-leb _ _ c.before.before.before.before.before.before.if1.false, ← c.before.before.before.before.before.size-at.ensures.0, ← c.before.before.before.before.size-width.ensures.0, eq-eqb _ _ c.before.before.before.if2.false, ← c.before.before.byte.ensures.0, ← c.before.is-version.ensures, not-false c.before.is-version.result c.if3.false)
+returns-4 c = rw (le-leb _ _ c.before.before.before.before.before.before.if1.false, ← c.before.before.before.before.before.size_at_lem.ensures.0, ← c.before.before.before.before.size-width.ensures.0, eq-eqb _ _ c.before.before.before.if2.false, ← c.before.before.byte.ensures.0, ← c.before.is-version.ensures, not-false c.before.is-version.result c.if3.false)
 
 pub framed-answer-spec : {M : Type 1} → statement M
 framed-answer-spec =

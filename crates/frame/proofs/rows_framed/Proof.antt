@@ -1,8 +1,8 @@
 use borrow.Author.Tests.{le-leb, lt-leb, eq-eqb, ne_eqb, not-true, not-false}
 use native.Mathlib.Omega.{arith}
 use mathlib.Core.Path.{sym, ◌∙◌}
-use Rattle.model.specs.Frame.{framedRows}
-use Rattle.columns.proofs.Columns.{step-bound}
+use Rattle.model.specs.Frame.{framed_rows}
+use Rattle.columns.proofs.Columns.{step_bound}
 use Rattle.frame.proofs.Answers.{stops, goes}
 use borrow.Author.Rules.{rules}
 use Rattle.frame.proofs.rows_framed.Statement.{statement}
@@ -21,7 +21,7 @@ sound-requires : tie.Need-sound-requires
 sound-requires c κs = search rules
 
 returns : tie.Need-returns
-unfolding framedRows
+unfolding framed_rows
 returns c = rw (← c.before.before.before.before.version_of.ensures, ← c.before.before.before.rows-place.ensures.0, ← c.before.before.framed_answer.ensures, stops _ _ (sym c.before.sound.ensures ∙ not-true c.before.sound.result c.if1.true))
 
 count-place-requires : tie.Need-count-place-requires
@@ -31,8 +31,8 @@ size-at-requires : tie.Need-size-at-requires
 size-at-requires c κs = search rules
 
 returns-2 : tie.Need-returns-2
-unfolding framedRows
-returns-2 c = rw (← c.before.before.before.before.before.before.before.version_of.ensures, ← c.before.before.before.before.before.before.rows-place.ensures.0, ← c.before.before.before.before.before.framed_answer.ensures, goes _ _ (sym c.before.before.before.before.sound.ensures ∙ not-false c.before.before.before.before.sound.result c.before.before.before.if1.false), ← c.before.before.count-place.ensures.0, ← c.before.size-at.ensures.0, lt-leb _ _ c.if2.true)
+unfolding framed_rows
+returns-2 c = rw (← c.before.before.before.before.before.before.before.version_of.ensures, ← c.before.before.before.before.before.before.rows-place.ensures.0, ← c.before.before.before.before.before.framed_answer.ensures, goes _ _ (sym c.before.before.before.before.sound.ensures ∙ not-false c.before.before.before.before.sound.result c.before.before.before.if1.false), ← c.before.before.count-place.ensures.0, ← c.before.size_at_lem.ensures.0, lt-leb _ _ c.if2.true)
 
 size-at-requires-2 : tie.Need-size-at-requires-2
 size-at-requires-2 c κs = search rules
@@ -44,18 +44,18 @@ cast-if3-2 : tie.Need-overflow-cast-if3-2
 cast-if3-2 c = search rules
 
 mul-if3 : tie.Need-overflow-mul-if3
-mul-if3 c = omega (arith, step-bound c.before.before.before.before.before.before.before.before.before.before.args.width c.before.before.size-at.result (omega arith) (omega arith))
+mul-if3 c = omega (arith, step_bound c.before.before.before.before.before.before.before.before.before.before.args.width c.before.before.size_at_lem.result (omega arith) (omega arith))
 
 add-if3 : tie.Need-overflow-add-if3
-add-if3 c = omega (arith, step-bound c.before.before.before.before.before.before.before.before.before.before.args.width c.before.before.size-at.result (omega arith) (omega arith))
+add-if3 c = omega (arith, step_bound c.before.before.before.before.before.before.before.before.before.before.args.width c.before.before.size_at_lem.result (omega arith) (omega arith))
 
 returns-3 : tie.Need-returns-3
-unfolding framedRows
-returns-3 c = rw (← c.before.before.before.before.before.before.before.before.before.version_of.ensures, ← c.before.before.before.before.before.before.before.before.rows-place.ensures.0, ← c.before.before.before.before.before.before.before.framed_answer.ensures, goes _ _ (sym c.before.before.before.before.before.before.sound.ensures ∙ not-false c.before.before.before.before.before.before.sound.result c.before.before.before.before.before.if1.false), ← c.before.before.before.before.count-place.ensures.0, ← c.before.before.before.size-at.ensures.0, le-leb _ _ c.before.before.if2.false, ← c.before.size-at2.ensures.0, ne_eqb _ _ c.if3.true)
+unfolding framed_rows
+returns-3 c = rw (← c.before.before.before.before.before.before.before.before.before.version_of.ensures, ← c.before.before.before.before.before.before.before.before.rows-place.ensures.0, ← c.before.before.before.before.before.before.before.framed_answer.ensures, goes _ _ (sym c.before.before.before.before.before.before.sound.ensures ∙ not-false c.before.before.before.before.before.before.sound.result c.before.before.before.before.before.if1.false), ← c.before.before.before.before.count-place.ensures.0, ← c.before.before.before.size_at_lem.ensures.0, le-leb _ _ c.before.before.if2.false, ← c.before.size-at2.ensures.0, ne_eqb _ _ c.if3.true)
 
 returns-4 : tie.Need-returns-4
-unfolding framedRows
-returns-4 c = rw (← c.before.before.before.before.before.before.before.before.before.version_of.ensures, ← c.before.before.before.before.before.before.before.before.rows-place.ensures.0, ← c.before.before.before.before.before.before.before.framed_answer.ensures, goes _ _ (sym c.before.before.before.before.before.before.sound.ensures ∙ not-false c.before.before.before.before.before.before.sound.result c.before.before.before.before.before.if1.false), ← c.before.before.before.before.count-place.ensures.0, ← c.before.before.before.size-at.ensures.0, le-leb _ _ c.before.before.if2.false, ← c.before.size-at2.ensures.0, eq-eqb _ _ c.if3.false)
+unfolding framed_rows
+returns-4 c = rw (← c.before.before.before.before.before.before.before.before.before.version_of.ensures, ← c.before.before.before.before.before.before.before.before.rows-place.ensures.0, ← c.before.before.before.before.before.before.before.framed_answer.ensures, goes _ _ (sym c.before.before.before.before.before.before.sound.ensures ∙ not-false c.before.before.before.before.before.before.sound.result c.before.before.before.before.before.if1.false), ← c.before.before.before.before.count-place.ensures.0, ← c.before.before.before.size_at_lem.ensures.0, le-leb _ _ c.before.before.if2.false, ← c.before.size-at2.ensures.0, eq-eqb _ _ c.if3.false)
 
 pub rows-framed-spec : {M : Type 1} → statement M
 rows-framed-spec =

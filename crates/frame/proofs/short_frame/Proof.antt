@@ -1,14 +1,14 @@
 use native.Mathlib.Omega.{arith}
-use Rattle.columns.proofs.Columns.{step-bound}
+use Rattle.columns.proofs.Columns.{step_bound}
 use borrow.Author.Rules.{rules}
 use Rattle.frame.proofs.short_frame.Statement.{statement}
 use Rattle.frame.proofs.short_frame.Tie as tie
 
 mul-total : tie.Need-overflow-mul-total
-mul-total c = omega (arith, step-bound c.args.width c.args.count (omega arith) (omega arith))
+mul-total c = omega (arith, step_bound c.args.width c.args.count (omega arith) (omega arith))
 
 add_total : tie.Need-overflow-add-total
-add_total c = omega (arith, step-bound c.args.width c.args.count (omega arith) (omega arith))
+add_total c = omega (arith, step_bound c.args.width c.args.count (omega arith) (omega arith))
 
 cast-t7 : tie.Need-overflow-cast-t7
 cast-t7 c = search rules

@@ -1,5 +1,5 @@
 use borrow.Author.Tests.{ne_eqb}
-use Rattle.guard.proofs.Guards.{seen_most, seen-least}
+use Rattle.guard.proofs.Guards.{seen_most, seen_least}
 use borrow.Author.Rules.{rules}
 use Rattle.guard.proofs.clock_seen.Statement.{statement}
 use Rattle.guard.proofs.clock_seen.Tie as tie
@@ -20,7 +20,7 @@ least-waits-requires : tie.Need-least-waits-requires
 least-waits-requires c κs = search rules
 
 returns-2 : tie.Need-returns-2
-returns-2 c = seen-least _ _ _ _ _ _ _ _ _ _ c.before.before.before.before.short.ensures.0 c.before.before.before.bound_of.ensures c.before.if2.true c.least-waits.ensures
+returns-2 c = seen_least _ _ _ _ _ _ _ _ _ _ c.before.before.before.before.short.ensures.0 c.before.before.before.bound_of.ensures c.before.if2.true c.least-waits.ensures
 
 returns-3 : tie.Need-returns-3
 returns-3 c = rw (ne_eqb _ _ c.before.if1.false, ne_eqb _ _ c.if2.false)

@@ -1,9 +1,9 @@
 use mathlib.Core.Path.{◌≡◌, sym, ◌∙◌}
 use mathlib.Core.List.{[], ◌∷◌}
-use Rattle.model.specs.Limits.{guardLimit}
-use Rattle.model.specs.Guard.{guardAt}
+use Rattle.model.specs.Limits.{guard_limit}
+use Rattle.model.specs.Guard.{guard_at}
 use Rattle.guard.specs.declared.Seen.TheVariants.{UpTo}
-use Rattle.guard.proofs.Guards.{none-ends, one-ends}
+use Rattle.guard.proofs.Guards.{none_ends, one_ends}
 use borrow.Author.Rules.{rules}
 use Rattle.guard.proofs.guard_fills.Statement.{statement}
 use Rattle.guard.proofs.guard_fills.Tie as tie
@@ -22,15 +22,15 @@ enum_told c = search rules
 
 returns : tie.Need-returns
 returns c = let a = c.before.before.before.before.before.args in
-    let x = guardAt guardLimit a.variables a.clocks a.b.now a.at a.end in
-    sym (none-ends 0 0 (0 ∷ 0 ∷ []) x a.end (sym c.before.before.guard-seen.ensures ∙ c.enum_told.given.1))
+    let x = guard_at guard_limit a.variables a.clocks a.b.now a.at a.end in
+    sym (none_ends 0 0 (0 ∷ 0 ∷ []) x a.end (sym c.before.before.guard-seen.ensures ∙ c.enum_told.given.1))
 
 returns-2 : tie.Need-returns-2
 returns-2 c = let a = c.before.before.before.before.before.before.args in
-    let x = guardAt guardLimit a.variables a.clocks a.b.now a.at a.end in
+    let x = guard_at guard_limit a.variables a.clocks a.b.now a.at a.end in
     let p = c.before.all.given.0 in
     let e : c.before.before.before.guard-seen.result ≡ UpTo p.0 p.1.0 p.1.1.0 p.1.1.1.0 = cc in
-    sym (one-ends 0 0 (0 ∷ 0 ∷ []) x a.end p.0 p.1.1.1.0 p.1.0 p.1.1.0 (sym c.before.before.before.guard-seen.ensures ∙ e))
+    sym (one_ends 0 0 (0 ∷ 0 ∷ []) x a.end p.0 p.1.1.1.0 p.1.0 p.1.1.0 (sym c.before.before.before.guard-seen.ensures ∙ e))
 
 pub guard-fills-spec : {M : Type 1} → statement M
 guard-fills-spec =

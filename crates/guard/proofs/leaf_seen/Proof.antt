@@ -6,7 +6,7 @@ use borrow.Author.Tests.{leb-true}
 use Rattle.model.specs.Bytes.{byte_at}
 use Rattle.model.specs.Guard.{holds, largest}
 use Rattle.model.proofs.Basics.{and_left}
-use Rattle.guard.proofs.Guards.{leaf-always, leaf-variable, leaf-no-variable, leaf-clock, leaf-no-clock}
+use Rattle.guard.proofs.Guards.{leaf_always, leaf_variable, leaf_no_variable, leaf_clock, leaf_no_clock}
 use borrow.Author.Rules.{rules}
 use Rattle.guard.proofs.leaf_seen.Statement.{statement}
 use Rattle.guard.proofs.leaf_seen.Tie as tie
@@ -23,7 +23,7 @@ constant-requires c κs = search rules
 returns : tie.Need-returns
 unfolding holds largest
 returns c = let a = c.before.before.before.before.before.args in
-    rw (leaf-always a.q.variables a.q.clocks a.b.now a.at a.end (sym c.before.before.byte.ensures.0 ∙ c.before.if1.true), c.constant.ensures)
+    rw (leaf_always a.q.variables a.q.clocks a.b.now a.at a.end (sym c.before.before.byte.ensures.0 ∙ c.before.if1.true), c.constant.ensures)
 
 has-variable-requires : tie.Need-has-variable-requires
 has-variable-requires c κs = search rules
@@ -49,13 +49,13 @@ unfolding holds largest
 returns-2 c = let a = c.before.before.before.before.before.before.before.before.before.before.args in
     let e = sym c.before.before.before.before.before.before.before.byte.ensures.0 ∙ c.before.before.before.before.before.if2.true in
     let h = sym c.before.before.before.before.has-variable.ensures ∙ c.before.before.before.if3.true in
-    rw (leaf-variable a.q.variables a.q.clocks a.b.now a.at a.end e h, ← c.before.before.byte2.ensures.0, c.constant2.ensures, c.before.has-bit.ensures)
+    rw (leaf_variable a.q.variables a.q.clocks a.b.now a.at a.end e h, ← c.before.before.byte2.ensures.0, c.constant2.ensures, c.before.has-bit.ensures)
 
 returns-3 : tie.Need-returns-3
 returns-3 c = let a = c.before.before.before.before.before.before.before.args in
     let e = sym c.before.before.before.before.byte.ensures.0 ∙ c.before.before.if2.true in
     let h = sym c.before.has-variable.ensures ∙ c.if3.false in
-    rw (leaf-no-variable a.q.variables a.q.clocks a.b.now a.at a.end e h)
+    rw (leaf_no_variable a.q.variables a.q.clocks a.b.now a.at a.end e h)
 
 has-clock-requires : tie.Need-has-clock-requires
 has-clock-requires c κs = search rules
@@ -84,14 +84,14 @@ returns-4 : tie.Need-returns-4
 returns-4 c = let a = c.before.before.before.before.before.before.before.before.before.before.args in
     let code = c.before.before.before.before.before.before.before.byte.ensures.0 in
     let h = sym c.before.before.before.before.has-clock.ensures ∙ c.before.before.before.if4.true in
-    let r = leaf-clock a.q.variables a.q.clocks a.b.now a.at a.end (λ p. c.before.before.before.before.before.before.if1.false (code ∙ p)) (λ p. c.before.before.before.before.before.if2.false (code ∙ p)) h in
+    let r = leaf_clock a.q.variables a.q.clocks a.b.now a.at a.end (λ p. c.before.before.before.before.before.before.if1.false (code ∙ p)) (λ p. c.before.before.before.before.before.if2.false (code ∙ p)) h in
     rw (r, ← code, ← c.before.before.byte3.ensures.0, ← c.before.byte4.ensures.0) c.clock-seen.ensures
 
 returns-5 : tie.Need-returns-5
 returns-5 c = let a = c.before.before.before.before.before.before.before.args in
     let code = c.before.before.before.before.byte.ensures.0 in
     let h = sym c.before.has-clock.ensures ∙ c.if4.false in
-    rw (leaf-no-clock a.q.variables a.q.clocks a.b.now a.at a.end (λ p. c.before.before.before.if1.false (code ∙ p)) (λ p. c.before.before.if2.false (code ∙ p)) h)
+    rw (leaf_no_clock a.q.variables a.q.clocks a.b.now a.at a.end (λ p. c.before.before.before.if1.false (code ∙ p)) (λ p. c.before.before.if2.false (code ∙ p)) h)
 
 pub leaf-seen-spec : {M : Type 1} → statement M
 leaf-seen-spec =

@@ -1,5 +1,5 @@
 use borrow.Author.Tests.{eq-eqb, ne_eqb}
-use Rattle.model.specs.Kinds.{deviceAt}
+use Rattle.model.specs.Kinds.{device_at}
 use borrow.Author.Rules.{rules}
 use Rattle.kinds.proofs.device_at.Statement.{statement}
 use Rattle.kinds.proofs.device_at.Tie as tie
@@ -14,7 +14,7 @@ implied-device-requires : tie.Need-implied-device-requires
 implied-device-requires c κs = search rules
 
 returns : tie.Need-returns
-unfolding deviceAt
+unfolding device_at
 returns c = rw (← c.before.before.before.byte.ensures.0, eq-eqb _ _ c.before.before.if1.true, ← c.before.byte2.ensures.0) c.implied-device.ensures
 
 add-byte : tie.Need-overflow-add-byte
@@ -24,7 +24,7 @@ byte-requires-3 : tie.Need-byte-requires-3
 byte-requires-3 c κs = search rules
 
 returns-2 : tie.Need-returns-2
-unfolding deviceAt
+unfolding device_at
 returns-2 c = rw (← c.before.before.byte.ensures.0, ne_eqb _ _ c.before.if1.false) c.byte3.ensures.0
 
 pub device-at-spec : {M : Type 1} → statement M

@@ -1,7 +1,7 @@
 use native.Mathlib.Omega.{arith}
 use mathlib.Core.Path.{ap, ◌∙◌}
-use Rattle.model.specs.Kinds.{versionAt, kindAt}
-use Rattle.model.specs.Table.{transitionAt}
+use Rattle.model.specs.Kinds.{version_at, kind_at}
+use Rattle.model.specs.Table.{transition_at}
 use Rattle.model.proofs.KindForm.{kind-most}
 use borrow.Author.Rules.{rules}
 use Rattle.kinds.proofs.transitions_at.Statement.{statement}
@@ -14,11 +14,11 @@ record-at-requires : tie.Need-record-at-requires
 record-at-requires c κs = search rules
 
 returns : tie.Need-returns
-unfolding transitionAt
+unfolding transition_at
 returns c =
     let b = c.before.before.before.args.table.now in (
-      c.record-at.ensures ∙ ap (kindAt (versionAt b)) c.before.byte.ensures.0,
-      omega (arith, c.record-at.ensures, kind-most (versionAt b) c.before.byte.result 255 (omega arith)),
+      c.record-at.ensures ∙ ap (kind_at (version_at b)) c.before.byte.ensures.0,
+      omega (arith, c.record-at.ensures, kind-most (version_at b) c.before.byte.result 255 (omega arith)),
     )
 
 pub transitions-at-spec : {M : Type 1} → statement M

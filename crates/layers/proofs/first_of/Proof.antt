@@ -3,18 +3,18 @@ use Prim.Native.Nat.{◌-◌}
 use native.Mathlib.Omega.{arith}
 use mathlib.Core.Path.{◌≡◌, refl, sym, ap, ◌∙◌}
 use borrow.Author.Rules.{rules}
-use Rattle.model.specs.Layers.{firstFrom}
-use Rattle.situation.specs.Rows.{heardOf}
-use Rattle.steps.specs.Stepping.{arrivalOf, arriveFrom}
-use Rattle.layers.specs.Into.{leadsTo}
-use Rattle.layers.proofs.Moves.{arrives_in, arrives-out, first-here, first-later, first-end}
+use Rattle.model.specs.Layers.{first_from}
+use Rattle.situation.specs.Rows.{heard_of}
+use Rattle.steps.specs.Stepping.{arrival_of, arrive_from}
+use Rattle.layers.specs.Into.{leads_to}
+use Rattle.layers.proofs.Moves.{arrives_in, arrives_out, first-here, first-later, first-end}
 use Rattle.layers.proofs.first_of.Statement.{statement}
 use Rattle.layers.proofs.first_of.Tie as tie
 
 abbrev invariant-loop : tie.invariant-loop
 invariant-loop table offsets h heard s moves scratch to k₀ k =
-    let test = leadsTo (arriveFrom table offsets h (heardOf heard) s) scratch to.start to.size in
-    firstFrom test (moves.hi - moves.lo) moves.lo ≡ firstFrom test (moves.hi - k) k
+    let test = leads_to (arrive_from table offsets h (heard_of heard) s) scratch to.start to.size in
+    first_from test (moves.hi - moves.lo) moves.lo ≡ first_from test (moves.hi - k) k
 
 abbrev decreases-loop : tie.decreases-loop
 decreases-loop table offsets h heard s moves scratch to k₀ k = moves.hi - k
@@ -32,7 +32,7 @@ returns : tie.Need-returns invariant-loop decreases-loop
 returns c =
     let called = c.before.before.before in
     let test = called.before in
-    let (here, there) = arrives_in _ _ _ (sym (ap arrivalOf c.before.z.given.1) ∙ called.leads.ensures) in
+    let (here, there) = arrives_in _ _ _ (sym (ap arrival_of c.before.z.given.1) ∙ called.leads.ensures) in
     (sym (test.before.before.loop.invariant ∙ first-here _ _ _ test.if1.true here), λ l. there)
 
 enum_told : tie.Need-enum-told invariant-loop decreases-loop
@@ -49,7 +49,7 @@ loop-again c =
     let called = c.before.before in
     let test = called.before in
     test.before.before.loop.invariant
-    ∙ first-later _ _ _ test.if1.true (arrives-out _ _ (sym (ap arrivalOf c.enum_told.given.1) ∙ called.leads.ensures))
+    ∙ first-later _ _ _ test.if1.true (arrives_out _ _ (sym (ap arrival_of c.enum_told.given.1) ∙ called.leads.ensures))
 
 returns-2 : tie.Need-returns-2 invariant-loop decreases-loop
 returns-2 c = (sym (c.before.before.loop.invariant ∙ first-end _ _ _ c.if1.false), λ l. absurd (omega (arith, c.if1.false)))

@@ -2,7 +2,7 @@
 use mathlib.Core.Path.{sym}
 use borrow.Author.Rules.{rules}
 use borrow.Author.Tests.{lt-ltb, le-ltb}
-use Rattle.layers.specs.Into.{arrivalIn}
+use Rattle.layers.specs.Into.{arrival_in}
 use Rattle.layers.proofs.leads.Statement.{statement}
 use Rattle.layers.proofs.leads.Tie as tie
 
@@ -16,7 +16,7 @@ enum-known-z : tie.Need-enum-known-z
 enum-known-z c = search rules
 
 returns : tie.Need-returns
-unfolding arrivalIn
+unfolding arrival_in
 returns c =
     let z = c.before.before.z.given in
     simp (sym c.before.before.before.before.arrive.ensures, z.1, le-ltb _ _ c.if1.true)
@@ -25,18 +25,18 @@ has-requires : tie.Need-has-requires
 has-requires c κs = search rules
 
 returns-2 : tie.Need-returns-2
-unfolding arrivalIn
+unfolding arrival_in
 returns-2 c = simp (sym c.before.before.arrive.ensures, c.enum_told.given.1)
 
 returns-3 : tie.Need-returns-3
-unfolding arrivalIn
+unfolding arrival_in
 returns-3 c =
     let test = c.before.before in
     let z = test.before.before.z.given in
     simp (sym test.before.before.before.before.arrive.ensures, z.1, lt-ltb _ _ test.if1.false, sym c.before.has.ensures, c.if2.true)
 
 returns-4 : tie.Need-returns-4
-unfolding arrivalIn
+unfolding arrival_in
 returns-4 c =
     let test = c.before.before in
     let z = test.before.before.z.given in

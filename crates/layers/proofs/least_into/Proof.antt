@@ -1,7 +1,7 @@
 -- `layers::least_into` meets its contract.
 use native.Mathlib.Omega.{arith}
 use borrow.Author.Rules.{rules}
-use Rattle.layers.proofs.Moves.{first-kept, first-other, first-none}
+use Rattle.layers.proofs.Moves.{first-kept, first_other, first_none}
 use Rattle.layers.proofs.least_into.Statement.{statement}
 use Rattle.layers.proofs.least_into.Tie as tie
 
@@ -33,7 +33,7 @@ returns-2 c =
     let kept = test.before.before.before in
     let worth = kept.before in
     rw (← worth.before.situation-of.ensures) (
-      first-other _ (worth.worth.ensures _ _) _ _ _ _ kept.first_of.ensures.0 test.if1.false _ other.first-of2.ensures.0 c.if2.true,
+      first_other _ (worth.worth.ensures _ _) _ _ _ _ kept.first_of.ensures.0 test.if1.false _ other.first-of2.ensures.0 c.if2.true,
       λ l. other.first-of2.ensures.1 c.if2.true,
     )
 
@@ -44,7 +44,7 @@ returns-3 c =
     let kept = test.before.before.before in
     let worth = kept.before in
     rw (← worth.before.situation-of.ensures) (
-      first-none _ (worth.worth.ensures _ _) _ _ _ _ kept.first_of.ensures.0 test.if1.false _ other.first-of2.ensures.0 c.if2.false,
+      first_none _ (worth.worth.ensures _ _) _ _ _ _ kept.first_of.ensures.0 test.if1.false _ other.first-of2.ensures.0 c.if2.false,
       λ l. absurd (omega arith),
     )
 

@@ -3,11 +3,11 @@ use Prim.Native.Nat.{◌+◌}
 use native.Mathlib.Omega.{arith}
 use mathlib.Core.Path.{sym, subst}
 use borrow.Author.Rules.{rules}
-use Rattle.model.specs.Situation.{firstAdd}
-use Rattle.situation.specs.Rows.{heardOf}
-use Rattle.steps.specs.Stepping.{arriveFrom}
+use Rattle.model.specs.Situation.{first_add}
+use Rattle.situation.specs.Rows.{heard_of}
+use Rattle.steps.specs.Stepping.{arrive_from}
 use Rattle.situation.specs.declared.Heard.{Heard}
-use Rattle.steps.proofs.Useless.{no-keep, no-transition, no-addition, no-addition-there, air-taken}
+use Rattle.steps.proofs.Useless.{no_keep, no_transition_lem, no_addition, no_addition_there, air_taken}
 use Rattle.layers.specs.Into.{Enough}
 use Rattle.layers.proofs.worth.Statement.{statement}
 use Rattle.layers.proofs.worth.Tie as tie
@@ -16,13 +16,13 @@ returns : tie.Need-returns
 returns c o h =
     let a = c.before.before.before.args in
     let t = a.table.now in
-    let r = heardOf a.heard in
+    let r = heard_of a.heard in
     record {
       keeps = omega arith;
       from = omega arith;
       ends = omega arith;
-      between = λ k l m. air-taken t o h a.s k r c.if1.true (λ e. omega arith);
-      beyond = λ k l m. air-taken t o h a.s k r c.if1.true (λ e. omega arith);
+      between = λ k l m. air_taken t o h a.s k r c.if1.true (λ e. omega arith);
+      beyond = λ k l m. air_taken t o h a.s k r c.if1.true (λ e. omega arith);
     }
 
 transitions-requires : tie.Need-transitions-requires
@@ -43,13 +43,13 @@ returns-2 c o h =
     let t = a.table.now in
     let called = c.before.before.transitions in
     let count = called.ensures in
-    subst (λ (r : Heard). Enough (arriveFrom t o h (heardOf r) a.s) 0 (firstAdd + called.result)) (sym c.enum_told.given.1)
+    subst (λ (r : Heard). Enough (arrive_from t o h (heard_of r) a.s) 0 (first_add + called.result)) (sym c.enum_told.given.1)
     (record {
       keeps = omega arith;
       from = omega arith;
       ends = omega arith;
-      between = λ k l m. no-keep t o h a.s k m;
-      beyond = λ k l m. no-addition t o h a.s k (omega arith);
+      between = λ k l m. no_keep t o h a.s k m;
+      beyond = λ k l m. no_addition t o h a.s k (omega arith);
     })
 
 returns-3 : tie.Need-returns-3
@@ -58,13 +58,13 @@ returns-3 c o h =
     let t = a.table.now in
     let called = c.before.before.transitions in
     let count = called.ensures in
-    subst (λ (r : Heard). Enough (arriveFrom t o h (heardOf r) a.s) called.result firstAdd) (sym c.enum-told2.given.1)
+    subst (λ (r : Heard). Enough (arrive_from t o h (heard_of r) a.s) called.result first_add) (sym c.enum-told2.given.1)
     (record {
       keeps = omega arith;
       from = omega arith;
       ends = omega arith;
-      between = λ k l m. no-transition t o h a.s k _ (omega arith) m;
-      beyond = λ k l m. no-addition-there t o h a.s k _ l;
+      between = λ k l m. no_transition_lem t o h a.s k _ (omega arith) m;
+      beyond = λ k l m. no_addition_there t o h a.s k _ l;
     })
 
 pub worth-spec : {M : Type 1} → statement M

@@ -1,7 +1,7 @@
 use borrow.Author.Rules.{rules}
 use mathlib.Core.Path.{sym, ◌∙◌}
 use Rattle.frame.proofs.Answers.{stops, goes}
-use Rattle.lent.specs.Lent.{lentAnswer}
+use Rattle.lent.specs.Lent.{lent_answer}
 use Rattle.lent.proofs.lent_answer.Statement.{statement}
 use Rattle.lent.proofs.lent_answer.Tie as tie
 
@@ -15,11 +15,11 @@ sound-requires : tie.Need-sound-requires
 sound-requires c κs = search rules
 
 returns : tie.Need-returns
-unfolding lentAnswer
+unfolding lent_answer
 returns c = rw (← c.before.before.before.scratch-answer.ensures, ← c.before.before.room-answer.ensures, goes _ _ (sym c.before.sound.ensures ∙ c.if1.true))
 
 returns-2 : tie.Need-returns-2
-unfolding lentAnswer
+unfolding lent_answer
 returns-2 c = rw (← c.before.before.before.scratch-answer.ensures, ← c.before.before.room-answer.ensures, stops _ _ (sym c.before.sound.ensures ∙ c.if1.false))
 
 pub lent-answer-spec : {M : Type 1} → statement M

@@ -4,7 +4,7 @@ use mathlib.Core.Path.{◌≡◌, ap, ◌∙◌}
 use lib.ListN.{length, take, drop, length-drop}
 use lib.Seq.{take_all}
 use borrow.Author.Rules.{rules}
-use Rattle.model.specs.Desk.{tableLength}
+use Rattle.model.specs.Desk.{table_length}
 use Rattle.lines.proofs.Judged.{judging}
 use Rattle.lines.proofs.judge.Statement.{statement}
 use Rattle.lines.proofs.judge.Tie as tie
@@ -51,7 +51,7 @@ returns c =
     let v = c.before.before.before.before.before.before.before.before.before.validate in
     let t = c.before.before.before.before.before.before.before.before.before.before.before.before.before.before.table-length in
     let files = a.files.now in
-    let end : t.result - 0 ≡ tableLength files = omega (arith, t.ensures.0) in
+    let end : t.result - 0 ≡ table_length files = omega (arith, t.ensures.0) in
     judging files _ _ a.budget a.scratch.now a.room.now
     (ap (λ (k : ℕ). take k files) end)
     (take_all (length files - t.result) (drop t.result files) (omega (arith, length-drop t.result files)) ∙ ap (λ (k : ℕ). drop k files) t.ensures.0)

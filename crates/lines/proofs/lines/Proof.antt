@@ -3,7 +3,7 @@ use native.Mathlib.Omega.{arith}
 use mathlib.Core.Path.{◌≡◌, ap}
 use lib.ListN.{length, take}
 use borrow.Author.Rules.{rules}
-use Rattle.lines.proofs.Judged.{lines-short, lines_long, lines-judged}
+use Rattle.lines.proofs.Judged.{lines_short, lines_long, lines_judged}
 use Rattle.lines.proofs.lines.Statement.{statement}
 use Rattle.lines.proofs.lines.Tie as tie
 
@@ -16,7 +16,7 @@ same_length c = search rules
 returns : tie.Need-returns
 returns c =
     let a = c.before.before.before.before.before.before.before.before.before.args in
-    lines-short a.input.now a.scratch.now a.room.now (omega arith) c.before.before.refused-line.ensures
+    lines_short a.input.now a.scratch.now a.room.now (omega arith) c.before.before.refused-line.ensures
 
 refused-line-requires-2 : tie.Need-refused-line-requires-2
 refused-line-requires-2 c κs = search rules
@@ -60,7 +60,7 @@ returns-3 : tie.Need-returns-3
 returns-3 c =
     let a = c.before.before.before.before.before.before.before.before.before.before.before.before.before.before.before.before.before.before.args in
     let end : length a.input.now - 4 - 0 ≡ length a.input.now - 4 = omega arith in
-    lines-judged a.input.now a.scratch.now a.room.now (omega arith) (omega arith)
+    lines_judged a.input.now a.scratch.now a.room.now (omega arith) (omega arith)
     (ap (λ (k : ℕ). take k a.input.now) end) c.before.before.before.before.before.before.before.before.before.before.budget.ensures c.before.before.before.before.before.before.judge.ensures
 
 pub lines-spec : {M : Type 1} → statement M

@@ -4,12 +4,12 @@ use lib.ListN.{length}
 use borrow.Author.Tests.{le-leb, lt-leb}
 use borrow.Author.Rules.{rules}
 use Rattle.model.specs.Bytes.{word_at}
-use Rattle.model.specs.Desk.{tableLength}
+use Rattle.model.specs.Desk.{table_length}
 use Rattle.lines.proofs.table_length.Statement.{statement}
 use Rattle.lines.proofs.table_length.Tie as tie
 
 returns : tie.Need-returns
-unfolding tableLength
+unfolding table_length
 returns c = (rw (lt-leb _ _ c.if1.true), omega arith)
 
 word-requires : tie.Need-word-requires
@@ -22,7 +22,7 @@ add-stated : tie.Need-overflow-add-stated
 add-stated c = search rules
 
 returns-2 : tie.Need-returns-2
-unfolding tableLength
+unfolding table_length
 returns-2 c =
     let files = c.before.before.before.before.args.files.now in
     let all : 2 ≤ length files = omega arith in
@@ -30,7 +30,7 @@ returns-2 c =
     (rw (le-leb _ _ all, le-leb _ _ fits) (omega arith), omega arith)
 
 returns-3 : tie.Need-returns-3
-unfolding tableLength
+unfolding table_length
 returns-3 c =
     let files = c.before.before.before.before.args.files.now in
     let all : 2 ≤ length files = omega arith in

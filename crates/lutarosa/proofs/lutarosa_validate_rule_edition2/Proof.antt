@@ -1,5 +1,5 @@
 use borrow.Author.Rules.{rules}
-use Rattle.lutarosa.proofs.Handed.{validated-under}
+use Rattle.lutarosa.proofs.Handed.{validated_under}
 use Rattle.lutarosa.proofs.lutarosa_validate_rule_edition2.Statement.{statement}
 use Rattle.lutarosa.proofs.lutarosa_validate_rule_edition2.Tie as tie
 
@@ -20,7 +20,7 @@ same-length-2 c = search rules
 
 returns : tie.Need-returns
 returns c =
-    validated-under c.before.before.before.before.before.before.before.before.rule-of.ensures
+    validated_under c.before.before.before.before.before.before.before.before.rule-of.ensures
     c.before.before.before.before.before.validate-under.ensures c.ruled-numbers.ensures
 
 pub lutarosa-validate-rule-edition2-spec : {M : Type 1} → statement M

@@ -2,7 +2,7 @@ use borrow.Author.Rules.{rules}
 use Prim.Native.Nat.{ℕ}
 use mathlib.Core.Path.{ap₂, ◌∙◌}
 use mathlib.Core.List.{[], ◌∷◌}
-use Rattle.situation.specs.Numbering.{numberBy, cappedBy}
+use Rattle.situation.specs.Numbering.{number_by, capped_by}
 use Rattle.measures.proofs.first_number.Statement.{statement}
 use Rattle.measures.proofs.first_number.Tie as tie
 
@@ -16,10 +16,10 @@ number-requires : tie.Need-number-requires
 number-requires c κs = search rules
 
 returns : tie.Need-returns
-unfolding cappedBy
+unfolding capped_by
 returns c =
     c.number.ensures
-    ∙ ap₂ (λ (a b : ℕ). numberBy c.before.before.before.args.h (record { state = 0; variables = 0; clocks = a ∷ b ∷ []; air = 0; window = 0 }))
+    ∙ ap₂ (λ (a b : ℕ). number_by c.before.before.before.args.h (record { state = 0; variables = 0; clocks = a ∷ b ∷ []; air = 0; window = 0 }))
     c.before.before.first-clock.ensures c.before.first-clock2.ensures
 
 pub first-number-spec : {M : Type 1} → statement M

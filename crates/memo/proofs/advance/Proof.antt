@@ -1,6 +1,6 @@
 use native.Mathlib.Omega.{arith}
 use mathlib.Core.Path.{refl, ◌∙◌}
-use Rattle.situation.specs.Rows.{heardOf}
+use Rattle.situation.specs.Rows.{heard_of}
 use Rattle.memo.proofs.Entries.{recalled, kept}
 use borrow.Author.Rules.{rules}
 use Rattle.memo.proofs.advance.Statement.{statement}
@@ -91,7 +91,7 @@ returns-2 c =
       refl,
       refl,
       λ m n given within sized known. (
-        recalled m placed.place.result tag.tag_of.result (heardOf a.heard) tag.tag_of.ensures a.memo.now a.cur.now got.get.new.1.1.0
+        recalled m placed.place.result tag.tag_of.result (heard_of a.heard) tag.tag_of.ensures a.memo.now a.cur.now got.get.new.1.1.0
             got.get.ensures.0 p n within.words same.0 same.1 got.get.ensures.1 known,
         known,
       ),
@@ -161,7 +161,7 @@ returns-3 c =
       λ m n given within sized known.
           let is = to.4 m n given within sized in (
             is,
-            kept m placed.place.result tag.tag_of.result (heardOf a.heard) tag.tag_of.ensures a.memo.now a.cur.now
+            kept m placed.place.result tag.tag_of.result (heard_of a.heard) tag.tag_of.ensures a.memo.now a.cur.now
                 advanced.advance2.new.1.1.1.1.1.1.1.0 to.0 p begun.begin.new.0 put.put.new.0 entry.0 entry.1 entry.2
                 put.put.ensures.0 put.put.ensures.1 n within.words is known,
           ),

@@ -2,7 +2,7 @@ use Prim.Native.Nat.{ℕ, ◌-◌, ◌≤◌, ◌<◌}
 use native.Mathlib.Omega.{arith}
 use mathlib.Core.Path.{◌≡◌, refl, ◌∙◌}
 use lib.ListN.{length, get_or, length-set}
-use Rattle.memo.proofs.Entries.{clear-more, known-none}
+use Rattle.memo.proofs.Entries.{clear_more, known_none}
 use borrow.Author.Rules.{rules}
 use Rattle.memo.proofs.forget.Statement.{statement}
 use Rattle.memo.proofs.forget.Tie as tie
@@ -32,7 +32,7 @@ loop-again : tie.Need-loop-preserved invariant-loop decreases-loop
 loop-again c =
     let at-loop = c.before in
     let memo = at-loop.loop.memo in
-    (omega arith, length-set memo _ _ ∙ at-loop.loop.invariant.1, clear-more at-loop.loop.k memo (omega arith) at-loop.loop.invariant.2)
+    (omega arith, length-set memo _ _ ∙ at-loop.loop.invariant.1, clear_more at-loop.loop.k memo (omega arith) at-loop.loop.invariant.2)
 
 same_length : tie.Need-same-length invariant-loop decreases-loop
 same_length c = search rules
@@ -40,7 +40,7 @@ same_length c = search rules
 returns : tie.Need-returns invariant-loop decreases-loop
 returns c =
     let at-loop = c.before in
-    (at-loop.loop.invariant.1, λ m n. known-none m n at-loop.loop.memo (λ i l. at-loop.loop.invariant.2 i (omega arith)))
+    (at-loop.loop.invariant.1, λ m n. known_none m n at-loop.loop.memo (λ i l. at-loop.loop.invariant.2 i (omega arith)))
 
 pub forget-spec : {M : Type 1} → statement M
 forget-spec =

@@ -1,7 +1,7 @@
 use native.Mathlib.Omega.{arith}
 use mathlib.Core.Path.{refl, ◌∙◌}
-use Rattle.situation.specs.Rows.{heardOf}
-use Rattle.memo.proofs.Entries.{recalled-back, kept_back}
+use Rattle.situation.specs.Rows.{heard_of}
+use Rattle.memo.proofs.Entries.{recalled_back, kept_back}
 use lib.ListN.{length}
 use borrow.Author.Tests.{eqb-true, not-false}
 use borrow.Author.Rules.{rules}
@@ -100,7 +100,7 @@ returns-2 c =
       refl,
       refl,
       λ m n given within long sized known. (
-        recalled-back m placed.place-of-both.result tag.tag_of.result (heardOf a.heard) tag.tag_of.ensures a.memo.now a.next.now a.row.now
+        recalled_back m placed.place-of-both.result tag.tag_of.result (heard_of a.heard) tag.tag_of.ensures a.memo.now a.next.now a.row.now
             got.get.new.1.1.0 (eqb-true (length a.next.now) (length a.row.now) (not-false _ other.if2.false)) got.get.ensures.0 p n within.words same.0 same.1 same.2 got.get.ensures.1 known,
         known,
       ),
@@ -177,7 +177,7 @@ returns-3 c =
       λ m n given within long sized known.
           let is = to.4 m n given within sized in (
             is,
-            kept_back m placed.place-of-both.result tag.tag_of.result (heardOf a.heard) tag.tag_of.ensures a.memo.now a.next.now a.row.now
+            kept_back m placed.place-of-both.result tag.tag_of.result (heard_of a.heard) tag.tag_of.ensures a.memo.now a.next.now a.row.now
                 retreated.retreat2.new.1.1.1.1.1.1.1.1.0 (eqb-true (length a.next.now) (length a.row.now) (not-false _ other.if2.false)) to.0 p begun.begin-both.new.0 put.put.new.0 entry.0
                 entry.1 entry.2 entry.3 put.put.ensures.0 put.put.ensures.1 n within.words is known,
           ),

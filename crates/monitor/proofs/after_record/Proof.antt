@@ -1,6 +1,6 @@
 use mathlib.Core.Path.{◌≡◌, sym, ◌∙◌}
 use lib.ListN.{length, length-map}
-use Rattle.monitor.proofs.Records.{after-with}
+use Rattle.monitor.proofs.Records.{after_with}
 use borrow.Author.Rules.{rules}
 use Rattle.monitor.proofs.after_record.Statement.{statement}
 use Rattle.monitor.proofs.after_record.Tie as tie
@@ -54,7 +54,7 @@ returns c =
     let byte5 = c.before.before.before.before.before.before.before.before.byte.ensures.0 in
     let config = s.args.c in
     let two : length config.clocks ≡ 2 = sym (length-map config.clocks (λ x. x)) ∙ s.well-formed.1.1.0.1.1.1.1.0.1.0.1 in
-    after-with table s.args.at config c.byte5.result c.before.variables-after.result
+    after_with table s.args.at config c.byte5.result c.before.variables-after.result
     c.before.before.before.before.before.before.clock-after.result
     c.before.before.before.before.before.clock-after2.result
     two

@@ -2,11 +2,11 @@ use Prim.Native.Nat.{ℕ, ◌+◌}
 use native.Mathlib.Omega.{arith}
 use mathlib.Core.Path.{sym, ap, ◌∙◌}
 use Rattle.model.specs.Bytes.{byte_at}
-use Rattle.model.specs.Kinds.{versionAt, kindAt}
-use Rattle.model.specs.Table.{kindsAt}
-use Rattle.model.proofs.Basics.{getD-tab, getD-tab-past}
+use Rattle.model.specs.Kinds.{version_at, kind_at}
+use Rattle.model.specs.Table.{kinds_at}
+use Rattle.model.proofs.Basics.{get_or-tab, get_or_tab_past}
 use borrow.Author.Rules.{rules}
-use Rattle.monitor.specs.From.{monitorFrom}
+use Rattle.monitor.specs.From.{monitor_from}
 use Rattle.monitor.proofs.airtime_of.Statement.{statement}
 use Rattle.monitor.proofs.airtime_of.Tie as tie
 
@@ -14,8 +14,8 @@ byte-requires : tie.Need-byte-requires
 byte-requires c κs = search rules
 
 returns : tie.Need-returns
-unfolding monitorFrom
-returns c offsets = let b = c.before.before.before.args.table.now in sym (getD-tab-past (λ k. byte_at b (kindAt (versionAt b) k + 1)) 0 (kindsAt b) c.before.before.before.args.kind (omega arith))
+unfolding monitor_from
+returns c offsets = let b = c.before.before.before.args.table.now in sym (get_or_tab_past (λ k. byte_at b (kind_at (version_at b) k + 1)) 0 (kinds_at b) c.before.before.before.args.kind (omega arith))
 
 record-at-requires : tie.Need-record-at-requires
 record-at-requires c κs = search rules
@@ -30,12 +30,12 @@ byte-requires-2 : tie.Need-byte-requires-2
 byte-requires-2 c κs = search rules
 
 returns-2 : tie.Need-returns-2
-unfolding monitorFrom
+unfolding monitor_from
 returns-2 c offsets =
     let b = c.before.before.before.before.before.args.table.now in
     c.byte2.ensures.0
     ∙ ap (λ (at : ℕ). byte_at b (at + 1)) c.before.record-at.ensures
-    ∙ sym (getD-tab (λ k. byte_at b (kindAt (versionAt b) k + 1)) 0 (kindsAt b) c.before.before.before.before.before.args.kind (omega arith))
+    ∙ sym (get_or-tab (λ k. byte_at b (kind_at (version_at b) k + 1)) 0 (kinds_at b) c.before.before.before.before.before.args.kind (omega arith))
 
 pub airtime-of-spec : {M : Type 1} → statement M
 airtime-of-spec = tie.close (tie.spec byte-requires returns record-at-requires cast-byte add-byte byte-requires-2 returns-2)

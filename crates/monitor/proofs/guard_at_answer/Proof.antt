@@ -1,4 +1,4 @@
-use Rattle.monitor.proofs.Records.{guard-with}
+use Rattle.monitor.proofs.Records.{guard_with}
 use borrow.Author.Rules.{rules}
 use Rattle.monitor.proofs.guard_at_answer.Statement.{statement}
 use Rattle.monitor.proofs.guard_at_answer.Tie as tie
@@ -33,7 +33,7 @@ guard-answer-requires c κs = search rules
 returns : tie.Need-returns
 returns c =
     let a = c.before.before.before.before.before.before.before.args in
-    guard-with a.table.now a.at 0 a.c c.before.before.before.byte2.result c.before.before.byte3.result c.before.before.before.before.byte.result c.guard-answer.result
+    guard_with a.table.now a.at 0 a.c c.before.before.before.byte2.result c.before.before.byte3.result c.before.before.before.before.byte.result c.guard-answer.result
     c.before.before.before.byte2.ensures.0
     c.before.before.byte3.ensures.0
     c.before.before.before.before.byte.ensures.0

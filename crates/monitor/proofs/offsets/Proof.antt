@@ -1,25 +1,25 @@
 use mathlib.Core.List.{List, ◌++◌}
 use lib.ListN.{length, set, replicate}
 use lib.Seq.{append_snoc, set_at}
-use Rattle.monitor.specs.From.{offsetsOf}
+use Rattle.monitor.specs.From.{offsets_of}
 use Prim.Native.Nat.{ℕ, suc, ◌+◌, ◌*◌, ◌-◌, ◌≤◌, ◌<◌, min}
 use native.Mathlib.Omega.{arith}
 use native.Mathlib.Numerals.{add-one}
 use mathlib.Core.Path.{◌≡◌, refl, sym, ap, ◌∙◌}
-use Rattle.model.specs.Limits.{transitionLimit}
+use Rattle.model.specs.Limits.{transition_limit}
 use Rattle.model.specs.Bytes.{byte_at, tab, padded}
-use Rattle.model.specs.Table.{transitionsAt, transitionAt}
+use Rattle.model.specs.Table.{transitions_at, transition_at}
 use Rattle.model.proofs.Basics.{length-tab}
 use borrow.Author.Rules.{rules}
 use Rattle.monitor.proofs.offsets.Statement.{statement}
 use Rattle.monitor.proofs.offsets.Tie as tie
 
-next-record : (b : List ℕ) (j at length : ℕ) → at ≡ transitionAt b j → length ≡ byte_at b (at + 6) → at + (7 + length) ≡ transitionAt b (j + 1)
-unfolding transitionAt
-next-record b j at length e g =
-    let h : length ≡ byte_at b (transitionAt b j + 6) = g ∙ ap (λ (k : ℕ). byte_at b (k + 6)) e in
-    let s : at + (7 + length) ≡ transitionAt b (suc j) = omega arith in
-    s ∙ ap (transitionAt b) (sym (add-one j))
+next_record : (b : List ℕ) (j at length : ℕ) → at ≡ transition_at b j → length ≡ byte_at b (at + 6) → at + (7 + length) ≡ transition_at b (j + 1)
+unfolding transition_at
+next_record b j at length e g =
+    let h : length ≡ byte_at b (transition_at b j + 6) = g ∙ ap (λ (k : ℕ). byte_at b (k + 6)) e in
+    let s : at + (7 + length) ≡ transition_at b (suc j) = omega arith in
+    s ∙ ap (transition_at b) (sym (add-one j))
 
 -- one more offset in its place
 padded-more : (size : ℕ) (f : ℕ → ℕ) (i : ℕ) → i < size → (l : List ℕ) (v : ℕ) → l ≡ padded size (tab f i) → v ≡ f i → set l i v ≡ padded size (tab f (i + 1))
@@ -36,7 +36,7 @@ padded-more size f i h l v e is =
     ∙ ap (λ (n : ℕ). padded size (tab f n)) (sym (add-one i)))
 
 abbrev invariant-loop : tie.invariant-loop
-invariant-loop table found₀ count at₀ j₀ found at j = (j ≤ count) × (count ≡ min (transitionsAt table) transitionLimit) × (at ≡ transitionAt table j) × (at ≤ 773 + 262 * j) × (found ≡ padded transitionLimit (tab (transitionAt table) j))
+invariant-loop table found₀ count at₀ j₀ found at j = (j ≤ count) × (count ≡ min (transitions_at table) transition_limit) × (at ≡ transition_at table j) × (at ≤ 773 + 262 * j) × (found ≡ padded transition_limit (tab (transition_at table) j))
 
 abbrev decreases-loop : tie.decreases-loop
 decreases-loop table found₀ count at₀ j₀ found at j = count - j
@@ -85,22 +85,22 @@ loop-again : tie.Need-loop-preserved invariant-loop decreases-loop
 loop-again c =
     let l = c.before.before.loop in
     let table = c.before.before.before.before.before.before.args.table.now in
-    let next : l.at + (7 + c.byte.result) ≡ transitionAt table (l.j + 1) =
-    next-record table l.j l.at c.byte.result l.invariant.2 c.byte.ensures.0 in (
+    let next : l.at + (7 + c.byte.result) ≡ transition_at table (l.j + 1) =
+    next_record table l.j l.at c.byte.result l.invariant.2 c.byte.ensures.0 in (
       omega arith,
       l.invariant.1,
       next,
       omega arith,
-      padded-more transitionLimit (transitionAt table) l.j (omega arith) l.found l.at l.invariant.4 l.invariant.2,
+      padded-more transition_limit (transition_at table) l.j (omega arith) l.found l.at l.invariant.4 l.invariant.2,
     )
 
 returns : tie.Need-returns invariant-loop decreases-loop
-unfolding offsetsOf
+unfolding offsets_of
 returns c =
     let l = c.before.loop in
     let table = c.before.before.before.before.before.args.table.now in
-    let full : l.j ≡ min (transitionsAt table) transitionLimit = omega arith in
-    l.invariant.4 ∙ ap (λ (n : ℕ). padded transitionLimit (tab (transitionAt table) n)) full
+    let full : l.j ≡ min (transitions_at table) transition_limit = omega arith in
+    l.invariant.4 ∙ ap (λ (n : ℕ). padded transition_limit (tab (transition_at table) n)) full
 
 pub offsets-spec : {M : Type 1} → statement M
 offsets-spec =

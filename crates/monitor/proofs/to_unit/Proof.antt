@@ -4,11 +4,11 @@ use mathlib.Core.Path.{sym, ap, ◌∙◌}
 use mathlib.Core.Bool.{false}
 use lib.Dec.{eqb}
 use Rattle.model.specs.Bytes.{byte_at}
-use Rattle.model.specs.Kinds.{versionAt, kindAt}
-use Rattle.model.specs.Table.{kindsAt}
-use Rattle.model.proofs.Basics.{getD-tab, getD-tab-past}
+use Rattle.model.specs.Kinds.{version_at, kind_at}
+use Rattle.model.specs.Table.{kinds_at}
+use Rattle.model.proofs.Basics.{get_or-tab, get_or_tab_past}
 use borrow.Author.Rules.{rules}
-use Rattle.monitor.specs.From.{monitorFrom}
+use Rattle.monitor.specs.From.{monitor_from}
 use Rattle.monitor.proofs.to_unit.Statement.{statement}
 use Rattle.monitor.proofs.to_unit.Tie as tie
 
@@ -16,8 +16,8 @@ byte-requires : tie.Need-byte-requires
 byte-requires c κs = search rules
 
 returns : tie.Need-returns
-unfolding monitorFrom
-returns c offsets = let b = c.before.before.before.args.table.now in sym (getD-tab-past (λ k. eqb (byte_at b (kindAt (versionAt b) k)) 1) false (kindsAt b) c.before.before.before.args.kind (omega arith))
+unfolding monitor_from
+returns c offsets = let b = c.before.before.before.args.table.now in sym (get_or_tab_past (λ k. eqb (byte_at b (kind_at (version_at b) k)) 1) false (kinds_at b) c.before.before.before.args.kind (omega arith))
 
 record-at-requires : tie.Need-record-at-requires
 record-at-requires c κs = search rules
@@ -29,11 +29,11 @@ byte-requires-2 : tie.Need-byte-requires-2
 byte-requires-2 c κs = search rules
 
 returns-2 : tie.Need-returns-2
-unfolding monitorFrom
+unfolding monitor_from
 returns-2 c offsets =
     let b = c.before.before.before.before.before.args.table.now in
     ap (λ (x : ℕ). eqb x 1) (c.byte2.ensures.0 ∙ ap (byte_at b) c.before.record-at.ensures)
-    ∙ sym (getD-tab (λ k. eqb (byte_at b (kindAt (versionAt b) k)) 1) false (kindsAt b) c.before.before.before.before.before.args.kind (omega arith))
+    ∙ sym (get_or-tab (λ k. eqb (byte_at b (kind_at (version_at b) k)) 1) false (kinds_at b) c.before.before.before.before.before.args.kind (omega arith))
 
 pub to-unit-spec : {M : Type 1} → statement M
 to-unit-spec = tie.close (tie.spec byte-requires returns record-at-requires cast-byte byte-requires-2 returns-2)

@@ -1,6 +1,6 @@
 use native.Mathlib.Omega.{arith}
 use mathlib.Core.Path.{sym, ◌∙◌}
-use Rattle.monitor.proofs.Records.{tried-past, tried-at}
+use Rattle.monitor.proofs.Records.{tried-past, tried_at}
 use borrow.Author.Rules.{rules}
 use Rattle.monitor.proofs.tried.Statement.{statement}
 use Rattle.monitor.proofs.tried.Tie as tie
@@ -28,7 +28,7 @@ record-tried-requires c κs = search rules
 returns-2 : tie.Need-returns-2
 returns-2 c =
     let a = c.before.before.before.before.before.before.args in
-    c.record-tried.ensures ∙ tried-at a.table.now a.offsets.now a.j a.kind a.c c.before.short.result (omega arith) c.before.short.ensures.0
+    c.record-tried.ensures ∙ tried_at a.table.now a.offsets.now a.j a.kind a.c c.before.short.result (omega arith) c.before.short.ensures.0
 
 pub tried-spec : {M : Type 1} → statement M
 tried-spec =

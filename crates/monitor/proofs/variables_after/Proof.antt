@@ -3,7 +3,7 @@ use native.Mathlib.Omega.{arith}
 use mathlib.Core.Path.{sym, ap, ◌∙◌}
 use lib.Pow.{pow_pos}
 use borrow.Author.Rules.{rules}
-use Rattle.monitor.proofs.Masks.{changedMask, changed-mask, changed-all, one_shl}
+use Rattle.monitor.proofs.Masks.{changed_mask, changed_mask_lem, changed-all, one_shl}
 use Rattle.monitor.proofs.variables_after.Statement.{statement}
 use Rattle.monitor.proofs.variables_after.Tie as tie
 
@@ -14,13 +14,13 @@ rem-result : tie.Need-nonzero-rem-result
 rem-result c = let a = c.before.args in omega (arith, one_shl a.n c.if1.true, pow_pos a.n)
 
 returns : tie.Need-returns
-unfolding changedMask
+unfolding changed_mask
 returns c =
     let a = c.before.args in
-    ap (λ (x : ℕ). changedMask a.v a.set a.clear % x) (one_shl a.n c.if1.true) ∙ sym (changed-mask a.n a.v a.set a.clear)
+    ap (λ (x : ℕ). changed_mask a.v a.set a.clear % x) (one_shl a.n c.if1.true) ∙ sym (changed_mask_lem a.n a.v a.set a.clear)
 
 returns-2 : tie.Need-returns-2
-unfolding changedMask
+unfolding changed_mask
 returns-2 c =
     let a = c.before.args in
     sym (changed-all a.n a.v a.set a.clear (omega arith) (omega arith) (omega arith) (omega arith))

@@ -1,6 +1,6 @@
 use mathlib.Core.Path.{sym, ap, ◌∙◌}
 use borrow.Author.Rules.{rules}
-use Rattle.model.specs.Numbers.{checkingValues}
+use Rattle.model.specs.Numbers.{checking_values}
 use Rattle.numbers.proofs.checking_numbers.Statement.{statement}
 use Rattle.numbers.proofs.checking_numbers.Tie as tie
 
@@ -17,10 +17,10 @@ refusal-numbers-requires : tie.Need-refusal-numbers-requires
 refusal-numbers-requires c κs = search rules
 
 returns : tie.Need-returns
-returns c = c.numbered.ensures ∙ sym (ap checkingValues c.before.before.checking.given.1)
+returns c = c.numbered.ensures ∙ sym (ap checking_values c.before.before.checking.given.1)
 
 returns-2 : tie.Need-returns-2
-returns-2 c = c.refusal-numbers.ensures ∙ sym (ap checkingValues c.before.before.checking2.given.1)
+returns-2 c = c.refusal-numbers.ensures ∙ sym (ap checking_values c.before.before.checking2.given.1)
 
 pub checking-numbers-spec : {M : Type 1} → statement M
 checking-numbers-spec =

@@ -1,6 +1,6 @@
 use mathlib.Core.Path.{sym, ap, ◌∙◌}
 use borrow.Author.Rules.{rules}
-use Rattle.model.specs.Numbers.{readingValues}
+use Rattle.model.specs.Numbers.{reading_values}
 use Rattle.numbers.proofs.reading_numbers.Statement.{statement}
 use Rattle.numbers.proofs.reading_numbers.Tie as tie
 
@@ -17,10 +17,10 @@ refusal-numbers-requires : tie.Need-refusal-numbers-requires
 refusal-numbers-requires c κs = search rules
 
 returns : tie.Need-returns
-returns c = c.numbered.ensures ∙ sym (ap readingValues c.before.enum_told.given.1)
+returns c = c.numbered.ensures ∙ sym (ap reading_values c.before.enum_told.given.1)
 
 returns-2 : tie.Need-returns-2
-returns-2 c = c.refusal-numbers.ensures ∙ sym (ap readingValues c.before.before.reading.given.1)
+returns-2 c = c.refusal-numbers.ensures ∙ sym (ap reading_values c.before.before.reading.given.1)
 
 pub reading-numbers-spec : {M : Type 1} → statement M
 reading-numbers-spec =

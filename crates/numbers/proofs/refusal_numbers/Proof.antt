@@ -1,6 +1,6 @@
 use mathlib.Core.Path.{sym, ap, ◌∙◌}
 use borrow.Author.Rules.{rules}
-use Rattle.model.specs.Numbers.{refusalValues}
+use Rattle.model.specs.Numbers.{refusal_values}
 use Rattle.numbers.proofs.refusal_numbers.Statement.{statement}
 use Rattle.numbers.proofs.refusal_numbers.Tie as tie
 
@@ -137,70 +137,70 @@ numbered-requires-22 : tie.Need-numbered-requires-22
 numbered-requires-22 c κs = search rules
 
 returns : tie.Need-returns
-returns c = c.numbered.ensures ∙ sym (ap refusalValues c.before.enum_told.given.1)
+returns c = c.numbered.ensures ∙ sym (ap refusal_values c.before.enum_told.given.1)
 
 returns-2 : tie.Need-returns-2
-returns-2 c = c.numbered2.ensures ∙ sym (ap refusalValues c.before.enum-told2.given.1)
+returns-2 c = c.numbered2.ensures ∙ sym (ap refusal_values c.before.enum-told2.given.1)
 
 returns-3 : tie.Need-returns-3
-returns-3 c = c.numbered3.ensures ∙ sym (ap refusalValues c.before.before.refusal.given.1)
+returns-3 c = c.numbered3.ensures ∙ sym (ap refusal_values c.before.before.refusal.given.1)
 
 returns-4 : tie.Need-returns-4
-returns-4 c = c.numbered4.ensures ∙ sym (ap refusalValues c.before.before.refusal2.given.1)
+returns-4 c = c.numbered4.ensures ∙ sym (ap refusal_values c.before.before.refusal2.given.1)
 
 returns-5 : tie.Need-returns-5
-returns-5 c = c.numbered5.ensures ∙ sym (ap refusalValues c.before.before.refusal3.given.1)
+returns-5 c = c.numbered5.ensures ∙ sym (ap refusal_values c.before.before.refusal3.given.1)
 
 returns-6 : tie.Need-returns-6
-returns-6 c = c.numbered6.ensures ∙ sym (ap refusalValues c.before.before.refusal4.given.1)
+returns-6 c = c.numbered6.ensures ∙ sym (ap refusal_values c.before.before.refusal4.given.1)
 
 returns-7 : tie.Need-returns-7
-returns-7 c = c.numbered7.ensures ∙ sym (ap refusalValues c.before.enum-told3.given.1)
+returns-7 c = c.numbered7.ensures ∙ sym (ap refusal_values c.before.enum-told3.given.1)
 
 returns-8 : tie.Need-returns-8
-returns-8 c = c.numbered8.ensures ∙ sym (ap refusalValues c.before.before.refusal5.given.1)
+returns-8 c = c.numbered8.ensures ∙ sym (ap refusal_values c.before.before.refusal5.given.1)
 
 returns-9 : tie.Need-returns-9
-returns-9 c = c.numbered9.ensures ∙ sym (ap refusalValues c.before.enum-told4.given.1)
+returns-9 c = c.numbered9.ensures ∙ sym (ap refusal_values c.before.enum-told4.given.1)
 
 returns-10 : tie.Need-returns-10
-returns-10 c = c.numbered10.ensures ∙ sym (ap refusalValues c.before.enum-told5.given.1)
+returns-10 c = c.numbered10.ensures ∙ sym (ap refusal_values c.before.enum-told5.given.1)
 
 returns-11 : tie.Need-returns-11
-returns-11 c = c.numbered11.ensures ∙ sym (ap refusalValues c.before.enum-told6.given.1)
+returns-11 c = c.numbered11.ensures ∙ sym (ap refusal_values c.before.enum-told6.given.1)
 
 returns-12 : tie.Need-returns-12
-returns-12 c = c.numbered12.ensures ∙ sym (ap refusalValues c.before.before.refusal6.given.1)
+returns-12 c = c.numbered12.ensures ∙ sym (ap refusal_values c.before.before.refusal6.given.1)
 
 returns-13 : tie.Need-returns-13
-returns-13 c = c.numbered13.ensures ∙ sym (ap refusalValues c.before.before.refusal7.given.1)
+returns-13 c = c.numbered13.ensures ∙ sym (ap refusal_values c.before.before.refusal7.given.1)
 
 returns-14 : tie.Need-returns-14
-returns-14 c = c.numbered14.ensures ∙ sym (ap refusalValues c.before.enum-told7.given.1)
+returns-14 c = c.numbered14.ensures ∙ sym (ap refusal_values c.before.enum-told7.given.1)
 
 returns-15 : tie.Need-returns-15
-returns-15 c = c.numbered15.ensures ∙ sym (ap refusalValues c.before.enum-told8.given.1)
+returns-15 c = c.numbered15.ensures ∙ sym (ap refusal_values c.before.enum-told8.given.1)
 
 returns-16 : tie.Need-returns-16
-returns-16 c = c.numbered16.ensures ∙ sym (ap refusalValues c.before.before.refusal8.given.1)
+returns-16 c = c.numbered16.ensures ∙ sym (ap refusal_values c.before.before.refusal8.given.1)
 
 returns-17 : tie.Need-returns-17
-returns-17 c = c.numbered17.ensures ∙ sym (ap refusalValues c.before.before.refusal9.given.1)
+returns-17 c = c.numbered17.ensures ∙ sym (ap refusal_values c.before.before.refusal9.given.1)
 
 returns-18 : tie.Need-returns-18
-returns-18 c = c.numbered18.ensures ∙ sym (ap refusalValues c.before.before.refusal10.given.1)
+returns-18 c = c.numbered18.ensures ∙ sym (ap refusal_values c.before.before.refusal10.given.1)
 
 returns-19 : tie.Need-returns-19
-returns-19 c = c.numbered19.ensures ∙ sym (ap refusalValues c.before.enum-told9.given.1)
+returns-19 c = c.numbered19.ensures ∙ sym (ap refusal_values c.before.enum-told9.given.1)
 
 returns-20 : tie.Need-returns-20
-returns-20 c = c.numbered20.ensures ∙ sym (ap refusalValues c.before.before.refusal11.given.1)
+returns-20 c = c.numbered20.ensures ∙ sym (ap refusal_values c.before.before.refusal11.given.1)
 
 returns-21 : tie.Need-returns-21
-returns-21 c = c.numbered21.ensures ∙ sym (ap refusalValues c.before.before.refusal12.given.1)
+returns-21 c = c.numbered21.ensures ∙ sym (ap refusal_values c.before.before.refusal12.given.1)
 
 returns-22 : tie.Need-returns-22
-returns-22 c = c.numbered22.ensures ∙ sym (ap refusalValues c.before.before.refusal13.given.1)
+returns-22 c = c.numbered22.ensures ∙ sym (ap refusal_values c.before.before.refusal13.given.1)
 
 pub refusal-numbers-spec : {M : Type 1} → statement M
 refusal-numbers-spec =

@@ -1,6 +1,6 @@
 use mathlib.Core.Path.{sym, ap, ◌∙◌}
 use borrow.Author.Rules.{rules}
-use Rattle.model.specs.Numbers.{ruledValues, ruledCounts}
+use Rattle.model.specs.Numbers.{ruled_values, ruled_counts}
 use Rattle.numbers.proofs.ruled_numbers.Statement.{statement}
 use Rattle.numbers.proofs.ruled_numbers.Tie as tie
 
@@ -40,22 +40,22 @@ with-counts-requires-3 c κs = search rules
 returns : tie.Need-returns
 returns c =
     let is = sym c.before.before.before.verdict.given.1 in
-    (c.with-counts.ensures.0 ∙ c.before.numbered.ensures ∙ ap ruledValues is, c.with-counts.ensures.1 ∙ ap ruledCounts is)
+    (c.with-counts.ensures.0 ∙ c.before.numbered.ensures ∙ ap ruled_values is, c.with-counts.ensures.1 ∙ ap ruled_counts is)
 
 returns-2 : tie.Need-returns-2
 returns-2 c =
     let is = sym c.before.before.verdict2.given.1 in
-    (c.rejection.ensures.0 ∙ ap ruledValues is, c.rejection.ensures.1 ∙ ap ruledCounts is)
+    (c.rejection.ensures.0 ∙ ap ruled_values is, c.rejection.ensures.1 ∙ ap ruled_counts is)
 
 returns-3 : tie.Need-returns-3
 returns-3 c =
     let is = sym c.before.before.before.verdict3.given.1 in
-    (c.with-counts2.ensures.0 ∙ c.before.numbered2.ensures ∙ ap ruledValues is, c.with-counts2.ensures.1 ∙ ap ruledCounts is)
+    (c.with-counts2.ensures.0 ∙ c.before.numbered2.ensures ∙ ap ruled_values is, c.with-counts2.ensures.1 ∙ ap ruled_counts is)
 
 returns-4 : tie.Need-returns-4
 returns-4 c =
     let is = sym c.before.before.before.verdict4.given.1 in
-    (c.with-counts3.ensures.0 ∙ c.before.refusal-numbers.ensures ∙ ap ruledValues is, c.with-counts3.ensures.1 ∙ ap ruledCounts is)
+    (c.with-counts3.ensures.0 ∙ c.before.refusal-numbers.ensures ∙ ap ruled_values is, c.with-counts3.ensures.1 ∙ ap ruled_counts is)
 
 pub ruled-numbers-spec : {M : Type 1} → statement M
 ruled-numbers-spec =

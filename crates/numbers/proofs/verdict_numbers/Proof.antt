@@ -1,6 +1,6 @@
 use mathlib.Core.Path.{sym, ap, ◌∙◌}
 use borrow.Author.Rules.{rules}
-use Rattle.model.specs.Numbers.{verdictValues, verdictCounts}
+use Rattle.model.specs.Numbers.{verdict_values, verdict_counts}
 use Rattle.numbers.proofs.verdict_numbers.Statement.{statement}
 use Rattle.numbers.proofs.verdict_numbers.Tie as tie
 
@@ -40,22 +40,22 @@ with-counts-requires-3 c κs = search rules
 returns : tie.Need-returns
 returns c =
     let is = sym c.before.before.before.verdict.given.1 in
-    (c.with-counts.ensures.0 ∙ c.before.numbered.ensures ∙ ap verdictValues is, c.with-counts.ensures.1 ∙ ap verdictCounts is)
+    (c.with-counts.ensures.0 ∙ c.before.numbered.ensures ∙ ap verdict_values is, c.with-counts.ensures.1 ∙ ap verdict_counts is)
 
 returns-2 : tie.Need-returns-2
 returns-2 c =
     let is = sym c.before.before.verdict2.given.1 in
-    (c.rejection.ensures.0 ∙ ap verdictValues is, c.rejection.ensures.1 ∙ ap verdictCounts is)
+    (c.rejection.ensures.0 ∙ ap verdict_values is, c.rejection.ensures.1 ∙ ap verdict_counts is)
 
 returns-3 : tie.Need-returns-3
 returns-3 c =
     let is = sym c.before.before.before.verdict3.given.1 in
-    (c.with-counts2.ensures.0 ∙ c.before.numbered2.ensures ∙ ap verdictValues is, c.with-counts2.ensures.1 ∙ ap verdictCounts is)
+    (c.with-counts2.ensures.0 ∙ c.before.numbered2.ensures ∙ ap verdict_values is, c.with-counts2.ensures.1 ∙ ap verdict_counts is)
 
 returns-4 : tie.Need-returns-4
 returns-4 c =
     let is = sym c.before.before.before.verdict4.given.1 in
-    (c.with-counts3.ensures.0 ∙ c.before.refusal-numbers.ensures ∙ ap verdictValues is, c.with-counts3.ensures.1 ∙ ap verdictCounts is)
+    (c.with-counts3.ensures.0 ∙ c.before.refusal-numbers.ensures ∙ ap verdict_values is, c.with-counts3.ensures.1 ∙ ap verdict_counts is)
 
 pub verdict-numbers-spec : {M : Type 1} → statement M
 verdict-numbers-spec =

@@ -1,6 +1,6 @@
 use mathlib.Core.Path.{sym, ap, ◌∙◌}
 use borrow.Author.Rules.{rules}
-use Rattle.model.specs.Numbers.{writingValues}
+use Rattle.model.specs.Numbers.{writing_values}
 use Rattle.numbers.proofs.writing_numbers.Statement.{statement}
 use Rattle.numbers.proofs.writing_numbers.Tie as tie
 
@@ -17,10 +17,10 @@ refusal-numbers-requires : tie.Need-refusal-numbers-requires
 refusal-numbers-requires c κs = search rules
 
 returns : tie.Need-returns
-returns c = c.numbered.ensures ∙ sym (ap writingValues c.before.before.writing.given.1)
+returns c = c.numbered.ensures ∙ sym (ap writing_values c.before.before.writing.given.1)
 
 returns-2 : tie.Need-returns-2
-returns-2 c = c.refusal-numbers.ensures ∙ sym (ap writingValues c.before.before.writing2.given.1)
+returns-2 c = c.refusal-numbers.ensures ∙ sym (ap writing_values c.before.before.writing2.given.1)
 
 pub writing-numbers-spec : {M : Type 1} → statement M
 writing-numbers-spec =

@@ -1,18 +1,18 @@
 -- `pairs::count_pairs` meets its contract. The invariant: the pairs of the situations before n are counted.
 use Prim.Native.Nat.{◌-◌, ◌≤◌, min}
 use native.Mathlib.Omega.{arith}
-use Rattle.model.specs.Limits.{sizeLimit}
-use Rattle.monitor.specs.From.{transitionCount}
-use Rattle.situation.specs.Rows.{heardOf}
-use Rattle.pairs.specs.Pairing.{answersInRow}
-use Rattle.pairs.proofs.PairCounts.{Counting, none-counted, counting_more, counting-few, all-counted, tallied-few}
+use Rattle.model.specs.Limits.{size_limit}
+use Rattle.monitor.specs.From.{transition_count}
+use Rattle.situation.specs.Rows.{heard_of}
+use Rattle.pairs.specs.Pairing.{answers_in_row}
+use Rattle.pairs.proofs.PairCounts.{Counting, none_counted, counting_more, counting_few, all-counted, tallied_few}
 use borrow.Author.Rules.{rules}
 use Rattle.pairs.proofs.count_pairs.Statement.{statement}
 use Rattle.pairs.proofs.count_pairs.Tie as tie
 
 abbrev invariant-loop : tie.invariant-loop
 invariant-loop table offsets h heard scratch from end found₀ n₀ found n =
-    Counting (answersInRow table offsets h (heardOf heard) scratch from.start) n (transitionCount table) found × (n ≤ min from.size sizeLimit)
+    Counting (answers_in_row table offsets h (heard_of heard) scratch from.start) n (transition_count table) found × (n ≤ min from.size size_limit)
 
 abbrev decreases-loop : tie.decreases-loop
 decreases-loop table offsets h heard scratch from end found₀ n₀ found n = end - n
@@ -21,7 +21,7 @@ within-limit-requires : tie.Need-within-limit-requires invariant-loop decreases-
 within-limit-requires c κs = search rules
 
 loop-holds : tie.Need-loop-init invariant-loop decreases-loop
-loop-holds c = (none-counted _ _, omega arith)
+loop-holds c = (none_counted _ _, omega arith)
 
 member-pairs-requires : tie.Need-member-pairs-requires invariant-loop decreases-loop
 member-pairs-requires c κs = search rules
@@ -29,15 +29,15 @@ member-pairs-requires c κs = search rules
 add-t12 : tie.Need-overflow-add-t12 invariant-loop decreases-loop
 add-t12 c =
     let l = c.before.before.before.before.loop in
-    let (before, _) = counting-few _ _ l.n l.found (omega arith) l.invariant.0 in
-    let (here, _) = tallied-few c.before.before.member-pairs.ensures in
+    let (before, _) = counting_few _ _ l.n l.found (omega arith) l.invariant.0 in
+    let (here, _) = tallied_few c.before.before.member-pairs.ensures in
     record { fits = omega (arith, l.invariant.1) }
 
 add-t13 : tie.Need-overflow-add-t13 invariant-loop decreases-loop
 add-t13 c =
     let l = c.before.before.before.before.before.before.loop in
-    let (_, before) = counting-few _ _ l.n l.found (omega arith) l.invariant.0 in
-    let (_, here) = tallied-few c.before.before.before.before.member-pairs.ensures in
+    let (_, before) = counting_few _ _ l.n l.found (omega arith) l.invariant.0 in
+    let (_, here) = tallied_few c.before.before.before.before.member-pairs.ensures in
     record { fits = omega (arith, l.invariant.1) }
 
 add-n : tie.Need-overflow-add-n invariant-loop decreases-loop

@@ -4,18 +4,18 @@ use native.Mathlib.Omega.{arith}
 use mathlib.Core.Path.{◌≡◌, ap, subst, ◌∙◌}
 use mathlib.Core.Option.{some}
 use Rattle.model.specs.Monitor.{tried}
-use Rattle.model.specs.Pairs.{isAnswer}
+use Rattle.model.specs.Pairs.{is_answer}
 use Rattle.model.specs.declared.Config.{Config}
 use Rattle.model.specs.declared.Readiness.{Readiness}
-use Rattle.monitor.specs.From.{attemptOf, monitorFrom, transitionCount}
-use Rattle.pairs.specs.Pairing.{answersAs, Tallied}
-use Rattle.pairs.proofs.PairCounts.{none_yet, one_more, tallied-few, says-free}
+use Rattle.monitor.specs.From.{attempt_of, monitor_from, transition_count}
+use Rattle.pairs.specs.Pairing.{answers_as, Tallied}
+use Rattle.pairs.proofs.PairCounts.{none_yet, one_more, tallied_few, says_free}
 use borrow.Author.Rules.{rules}
 use Rattle.pairs.proofs.kind_pairs.Statement.{statement}
 use Rattle.pairs.proofs.kind_pairs.Tie as tie
 
 abbrev invariant-loop : tie.invariant-loop
-invariant-loop table offsets kind s count found₀ j₀ found j = Tallied (answersAs table offsets (some kind) s) j found × (j ≤ transitionCount table)
+invariant-loop table offsets kind s count found₀ j₀ found j = Tallied (answers_as table offsets (some kind) s) j found × (j ≤ transition_count table)
 
 abbrev decreases-loop : tie.decreases-loop
 decreases-loop table offsets kind s count found₀ j₀ found j = count - j
@@ -35,7 +35,7 @@ tried-requires c κs = search rules
 with-one-requires : tie.Need-with-one-requires invariant-loop decreases-loop
 with-one-requires c κs =
     let inv = c.before.before.before.loop.invariant in
-    let (early, late) = tallied-few inv.0 in
+    let (early, late) = tallied_few inv.0 in
     (omega (arith, inv.1), omega (arith, inv.1))
 
 add-j : tie.Need-overflow-add-j invariant-loop decreases-loop
@@ -49,9 +49,9 @@ loop-again c =
     let a = c.before.before.before.before.before.before.before.before.args in
     let l = c.before.before.before.before.loop in
     let same : (x : Readiness) → _ = λ x.
-    ap (isAnswer x) (c.before.tried.ensures ∙ ap (λ (d : Config). tried (monitorFrom a.table.now a.offsets.now) l.j a.kind d) c.before.before.config-of.ensures)
-    ∙ says-free a.table.now a.offsets.now a.s x l.j a.kind c.before.before.before.before.before.before.before.before.requires in (
-      one_more (answersAs a.table.now a.offsets.now (some a.kind) a.s) l.j l.found c.with-one.result (attemptOf c.before.tried.result) l.invariant.0 c.with-one.ensures same,
+    ap (is_answer x) (c.before.tried.ensures ∙ ap (λ (d : Config). tried (monitor_from a.table.now a.offsets.now) l.j a.kind d) c.before.before.config-of.ensures)
+    ∙ says_free a.table.now a.offsets.now a.s x l.j a.kind c.before.before.before.before.before.before.before.before.requires in (
+      one_more (answers_as a.table.now a.offsets.now (some a.kind) a.s) l.j l.found c.with-one.result (attempt_of c.before.tried.result) l.invariant.0 c.with-one.ensures same,
       omega (arith, c.before.before.before.before.before.transitions.ensures),
     )
 
@@ -59,8 +59,8 @@ returns : tie.Need-returns invariant-loop decreases-loop
 returns c =
     let a = c.before.before.before.before.before.args in
     let l = c.before.loop in
-    let all : l.j ≡ transitionCount a.table.now = omega (arith, c.before.before.transitions.ensures, l.invariant.1) in
-    subst (λ (n : ℕ). Tallied (answersAs a.table.now a.offsets.now (some a.kind) a.s) n l.found) all l.invariant.0
+    let all : l.j ≡ transition_count a.table.now = omega (arith, c.before.before.transitions.ensures, l.invariant.1) in
+    subst (λ (n : ℕ). Tallied (answers_as a.table.now a.offsets.now (some a.kind) a.s) n l.found) all l.invariant.0
 
 pub kind-pairs-spec : {M : Type 1} → statement M
 kind-pairs-spec =

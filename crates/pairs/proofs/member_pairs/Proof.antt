@@ -1,11 +1,11 @@
 use mathlib.Core.Path.{sym, ap, ◌∙◌}
 use mathlib.Core.Bool.{Bool, ◌&&◌}
 use Rattle.model.specs.declared.Situation.{Situation}
-use Rattle.monitor.specs.From.{transitionCount}
-use Rattle.situation.specs.Rows.{heardOf}
-use Rattle.situation.specs.Numbering.{situationBy}
-use Rattle.pairs.specs.Pairing.{answersAs, answersInRow}
-use Rattle.pairs.proofs.PairCounts.{no-answers, tallied-as}
+use Rattle.monitor.specs.From.{transition_count}
+use Rattle.situation.specs.Rows.{heard_of}
+use Rattle.situation.specs.Numbering.{situation_by}
+use Rattle.pairs.specs.Pairing.{answers_as, answers_in_row}
+use Rattle.pairs.proofs.PairCounts.{no_answers, tallied_as}
 use borrow.Author.Rules.{rules}
 use Rattle.pairs.proofs.member_pairs.Statement.{statement}
 use Rattle.pairs.proofs.member_pairs.Tie as tie
@@ -23,19 +23,19 @@ returns : tie.Need-returns
 returns c =
     let a = c.before.before.before.before.before.before.before.args in
     let in_row = sym c.before.before.before.has.ensures ∙ c.before.before.if1.true in
-    tallied-as (answersAs a.table.now a.offsets.now (heardOf a.heard) c.before.situation-of.result)
-    (λ x j. answersInRow a.table.now a.offsets.now a.h (heardOf a.heard) a.scratch.now a.from x a.n j) (transitionCount a.table.now) c.situation-pairs.result
+    tallied_as (answers_as a.table.now a.offsets.now (heard_of a.heard) c.before.situation-of.result)
+    (λ x j. answers_in_row a.table.now a.offsets.now a.h (heard_of a.heard) a.scratch.now a.from x a.n j) (transition_count a.table.now) c.situation-pairs.result
     (λ x j.
-    ap (λ (s : Situation). answersAs a.table.now a.offsets.now (heardOf a.heard) s x j) c.before.situation-of.ensures
-    ∙ ap (λ (b : Bool). b && answersAs a.table.now a.offsets.now (heardOf a.heard) (situationBy a.h a.n) x j) (sym in_row))
+    ap (λ (s : Situation). answers_as a.table.now a.offsets.now (heard_of a.heard) s x j) c.before.situation-of.ensures
+    ∙ ap (λ (b : Bool). b && answers_as a.table.now a.offsets.now (heard_of a.heard) (situation_by a.h a.n) x j) (sym in_row))
     c.situation-pairs.ensures
 
 returns-2 : tie.Need-returns-2
 returns-2 c =
     let a = c.before.before.before.before.before.args in
     let not-in-row = sym c.before.has.ensures ∙ c.if1.false in
-    no-answers (λ x j. answersInRow a.table.now a.offsets.now a.h (heardOf a.heard) a.scratch.now a.from x a.n j) (transitionCount a.table.now)
-    (λ x j. ap (λ (b : Bool). b && answersAs a.table.now a.offsets.now (heardOf a.heard) (situationBy a.h a.n) x j) not-in-row)
+    no_answers (λ x j. answers_in_row a.table.now a.offsets.now a.h (heard_of a.heard) a.scratch.now a.from x a.n j) (transition_count a.table.now)
+    (λ x j. ap (λ (b : Bool). b && answers_as a.table.now a.offsets.now (heard_of a.heard) (situation_by a.h a.n) x j) not-in-row)
 
 pub member-pairs-spec : {M : Type 1} → statement M
 member-pairs-spec =

@@ -1,7 +1,7 @@
 use mathlib.Core.Path.{◌≡◌}
 use Rattle.model.specs.declared.Readiness.TheVariants.{Yes, NotYet, NoMore}
 use Rattle.monitor.specs.declared.Attempt.TheVariants.{Unfit, Answer}
-use Rattle.pairs.proofs.PairCounts.{counted-unfit, counted-yes, counted-early, counted-late}
+use Rattle.pairs.proofs.PairCounts.{counted_unfit, counted_yes, counted-early, counted-late}
 use borrow.Author.Rules.{rules}
 use Rattle.pairs.proofs.with_one.Statement.{statement}
 use Rattle.pairs.proofs.with_one.Tie as tie
@@ -13,13 +13,13 @@ enum_told : tie.Need-enum-told
 enum_told c = search rules
 
 returns : tie.Need-returns
-returns c = let e : c.before.before.args.tried ≡ Unfit = cc in counted-unfit c.before.before.args.found c.before.before.args.tried e
+returns c = let e : c.before.before.args.tried ≡ Unfit = cc in counted_unfit c.before.before.args.found c.before.before.args.tried e
 
 enum-told-2 : tie.Need-enum-told-2
 enum-told-2 c = search rules
 
 returns-2 : tie.Need-returns-2
-returns-2 c = let e : c.before.before.before.before.before.args.tried ≡ Answer Yes = cc in counted-yes c.before.before.before.before.before.args.found c.before.before.before.before.before.args.tried e
+returns-2 c = let e : c.before.before.before.before.before.args.tried ≡ Answer Yes = cc in counted_yes c.before.before.before.before.before.args.found c.before.before.before.before.before.args.tried e
 
 enum-told-3 : tie.Need-enum-told-3
 enum-told-3 c = search rules

@@ -1,9 +1,9 @@
-use Rattle.planes.proofs.Tables.{planes-none, planes-more}
+use Rattle.planes.proofs.Tables.{planes_none, planes_more}
 use Prim.Native.Nat.{ℕ, ◌-◌, ◌≤◌, min}
 use mathlib.Core.Path.{subst, ◌≡◌, refl, ◌∙◌}
 use Rattle.planes.specs.Planes.{Planes}
-use Rattle.model.specs.Limits.{transitionLimit}
-use Rattle.model.specs.Table.{transitionsAt}
+use Rattle.model.specs.Limits.{transition_limit}
+use Rattle.model.specs.Table.{transitions_at}
 use lib.ListN.{length}
 use native.Mathlib.Omega.{arith}
 use borrow.Author.Rules.{rules}
@@ -11,7 +11,7 @@ use Rattle.planes.proofs.all_planes.Statement.{statement}
 use Rattle.planes.proofs.all_planes.Tie as tie
 
 abbrev invariant-loop : tie.invariant-loop
-invariant-loop table offsets first second n planes₀ spare₀ count j₀ planes spare j = (j ≤ count) × (count ≡ min (transitionsAt table) transitionLimit) × (length planes ≡ length planes₀) × (length spare ≡ length spare₀) × Planes first second n table offsets j planes₀ planes
+invariant-loop table offsets first second n planes₀ spare₀ count j₀ planes spare j = (j ≤ count) × (count ≡ min (transitions_at table) transition_limit) × (length planes ≡ length planes₀) × (length spare ≡ length spare₀) × Planes first second n table offsets j planes₀ planes
 
 abbrev decreases-loop : tie.decreases-loop
 decreases-loop table offsets first second n planes₀ spare₀ count j₀ planes spare j = count - j
@@ -20,7 +20,7 @@ transitions-requires : tie.Need-transitions-requires invariant-loop decreases-lo
 transitions-requires c κs = search rules
 
 loop-holds : tie.Need-loop-init invariant-loop decreases-loop
-loop-holds c = let a = c.before.before.before.before.before.args in (omega arith, c.transitions.ensures, refl, refl, planes-none a.first a.second a.n a.table.now a.offsets.now a.planes.now)
+loop-holds c = let a = c.before.before.before.before.before.args in (omega arith, c.transitions.ensures, refl, refl, planes_none a.first a.second a.n a.table.now a.offsets.now a.planes.now)
 
 short-requires : tie.Need-short-requires invariant-loop decreases-loop
 short-requires c κs = search rules
@@ -47,7 +47,7 @@ loop-again c =
       at.loop.invariant.1,
       placed.plane-at.auto.1.1.1.1.1.1.0 ∙ at.loop.invariant.2,
       placed.plane-at.auto.1.1.1.1.1.1.1.0 ∙ at.loop.invariant.3,
-      planes-more a.first a.second a.n a.table.now a.offsets.now at.loop.j offset.short.result a.planes.now at.loop.planes placed.plane-at.new.1.1.1.1.1.1.0
+      planes_more a.first a.second a.n a.table.now a.offsets.now at.loop.j offset.short.result a.planes.now at.loop.planes placed.plane-at.new.1.1.1.1.1.1.0
           offset.short.ensures.0 at.loop.invariant.2 at.loop.invariant.4 placed.plane-at.ensures,
     )
 
@@ -61,7 +61,7 @@ returns : tie.Need-returns invariant-loop decreases-loop
 returns c =
     let at = c.before in
     let a = at.before.before.before.before.before.before.args in
-    let e : at.loop.j ≡ min (transitionsAt a.table.now) transitionLimit = omega (arith, at.loop.invariant.1) in
+    let e : at.loop.j ≡ min (transitions_at a.table.now) transition_limit = omega (arith, at.loop.invariant.1) in
     subst (λ (k : ℕ). Planes a.first a.second a.n a.table.now a.offsets.now k a.planes.now at.loop.planes) e at.loop.invariant.4
 
 pub all-planes-spec : {M : Type 1} → statement M

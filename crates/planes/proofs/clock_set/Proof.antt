@@ -1,10 +1,10 @@
 use native.Mathlib.Omega.{arith}
 use mathlib.Core.Path.{refl}
 use Rattle.planes.proofs.Digits.{weight-some, values-some}
-use Rattle.planes.proofs.Leaves.{most-is, least-is, built-is, leaf-most, leaf-least, leaf-none}
-use Rattle.planes.proofs.Forms.{built-none}
-use Rattle.model.specs.Guard.{atMost, at_least}
-use Rattle.guard.specs.Guards.{clockLeaf}
+use Rattle.planes.proofs.Leaves.{most-is, least_is, built_is, leaf_most, leaf_least, leaf_none}
+use Rattle.planes.proofs.Forms.{built_none}
+use Rattle.model.specs.Guard.{at_most, at_least}
+use Rattle.guard.specs.Guards.{clock_leaf}
 use borrow.Author.Rules.{rules}
 use Rattle.planes.proofs.clock_set.Statement.{statement}
 use Rattle.planes.proofs.clock_set.Tie as tie
@@ -42,8 +42,8 @@ returns c =
     built.at-most.ensures.2 start.requires.0 (omega (arith, start.requires.1))
     (rw w.ensures (weight-some f s clocks a.clock))
     (rw r.ensures (values-some f s clocks a.clock)) in
-    built-is f s a.set.now built.at-most.new.0 built.at-most.new.0 (clockLeaf a.code a.clock a.t a.next) _ (atMost a.clock a.t) a.next
-    (leaf-most a.code a.clock a.t a.next built.before.before.before.if1.true) refl
+    built_is f s a.set.now built.at-most.new.0 built.at-most.new.0 (clock_leaf a.code a.clock a.t a.next) _ (at_most a.clock a.t) a.next
+    (leaf_most a.code a.clock a.t a.next built.before.before.before.if1.true) refl
     (most-is f s a.set.now built.at-most.new.0 built.at-most.new.0 a.clock a.t w.result r.result w.ensures r.ensures is)
 
 at-most-requires-2 : tie.Need-at-most-requires-2
@@ -74,15 +74,15 @@ returns-2 c =
     built.at-most2.ensures.2 start.requires.0 (omega (arith, start.requires.1))
     (rw w.ensures (weight-some f s clocks a.clock))
     (rw r.ensures (values-some f s clocks a.clock)) in
-    built-is f s a.set.now turned.complement.new.0 turned.complement.new.0 (clockLeaf a.code a.clock a.t a.next) _ (at_least a.clock a.t) a.next
-    (leaf-least a.code a.clock a.t a.next built.before.before.before.if2.true) refl
-    (least-is f s a.set.now built.at-most2.new.0 turned.complement.new.0 a.clock a.t w.result r.result w.ensures r.ensures is turned.complement.ensures)
+    built_is f s a.set.now turned.complement.new.0 turned.complement.new.0 (clock_leaf a.code a.clock a.t a.next) _ (at_least a.clock a.t) a.next
+    (leaf_least a.code a.clock a.t a.next built.before.before.before.if2.true) refl
+    (least_is f s a.set.now built.at-most2.new.0 turned.complement.new.0 a.clock a.t w.result r.result w.ensures r.ensures is turned.complement.ensures)
 
 returns-3 : tie.Need-returns-3
 returns-3 c =
     let a = c.before.before.before.before.before.before.args in
-    built-none a.q.first a.q.second _ (clockLeaf a.code a.clock a.t a.next) _ _
-    (leaf-none a.code a.clock a.t a.next c.before.if1.false c.if2.false) refl
+    built_none a.q.first a.q.second _ (clock_leaf a.code a.clock a.t a.next) _ _
+    (leaf_none a.code a.clock a.t a.next c.before.if1.false c.if2.false) refl
 
 pub clock-set-spec : {M : Type 1} → statement M
 clock-set-spec =

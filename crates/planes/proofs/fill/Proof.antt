@@ -1,7 +1,7 @@
 use Rattle.words.specs.Words.{bit}
 use Rattle.words.specs.Words.{Upto}
 use Rattle.planes.proofs.Edits.{word_same}
-use Rattle.strides.proofs.Moves.{upto_is, upto-more}
+use Rattle.strides.proofs.Moves.{upto_is, upto_more}
 use mathlib.Core.Path.{◌≡◌, refl, ◌∙◌}
 use lib.ListN.{length, length-set}
 use native.Mathlib.Omega.{arith}
@@ -38,7 +38,7 @@ loop-again c =
     let k = at.loop.k in (
       omega arith,
       length-set at.loop.set k a.x ∙ at.loop.invariant.1,
-      upto-more (λ i. bit a.x (i % 64)) at.loop.set k a.x (omega arith) (word_same k a.x at.before.ranges.x.fits) at.loop.invariant.2,
+      upto_more (λ i. bit a.x (i % 64)) at.loop.set k a.x (omega arith) (word_same k a.x at.before.ranges.x.fits) at.loop.invariant.2,
     )
 
 same_length : tie.Need-same-length invariant-loop decreases-loop

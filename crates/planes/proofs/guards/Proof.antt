@@ -1,7 +1,7 @@
 use native.Mathlib.Omega.{arith}
 use mathlib.Core.Path.{refl, sym, ◌∙◌}
 use mathlib.Core.Bool.{false≢true}
-use Rattle.planes.proofs.Tables.{clocks-are, in-range}
+use Rattle.planes.proofs.Tables.{clocks_are, in_range_lem}
 use borrow.Author.Rules.{rules}
 use Rattle.planes.proofs.guards.Statement.{statement}
 use Rattle.planes.proofs.guards.Tie as tie
@@ -24,9 +24,9 @@ all-planes-requires c κs =
     let first = second.before.before in
     let start = first.before.before.before.before.before.before.before in
     let a = start.args in
-    let h = sym first.in-range.ensures ∙ second.before.if3.true in
+    let h = sym first.in_range_lem.ensures ∙ second.before.if3.true in
     let l = sym second.in-range2.ensures ∙ c.before.before.if4.true in
-    (omega arith, omega arith, clocks-are a.first a.second h l)
+    (omega arith, omega arith, clocks_are a.first a.second h l)
 
 same_length : tie.Need-same-length
 same_length c = search rules
@@ -41,13 +41,13 @@ returns-4 : tie.Need-returns-4
 returns-4 c =
     let second = c.before in
     let a = second.before.before.before.before.before.before.before.before.before.args in
-    (refl, refl, λ k m n. absurd (false≢true (sym (sym second.in-range2.ensures ∙ c.if4.false) ∙ in-range a.second k.some₁ k.most₁)))
+    (refl, refl, λ k m n. absurd (false≢true (sym (sym second.in-range2.ensures ∙ c.if4.false) ∙ in_range_lem a.second k.some₁ k.most₁)))
 
 returns-5 : tie.Need-returns-5
 returns-5 c =
     let first = c.before in
     let a = first.before.before.before.before.before.before.before.args in
-    (refl, refl, λ k m n. absurd (false≢true (sym (sym first.in-range.ensures ∙ c.if3.false) ∙ in-range a.first k.some k.most)))
+    (refl, refl, λ k m n. absurd (false≢true (sym (sym first.in_range_lem.ensures ∙ c.if3.false) ∙ in_range_lem a.first k.some k.most)))
 
 pub guards-spec : {M : Type 1} → statement M
 guards-spec =

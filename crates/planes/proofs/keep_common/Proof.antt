@@ -1,5 +1,5 @@
 use Rattle.words.specs.Words.{mem}
-use Rattle.planes.proofs.Edits.{Changed, changed-none, word-common}
+use Rattle.planes.proofs.Edits.{Changed, changed_none, word_common}
 use mathlib.Core.Bool.{◌&&◌}
 use mathlib.Core.Path.{refl}
 use native.Mathlib.Omega.{arith}
@@ -15,7 +15,7 @@ abbrev decreases-loop : tie.decreases-loop
 decreases-loop stack₀ n k₀ stack k = n - k
 
 loop-holds : tie.Need-loop-init invariant-loop decreases-loop
-loop-holds c = (omega arith, changed-none _ c.args.stack.now)
+loop-holds c = (omega arith, changed_none _ c.args.stack.now)
 
 mul-stack : tie.Need-overflow-mul-stack invariant-loop decreases-loop
 mul-stack c = search rules
@@ -53,7 +53,7 @@ loop-again c =
     let n = start.args.n in
     let size = at.loop.invariant.1.size in (
       omega arith,
-      word-common start.args.stack.now at.loop.stack n k _ _ (omega (arith, size, start.requires)) at.loop.invariant.1 refl (first.slice-known.given k).fits refl (c.slice-known2.given (n + k)).fits,
+      word_common start.args.stack.now at.loop.stack n k _ _ (omega (arith, size, start.requires)) at.loop.invariant.1 refl (first.slice-known.given k).fits refl (c.slice-known2.given (n + k)).fits,
     )
 
 same_length : tie.Need-same-length invariant-loop decreases-loop

@@ -6,9 +6,9 @@ use lib.Dec.{ltb}
 use borrow.Author.Tests.{leb-true}
 use Rattle.model.specs.Bytes.{byte_at}
 use Rattle.model.proofs.Basics.{and_left}
-use Rattle.guard.proofs.Guards.{leaf-always, leaf-variable, leaf-no-variable, leaf-clock, leaf-no-clock}
-use Rattle.planes.proofs.Forms.{built-none}
-use Rattle.planes.proofs.Leaves.{built-is, always-is}
+use Rattle.guard.proofs.Guards.{leaf_always, leaf_variable, leaf_no_variable, leaf_clock, leaf_no_clock}
+use Rattle.planes.proofs.Forms.{built_none}
+use Rattle.planes.proofs.Leaves.{built_is, always-is}
 use borrow.Author.Rules.{rules}
 use Rattle.planes.proofs.leaf_set.Statement.{statement}
 use Rattle.planes.proofs.leaf_set.Tie as tie
@@ -31,8 +31,8 @@ returns c =
     let code = filled.before.before.before in
     let a = code.before.before.before.before.args in
     let e = sym code.byte.ensures.0 ∙ filled.before.before.if1.true in
-    built-is a.q.first a.q.second a.set.now filled.fill.new.0 filled.fill.new.0 _ _ always (a.at + 1)
-    (leaf-always a.q.variables a.q.clocks a.b.now a.at a.end e) refl
+    built_is a.q.first a.q.second a.set.now filled.fill.new.0 filled.fill.new.0 _ _ always (a.at + 1)
+    (leaf_always a.q.variables a.q.clocks a.b.now a.at a.end e) refl
     (always-is a.q.first a.q.second a.set.now filled.fill.new.0 filled.fill.new.0 filled.fill.ensures)
 
 has-variable-requires : tie.Need-has-variable-requires
@@ -70,8 +70,8 @@ returns-2 c =
     let e = sym code.byte.ensures.0 ∙ tested.before.if2.true in
     let h = sym tested.has-variable.ensures ∙ named.before.if3.true in
     let after = built.variable-set.new.1.1.0 in
-    built-is a.q.first a.q.second a.set.now after after _ _ (variable named.byte2.result) (a.at + 2)
-    (leaf-variable a.q.variables a.q.clocks a.b.now a.at a.end e h ∙ ap (λ (x : ℕ). up_to (variable x) (a.at + 2)) (sym named.byte2.ensures.0)) refl
+    built_is a.q.first a.q.second a.set.now after after _ _ (variable named.byte2.result) (a.at + 2)
+    (leaf_variable a.q.variables a.q.clocks a.b.now a.at a.end e h ∙ ap (λ (x : ℕ). up_to (variable x) (a.at + 2)) (sym named.byte2.ensures.0)) refl
     built.variable-set.ensures
 
 returns-3 : tie.Need-returns-3
@@ -81,7 +81,7 @@ returns-3 c =
     let a = code.before.before.before.before.args in
     let e = sym code.byte.ensures.0 ∙ tested.before.if2.true in
     let h = sym tested.has-variable.ensures ∙ c.if3.false in
-    built-none a.q.first a.q.second _ _ _ _ (leaf-no-variable a.q.variables a.q.clocks a.b.now a.at a.end e h) refl
+    built_none a.q.first a.q.second _ _ _ _ (leaf_no_variable a.q.variables a.q.clocks a.b.now a.at a.end e h) refl
 
 has-clock-requires : tie.Need-has-clock-requires
 has-clock-requires c κs = search rules
@@ -126,7 +126,7 @@ returns-4 c =
     let a = code.before.before.before.before.args in
     let is = code.byte.ensures.0 in
     let h = sym tested.has-clock.ensures ∙ named.before.if4.true in
-    let r = leaf-clock a.q.variables a.q.clocks a.b.now a.at a.end (λ p. tested.before.before.if1.false (is ∙ p)) (λ p. tested.before.if2.false (is ∙ p)) h in
+    let r = leaf_clock a.q.variables a.q.clocks a.b.now a.at a.end (λ p. tested.before.before.if1.false (is ∙ p)) (λ p. tested.before.if2.false (is ∙ p)) h in
     rw (r, ← is, ← named.byte3.ensures.0, ← bound.byte4.ensures.0) built.clock-set.ensures
 
 returns-5 : tie.Need-returns-5
@@ -136,8 +136,8 @@ returns-5 c =
     let a = code.before.before.before.before.args in
     let is = code.byte.ensures.0 in
     let h = sym tested.has-clock.ensures ∙ c.if4.false in
-    built-none a.q.first a.q.second _ _ _ _
-    (leaf-no-clock a.q.variables a.q.clocks a.b.now a.at a.end (λ p. tested.before.before.if1.false (is ∙ p)) (λ p. tested.before.if2.false (is ∙ p)) h) refl
+    built_none a.q.first a.q.second _ _ _ _
+    (leaf_no_clock a.q.variables a.q.clocks a.b.now a.at a.end (λ p. tested.before.before.if1.false (is ∙ p)) (λ p. tested.before.if2.false (is ∙ p)) h) refl
 
 pub leaf-set-spec : {M : Type 1} → statement M
 leaf-set-spec =

@@ -2,7 +2,7 @@ use native.Mathlib.Omega.{arith}
 use Prim.Native.Nat.{◌≤◌}
 use mathlib.Core.Path.{◌∙◌}
 use lib.ListN.{length}
-use Rattle.planes.proofs.Tables.{plane-there, plane-none, hand-is, sets-some, cleared}
+use Rattle.planes.proofs.Tables.{plane-there, plane_none, hand_is, sets-some, cleared}
 use borrow.Author.Rules.{rules}
 use Rattle.planes.proofs.plane.Statement.{statement}
 use Rattle.planes.proofs.plane.Tie as tie
@@ -30,11 +30,11 @@ byte-requires-3 c κs = search rules
 
 guard-set-requires : tie.Need-guard-set-requires
 guard-set-requires c κs =
-    let length-of = c.before.before.before.before in
-    let start = length-of.before.before.before.before in
+    let length_of = c.before.before.before.before in
+    let start = length_of.before.before.before.before in
     let a = start.args in
     let h = start.requires in
-    (rw (hand-is a.n a.at length-of.byte.result, length-of.byte.ensures.0) h.1, h.2, h.3, h.4)
+    (rw (hand_is a.n a.at length_of.byte.result, length_of.byte.ensures.0) h.1, h.2, h.3, h.4)
 
 enum_told : tie.Need-enum-told
 enum_told c = search rules
@@ -69,14 +69,14 @@ returns c =
     let read = c.before.before.before.before.before.before.before.before.before.before in
     let clocks = read.before.before.before in
     let variables = clocks.before in
-    let length-of = variables.before in
-    let start = length-of.before.before.before.before in
+    let length_of = variables.before in
+    let start = length_of.before.before.before.before in
     let a = start.args in
     let stack = read.guard-set.new.1.1.1.1.1.1.0 in
     let fits : a.n ≤ length stack = omega (arith, start.requires.1, read.guard-set.auto.1.1.1.1.1.1.0, sets-some a.n a.table.now a.at) in
     λ i l. cleared stack c.before.before.fill.new.0 a.n fits c.before.before.fill.ensures i l
-    ∙ plane-none a.first a.second a.n stack a.table.now a.at variables.byte2.result clocks.byte3.result length-of.byte.result
-    variables.byte2.ensures.0 clocks.byte3.ensures.0 length-of.byte.ensures.0 read.guard-set.result read.guard-set.ensures c.before.before.before.before.enum-told2.given.1 i
+    ∙ plane_none a.first a.second a.n stack a.table.now a.at variables.byte2.result clocks.byte3.result length_of.byte.result
+    variables.byte2.ensures.0 clocks.byte3.ensures.0 length_of.byte.ensures.0 read.guard-set.result read.guard-set.ensures c.before.before.before.before.enum-told2.given.1 i
 
 same-length-3 : tie.Need-same-length-3
 same-length-3 c = search rules
@@ -89,12 +89,12 @@ returns-2 c =
     let read = c.before.before.before.before.before.before in
     let clocks = read.before.before.before in
     let variables = clocks.before in
-    let length-of = variables.before in
-    let start = length-of.before.before.before.before in
+    let length_of = variables.before in
+    let start = length_of.before.before.before.before in
     let a = start.args in
     let stack = read.guard-set.new.1.1.1.1.1.1.0 in
-    plane-there a.first a.second a.n stack a.table.now a.at variables.byte2.result clocks.byte3.result length-of.byte.result
-    variables.byte2.ensures.0 clocks.byte3.ensures.0 length-of.byte.ensures.0 read.guard-set.result c.enum_told.given.0.0 read.guard-set.ensures c.enum_told.given.1
+    plane-there a.first a.second a.n stack a.table.now a.at variables.byte2.result clocks.byte3.result length_of.byte.result
+    variables.byte2.ensures.0 clocks.byte3.ensures.0 length_of.byte.ensures.0 read.guard-set.result c.enum_told.given.0.0 read.guard-set.ensures c.enum_told.given.1
 
 pub plane-spec : {M : Type 1} → statement M
 plane-spec =

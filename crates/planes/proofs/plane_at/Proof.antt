@@ -1,8 +1,8 @@
 use native.Mathlib.Omega.{arith}
 use Prim.Native.Nat.{◌+◌, ◌*◌, ◌≤◌}
 use lib.ListN.{length}
-use Rattle.planes.specs.Planes.{setsAt}
-use Rattle.planes.proofs.Tables.{placed-none, placed_one, plane-room, plane-fits}
+use Rattle.planes.specs.Planes.{sets_at}
+use Rattle.planes.proofs.Tables.{placed_none, placed_one, plane-room, plane-fits}
 use Rattle.planes.proofs.Room.{rest-length}
 use borrow.Author.Rules.{rules}
 use Rattle.planes.proofs.plane_at.Statement.{statement}
@@ -23,7 +23,7 @@ mul-if1 c =
 returns : tie.Need-returns
 returns c =
     let a = c.before.before.before.before.before.args in
-    placed-none a.first a.second a.n a.table.now a.at a.j a.planes.now (rw (← c.before.sets-at.ensures) c.if1.true)
+    placed_none a.first a.second a.n a.table.now a.at a.j a.planes.now (rw (← c.before.sets-at.ensures) c.if1.true)
 
 mul-from : tie.Need-overflow-mul-from
 mul-from c = search rules
@@ -47,8 +47,8 @@ plane-requires c κs =
     let a = start.args in
     let h = start.requires in
     let planes = a.planes.now in
-    let room : a.n * (a.j + setsAt a.table.now a.at) ≤ length planes = rw (← tested.before.sets-at.ensures) tested.if1.false in
-    let behind = plane-room a.n a.j (setsAt a.table.now a.at) (length planes) room in
+    let room : a.n * (a.j + sets_at a.table.now a.at) ≤ length planes = rw (← tested.before.sets-at.ensures) tested.if1.false in
+    let behind = plane-room a.n a.j (sets_at a.table.now a.at) (length planes) room in
     (h.0, rw (rest-length planes planes (a.n * a.j) (omega arith)) behind, h.2, h.3, h.4)
 
 same_length : tie.Need-same-length

@@ -1,10 +1,10 @@
-use Rattle.planes.proofs.Digits.{values-zero, values_one, values_other}
+use Rattle.planes.proofs.Digits.{values_zero, values_one, values_other}
 use mathlib.Core.Path.{sym}
 use Rattle.planes.proofs.values_of.Statement.{statement}
 use Rattle.planes.proofs.values_of.Tie as tie
 
 returns : tie.Need-returns
-returns c = let a = c.before.args in sym (values-zero a.first a.second a.clock c.if1.true)
+returns c = let a = c.before.args in sym (values_zero a.first a.second a.clock c.if1.true)
 
 returns-2 : tie.Need-returns-2
 returns-2 c = let a = c.before.before.args in sym (values_one a.first a.second a.clock c.if2.true)

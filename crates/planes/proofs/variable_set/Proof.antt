@@ -1,6 +1,6 @@
 use Prim.Native.Nat.{◌≤◌}
 use native.Mathlib.Omega.{arith}
-use Rattle.planes.proofs.Leaves.{variable-is, variable-none}
+use Rattle.planes.proofs.Leaves.{variable-is, variable_none}
 use Rattle.planes.proofs.Digits.{variable-some}
 use borrow.Author.Rules.{rules}
 use Rattle.planes.proofs.variable_set.Statement.{statement}
@@ -47,7 +47,7 @@ returns-2 c =
     let start = c.before.before.before.before.before.before.before in
     let a = start.args in
     let far : 16 ≤ a.x = c.before.before.before.before.if1.false in
-    variable-none a.q.first a.q.second a.set.now c.before.before.fill.new.0 c.before.before.fill.new.0 a.x start.requires.2 far start.requires.1 c.before.before.fill.ensures
+    variable_none a.q.first a.q.second a.set.now c.before.before.fill.new.0 c.before.before.fill.new.0 a.x start.requires.2 far start.requires.1 c.before.before.fill.ensures
 
 pub variable-set-spec : {M : Type 1} → statement M
 variable-set-spec =

@@ -1,4 +1,4 @@
-use Rattle.planes.proofs.Digits.{pair_fits, one_shifted, variable-near}
+use Rattle.planes.proofs.Digits.{pair_fits, one_shifted, variable_near}
 use mathlib.Core.Path.{ap}
 use Prim.Native.Nat.{ℕ, ◌*◌}
 use borrow.Author.Rules.{rules}
@@ -14,7 +14,7 @@ shl-result c = search rules
 mul-result-2 : tie.Need-overflow-mul-result-2
 mul-result-2 c =
     let a = c.args in
-    record { fits = rw (one_shifted a.x c.requires.0) (variable-near a.first a.second a.x 0 c.requires.1 c.requires.0) }
+    record { fits = rw (one_shifted a.x c.requires.0) (variable_near a.first a.second a.x 0 c.requires.1 c.requires.0) }
 
 returns : tie.Need-returns
 returns c = ap (λ (n : ℕ). c.args.first * c.args.second * n) (one_shifted c.args.x c.requires.0)

@@ -1,13 +1,13 @@
-use Rattle.planes.proofs.Digits.{weight-one, weight-other}
+use Rattle.planes.proofs.Digits.{weight_one, weight_other}
 use mathlib.Core.Path.{sym}
 use Rattle.planes.proofs.weight_of.Statement.{statement}
 use Rattle.planes.proofs.weight_of.Tie as tie
 
 returns : tie.Need-returns
-returns c = sym (weight-one c.before.args.first 0 c.before.args.clock c.if1.true)
+returns c = sym (weight_one c.before.args.first 0 c.before.args.clock c.if1.true)
 
 returns-2 : tie.Need-returns-2
-returns-2 c = sym (weight-other c.before.args.first 0 c.before.args.clock c.if1.false)
+returns-2 c = sym (weight_other c.before.args.first 0 c.before.args.clock c.if1.false)
 
 pub weight-of-spec : {M : Type 1} → statement M
 weight-of-spec = tie.close (tie.spec returns returns-2)

@@ -1,4 +1,4 @@
-use Rattle.words.proofs.AnyBelow.{any-three, first, later}
+use Rattle.words.proofs.AnyBelow.{any_three, first, later}
 use native.Mathlib.Omega.{arith}
 use Prim.Native.Nat.{◌+◌, ◌-◌, ◌*◌, ◌/◌, ◌%◌}
 use mathlib.Core.Path.{refl, ◌∙◌}
@@ -21,7 +21,7 @@ returns c =
     let a = start.args in
     let h = (64 - a.s % 64) % 64 in
     let n = (a.len - h) / 64 in
-    first _ _ _ _ (any-three a.a.now a.s h (64 * n) (a.len - h - 64 * n) a.len (64 * ((a.s + h) / 64)) (a.s + h + 64 * n) (omega arith) (omega arith) (omega arith)) c.before.any-rest.ensures c.if1.taken
+    first _ _ _ _ (any_three a.a.now a.s h (64 * n) (a.len - h - 64 * n) a.len (64 * ((a.s + h) / 64)) (a.s + h + 64 * n) (omega arith) (omega arith) (omega arith)) c.before.any-rest.ensures c.if1.taken
 
 add-any-words : tie.Need-add-any-words
 add-any-words c = search rules
@@ -37,7 +37,7 @@ returns-2 c =
     let h = (64 - a.s % 64) % 64 in
     let n = (a.len - h) / 64 in
     first _ _ _ _ refl c.before.any-words.ensures c.if2.taken
-    ∙ later _ _ _ _ (any-three a.a.now a.s h (64 * n) (a.len - h - 64 * n) a.len (64 * ((a.s + h) / 64)) (a.s + h + 64 * n) (omega arith) (omega arith) (omega arith)) rest.any-rest.ensures c.before.before.if1.left
+    ∙ later _ _ _ _ (any_three a.a.now a.s h (64 * n) (a.len - h - 64 * n) a.len (64 * ((a.s + h) / 64)) (a.s + h + 64 * n) (omega arith) (omega arith) (omega arith)) rest.any-rest.ensures c.before.before.if1.left
 
 add-any-rest : tie.Need-add-any-rest
 add-any-rest c = search rules
@@ -70,7 +70,7 @@ returns-3 c =
     let n = (a.len - h) / 64 in
     c.any-rest2.ensures
     ∙ later _ _ _ _ refl words.any-words.ensures c.before.if2.left
-    ∙ later _ _ _ _ (any-three a.a.now a.s h (64 * n) (a.len - h - 64 * n) a.len (64 * ((a.s + h) / 64)) (a.s + h + 64 * n) (omega arith) (omega arith) (omega arith)) rest.any-rest.ensures words.before.if1.left
+    ∙ later _ _ _ _ (any_three a.a.now a.s h (64 * n) (a.len - h - 64 * n) a.len (64 * ((a.s + h) / 64)) (a.s + h + 64 * n) (omega arith) (omega arith) (omega arith)) rest.any-rest.ensures words.before.if1.left
 
 pub any-long-spec : {M : Type 1} → statement M
 any-long-spec =

@@ -18,7 +18,7 @@ low-requires c κs = search rules
 
 returns : tie.Need-returns
 returns c =
-    let x = c.before.word-at in
+    let x = c.before.word_at_lem in
     let y = c.low in
     let a = c.before.before.before.before.args in
     let p : ℕ → Bool = λ i. mem a.a.now (a.s + i) in

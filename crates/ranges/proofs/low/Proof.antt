@@ -1,4 +1,4 @@
-use Rattle.words.proofs.Bit.{bit-low}
+use Rattle.words.proofs.Bit.{bit_low}
 use borrow.Author.Rules.{rules}
 use Rattle.ranges.proofs.low.Statement.{statement}
 use Rattle.ranges.proofs.low.Tie as tie
@@ -10,7 +10,7 @@ shr-result : tie.Need-shr-result
 shr-result c = search rules
 
 returns : tie.Need-returns
-returns c = λ j. bit-low c.args.r j c.pre.1
+returns c = λ j. bit_low c.args.r j c.pre.1
 
 pub low-spec : {M : Type 1} → statement M
 low-spec = tie.close (tie.spec sub-result shr-result returns)

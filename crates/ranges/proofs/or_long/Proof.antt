@@ -1,4 +1,4 @@
-use Rattle.words.proofs.Sets.{range-more}
+use Rattle.words.proofs.Sets.{range_more}
 use native.Mathlib.Omega.{arith}
 use Prim.Native.Nat.{◌-◌, ◌%◌}
 use borrow.Author.Rules.{rules}
@@ -44,7 +44,7 @@ returns-2 c =
     let rest = middle.before.before.before.before in
     let a = rest.before.before.before.before.before.before.args in
     let h = (64 - a.d % 64) % 64 in
-    range-more a.d a.s a.m a.src.now a.mask.now h (a.len - h) a.len (omega (arith, rest.before.before.if1.left)) a.dst.now rest.or-rest.last.0 middle.or-middle.last.0
+    range_more a.d a.s a.m a.src.now a.mask.now h (a.len - h) a.len (omega (arith, rest.before.before.if1.left)) a.dst.now rest.or-rest.last.0 middle.or-middle.last.0
     rest.or-rest.ensures middle.or-middle.ensures
 
 pub or-long-spec : {M : Type 1} → statement M

@@ -1,4 +1,4 @@
-use Rattle.words.proofs.Sets.{range-more, moved}
+use Rattle.words.proofs.Sets.{range_more, moved}
 use native.Mathlib.Omega.{arith}
 use Prim.Native.Nat.{ℕ, ◌+◌, ◌-◌, ◌*◌, ◌/◌, ◌%◌, ◌^◌, ◌≤◌, ◌<◌, min}
 use mathlib.Core.Path.{◌≡◌}
@@ -82,7 +82,7 @@ returns c =
     let least = words.before.before in
     let a = least.before.before.before.before.before.before.before.before.before.args in
     let n = least.lesser3.result in
-    range-more a.d a.s a.m a.src.now a.mask.now (64 * n) (a.len - 64 * n) a.len (omega (arith, least.lesser3.ensures, least.before.lesser2.ensures)) a.dst.now words.or-words.last.0 slow.or-slow.last.0
+    range_more a.d a.s a.m a.src.now a.mask.now (64 * n) (a.len - 64 * n) a.len (omega (arith, least.lesser3.ensures, least.before.lesser2.ensures)) a.dst.now words.or-words.last.0 slow.or-slow.last.0
     (moved (64 * (a.d / 64)) a.d (64 * (a.s / 64) + a.s % 64) a.s (64 * (a.m / 64) + a.m % 64) a.m (64 * n) a.src.now a.mask.now a.dst.now words.or-words.last.0
     (omega (arith, least.before.before.before.before.before.before.before.before.before.pre.0)) (omega arith) (omega arith) words.or-words.ensures)
     slow.or-slow.ensures

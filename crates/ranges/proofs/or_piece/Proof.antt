@@ -1,4 +1,4 @@
-use Rattle.words.proofs.Sets.{joined-bits, and-bits}
+use Rattle.words.proofs.Sets.{joined-bits, and_bits}
 use Rattle.words.specs.Words.{mem, meet}
 use Prim.Native.Nat.{◌+◌}
 use mathlib.Core.Bool.{◌&&◌}
@@ -26,7 +26,7 @@ returns c =
     let x = y.before in
     let a = x.before.before.before.before.before.args in
     joined-bits a.d 64 (λ j. mem a.src.now (a.s + j) && mem a.mask.now (a.m + j)) _ a.dst.now after.or_at.last.0
-    (and-bits 64 (λ j. mem a.src.now (a.s + j)) (λ j. mem a.mask.now (a.m + j)) x.word-at.result y.word-at2.result x.word-at.ensures y.word-at2.ensures)
+    (and_bits 64 (λ j. mem a.src.now (a.s + j)) (λ j. mem a.mask.now (a.m + j)) x.word_at_lem.result y.word-at2.result x.word_at_lem.ensures y.word-at2.ensures)
     after.or_at.ensures
 
 pub or-piece-spec : {M : Type 1} → statement M

@@ -1,4 +1,4 @@
-use Rattle.words.proofs.Sets.{joined-bits, and-bits, low_bits, range_none}
+use Rattle.words.proofs.Sets.{joined-bits, and_bits, low_bits, range_none}
 use Rattle.words.specs.Words.{mem, Joined, up, below, meet}
 use lib.Bits.{bit_and}
 use native.Mathlib.Omega.{arith}
@@ -34,8 +34,8 @@ returns c =
     let start = x.before.before.before.before.before.before in
     let a = start.args in
     joined-bits a.d a.r (λ j. mem a.src.now (a.s + j) && mem a.mask.now (a.m + j)) _ a.dst.now after.or_at.last.0
-    (low_bits a.r (λ j. mem a.src.now (a.s + j) && mem a.mask.now (a.m + j)) (bit_and x.word-at.result y.word-at2.result) z.low.result start.pre
-    (and-bits 64 (λ j. mem a.src.now (a.s + j)) (λ j. mem a.mask.now (a.m + j)) x.word-at.result y.word-at2.result x.word-at.ensures y.word-at2.ensures)
+    (low_bits a.r (λ j. mem a.src.now (a.s + j) && mem a.mask.now (a.m + j)) (bit_and x.word_at_lem.result y.word-at2.result) z.low.result start.pre
+    (and_bits 64 (λ j. mem a.src.now (a.s + j)) (λ j. mem a.mask.now (a.m + j)) x.word_at_lem.result y.word-at2.result x.word_at_lem.ensures y.word-at2.ensures)
     z.low.ensures)
     after.or_at.ensures
 

@@ -1,4 +1,4 @@
-use Rattle.words.proofs.Sets.{range_none, range-more}
+use Rattle.words.proofs.Sets.{range_none, range_more}
 use Rattle.words.specs.Words.{Joined, up, below, meet}
 use native.Mathlib.Omega.{arith}
 use Prim.Native.Nat.{◌+◌, ◌-◌, ◌≤◌}
@@ -45,7 +45,7 @@ loop-again c =
     let at-loop = after.before.before.before in
     let a = at-loop.before.before.before.before.args in
     let i = at-loop.loop.i in
-    (omega arith, range-more a.d a.s a.m a.src.now a.mask.now i 64 (i + 64) refl a.dst.now at-loop.loop.dst after.or-piece.new.0 at-loop.loop.invariant.1 after.or-piece.ensures)
+    (omega arith, range_more a.d a.s a.m a.src.now a.mask.now i 64 (i + 64) refl a.dst.now at-loop.loop.dst after.or-piece.new.0 at-loop.loop.invariant.1 after.or-piece.ensures)
 
 add-or-rest : tie.Need-overflow-add-or-rest invariant-loop decreases-loop
 add-or-rest c = search rules
@@ -71,7 +71,7 @@ returns c =
     let at-loop = after.before.before.before in
     let a = at-loop.before.before.before.before.args in
     let i = at-loop.loop.i in
-    range-more a.d a.s a.m a.src.now a.mask.now i (a.len - i) a.len (omega arith) a.dst.now at-loop.loop.dst after.or-rest.new.0 at-loop.loop.invariant.1 after.or-rest.ensures
+    range_more a.d a.s a.m a.src.now a.mask.now i (a.len - i) a.len (omega arith) a.dst.now at-loop.loop.dst after.or-rest.new.0 at-loop.loop.invariant.1 after.or-rest.ensures
 
 pub or-slow-spec : {M : Type 1} → statement M
 or-slow-spec =

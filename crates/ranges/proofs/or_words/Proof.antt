@@ -1,4 +1,4 @@
-use Rattle.words.proofs.Sets.{range_none, range-more, or-aligned, meet-bits}
+use Rattle.words.proofs.Sets.{range_none, range_more, or_aligned, meet-bits}
 use Rattle.words.specs.Words.{Joined, up, below, meet}
 use native.Mathlib.Omega.{arith}
 use Prim.Native.Nat.{ℕ, ◌+◌, ◌-◌, ◌*◌, ◌≤◌}
@@ -64,8 +64,8 @@ loop-again c =
     let s = 64 * a.p + a.r in
     let m = 64 * a.q + a.t in (
       omega arith,
-      range-more (64 * a.k) s m a.src.now a.mask.now (64 * j) 64 (64 * (j + 1)) (omega arith) a.dst.now at-loop.loop.dst _ at-loop.loop.invariant.1
-          (or-aligned at-loop.loop.dst (a.k + j) (64 * a.k + 64 * j) _ (meet a.src.now (s + 64 * j) a.mask.now (m + 64 * j)) (omega (arith, at-loop.loop.invariant.1.size)) (omega arith)
+      range_more (64 * a.k) s m a.src.now a.mask.now (64 * j) 64 (64 * (j + 1)) (omega arith) a.dst.now at-loop.loop.dst _ at-loop.loop.invariant.1
+          (or_aligned at-loop.loop.dst (a.k + j) (64 * a.k + 64 * j) _ (meet a.src.now (s + 64 * j) a.mask.now (m + 64 * j)) (omega (arith, at-loop.loop.invariant.1.size)) (omega arith)
           (meet-bits a.src.now a.mask.now (64 * (a.p + j) + a.r) (s + 64 * j) (64 * (a.q + j) + a.t) (m + 64 * j) x.result y.result (omega arith) (omega arith) x.ensures y.ensures)),
     )
 

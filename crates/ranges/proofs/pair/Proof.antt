@@ -1,4 +1,4 @@
-use Rattle.words.proofs.Sets.{pair-bits}
+use Rattle.words.proofs.Sets.{pair_bits}
 use mathlib.Core.Path.{refl}
 use borrow.Author.Rules.{rules}
 use Rattle.ranges.proofs.pair.Statement.{statement}
@@ -32,7 +32,7 @@ returns : tie.Need-returns
 returns c =
     let start = c.before.before in
     let a = start.args in
-    pair-bits a.a.now a.k a.r _ _ start.pre.1 refl refl (c.before.shared-slice-known.given a.k).fits
+    pair_bits a.a.now a.k a.r _ _ start.pre.1 refl refl (c.before.shared-slice-known.given a.k).fits
 
 pub pair_spec : {M : Type 1} → statement M
 pair_spec =

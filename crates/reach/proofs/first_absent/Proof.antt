@@ -8,12 +8,12 @@ use mathlib.Core.Bool.{true}
 use borrow.Author.Tests.{not-true, not-false}
 use borrow.Author.Rules.{rules}
 use Rattle.bits.specs.Member.{mem}
-use Rattle.model.proofs.Missing.{all_found, one-missing}
+use Rattle.model.proofs.Missing.{all_found, one_missing}
 use Rattle.reach.proofs.first_absent.Statement.{statement}
 use Rattle.reach.proofs.first_absent.Tie as tie
 
-present-more : (set : List ℕ) (s : ℕ) → ((r : ℕ) → r < s → mem set r ≡ true) → mem set s ≡ true → (r : ℕ) → r < s + 1 → mem set r ≡ true
-present-more set s below e r l = go (ℕ_discrete r s)
+present_more : (set : List ℕ) (s : ℕ) → ((r : ℕ) → r < s → mem set r ≡ true) → mem set s ≡ true → (r : ℕ) → r < s + 1 → mem set r ≡ true
+present_more set s below e r l = go (ℕ_discrete r s)
   where
     go : Dec (r ≡ s) → mem set r ≡ true
     go (yes q) = ap (λ (x : ℕ). mem set x) q ∙ e
@@ -41,7 +41,7 @@ cast-t8 : tie.Need-overflow-cast-t8 invariant-loop decreases-loop
 cast-t8 c = search rules
 
 returns : tie.Need-returns invariant-loop decreases-loop
-returns c = sym (one-missing _ _ _ (omega arith) c.before.before.before.loop.invariant.1 (sym c.before.test.ensures ∙ not-true c.before.test.result c.if1.true))
+returns c = sym (one_missing _ _ _ (omega arith) c.before.before.before.loop.invariant.1 (sym c.before.test.ensures ∙ not-true c.before.test.result c.if1.true))
 
 sub-left : tie.Need-overflow-sub-left invariant-loop decreases-loop
 sub-left c = search rules
@@ -52,7 +52,7 @@ loop-less c = search rules
 loop-again : tie.Need-loop-preserved invariant-loop decreases-loop
 loop-again c = (
   omega arith,
-  λ r l. present-more _ _ c.before.before.before.loop.invariant.1 (sym c.before.test.ensures ∙ not-false c.before.test.result c.if1.false) r (omega arith),
+  λ r l. present_more _ _ c.before.before.before.loop.invariant.1 (sym c.before.test.ensures ∙ not-false c.before.test.result c.if1.false) r (omega arith),
 )
 
 returns-2 : tie.Need-returns-2 invariant-loop decreases-loop

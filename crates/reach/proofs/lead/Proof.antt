@@ -3,7 +3,7 @@ use native.Mathlib.Omega.{arith}
 use mathlib.Core.Path.{sym, ◌∙◌}
 use borrow.Author.Tests.{not-true, not-false}
 use borrow.Author.Rules.{rules}
-use Rattle.reach.proofs.Spreads.{tried-away, tried-already, tried-put}
+use Rattle.reach.proofs.Spreads.{tried_away, tried_already, tried_put}
 use Rattle.reach.proofs.lead.Statement.{statement}
 use Rattle.reach.proofs.lead.Tie as tie
 
@@ -14,7 +14,7 @@ same_length : tie.Need-same-length
 same_length c = search rules
 
 returns : tie.Need-returns
-returns c = tried-away _ _ _ (sym c.before.test.ensures ∙ not-true c.before.test.result c.if1.true)
+returns c = tried_away _ _ _ (sym c.before.test.ensures ∙ not-true c.before.test.result c.if1.true)
 
 test-requires-2 : tie.Need-test-requires-2
 test-requires-2 c κs = search rules
@@ -23,7 +23,7 @@ same-length-2 : tie.Need-same-length-2
 same-length-2 c = search rules
 
 returns-2 : tie.Need-returns-2
-returns-2 c = tried-already _ _ _ (sym c.before.test2.ensures ∙ c.if2.true)
+returns-2 c = tried_already _ _ _ (sym c.before.test2.ensures ∙ c.if2.true)
 
 put-requires : tie.Need-put-requires
 put-requires c κs = search rules
@@ -32,7 +32,7 @@ same-length-3 : tie.Need-same-length-3
 same-length-3 c = search rules
 
 returns-3 : tie.Need-returns-3
-returns-3 c = tried-put _ _ _ _ c.before.before.before.before.before.before.before.before.before.before.before.requires (omega arith) (sym c.before.before.before.before.before.before.before.before.test.ensures ∙ not-false c.before.before.before.before.before.before.before.before.test.result c.before.before.before.before.before.before.before.if1.false) c.before.before.put.ensures
+returns-3 c = tried_put _ _ _ _ c.before.before.before.before.before.before.before.before.before.before.before.requires (omega arith) (sym c.before.before.before.before.before.before.before.before.test.ensures ∙ not-false c.before.before.before.before.before.before.before.before.test.result c.before.before.before.before.before.before.before.if1.false) c.before.before.put.ensures
 
 pub lead-spec : {M : Type 1} → statement M
 lead-spec =

@@ -5,14 +5,14 @@ use mathlib.Core.Path.{◌≡◌, refl, ◌∙◌}
 use lib.ListN.{length}
 use borrow.Author.Rules.{rules}
 use Rattle.model.specs.Bytes.{tab}
-use Rattle.model.specs.Table.{transitionIn, monitorOf}
+use Rattle.model.specs.Table.{transition_in, monitor_of}
 use Rattle.reach.specs.Spreading.{Spread}
-use Rattle.reach.proofs.Spreads.{spread-first, spread-next, spread-whole}
+use Rattle.reach.proofs.Spreads.{spread-first, spread_next, spread-whole}
 use Rattle.reach.proofs.spread.Statement.{statement}
 use Rattle.reach.proofs.spread.Tie as tie
 
 abbrev invariant-loop : tie.invariant-loop
-invariant-loop set₀ t n grown₀ j₀ set grown j = (j ≤ n) × (n ≤ 255) × (length set ≡ length set₀) × Spread (monitorOf t) (tab (transitionIn t) j) set₀ set grown
+invariant-loop set₀ t n grown₀ j₀ set grown j = (j ≤ n) × (n ≤ 255) × (length set ≡ length set₀) × Spread (monitor_of t) (tab (transition_in t) j) set₀ set grown
 
 abbrev decreases-loop : tie.decreases-loop
 decreases-loop set₀ t n grown₀ j₀ set grown j = n - j
@@ -48,7 +48,7 @@ loop-again c =
       omega arith,
       omega arith,
       c.before.before.before.lead.ensures.size ∙ l.invariant.2,
-      spread-next t l.j _ _ _ _ _ l.grown c.before.before.before.lead.result _ (omega arith) c.before.before.before.before.before.before.before.before.byte.ensures.0 c.before.before.before.before.byte2.ensures.0 l.invariant.3 c.before.before.before.lead.ensures c.either.ensures,
+      spread_next t l.j _ _ _ _ _ l.grown c.before.before.before.lead.result _ (omega arith) c.before.before.before.before.before.before.before.before.byte.ensures.0 c.before.before.before.before.byte2.ensures.0 l.invariant.3 c.before.before.before.lead.ensures c.either.ensures,
     )
 
 same_length : tie.Need-same-length invariant-loop decreases-loop

@@ -1,7 +1,7 @@
 -- `reach::states_answer` meets its contract.
 use borrow.Author.Rules.{rules}
-use Rattle.model.specs.Table.{monitorOf}
-use Rattle.reach.proofs.Closes.{answered, zero-alone}
+use Rattle.model.specs.Table.{monitor_of}
+use Rattle.reach.proofs.Closes.{answered, zero_alone}
 use Rattle.reach.proofs.states_answer.Statement.{statement}
 use Rattle.reach.proofs.states_answer.Tie as tie
 
@@ -15,7 +15,7 @@ slice-aggregate-close : tie.Need-slice-aggregate-close
 slice-aggregate-close c = search rules
 
 close-requires : tie.Need-close-requires
-close-requires c κs = (c.before.before.put.ensures.size, zero-alone 31 _ c.before.before.put.ensures)
+close-requires c κs = (c.before.before.put.ensures.size, zero_alone 31 _ c.before.before.put.ensures)
 
 slice-aggregate-first-absent : tie.Need-slice-aggregate-first-absent
 slice-aggregate-first-absent c = search rules
@@ -24,8 +24,8 @@ first-absent-requires : tie.Need-first-absent-requires
 first-absent-requires c κs = search rules
 
 returns : tie.Need-returns
-unfolding monitorOf
-returns c = answered (monitorOf c.before.before.before.before.before.before.before.before.args.t) _ _ c.before.before.before.close.ensures c.first_absent.ensures
+unfolding monitor_of
+returns c = answered (monitor_of c.before.before.before.before.before.before.before.before.args.t) _ _ c.before.before.before.close.ensures c.first_absent.ensures
 
 pub states-answer-spec : {M : Type 1} → statement M
 states-answer-spec =

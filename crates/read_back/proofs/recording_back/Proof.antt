@@ -1,7 +1,7 @@
 use native.Mathlib.Omega.{arith}
 use borrow.Author.Rules.{rules}
 use Rattle.columns.proofs.Columns.{all-below}
-use Rattle.read_back.proofs.Kept.{recording-fits, recording-read, recording-unwritten}
+use Rattle.read_back.proofs.Kept.{recording_fits, recording_read, recording_unwritten}
 use Rattle.read_back.proofs.recording_back.Statement.{statement}
 use Rattle.read_back.proofs.recording_back.Tie as tie
 
@@ -18,7 +18,7 @@ part-read-recording-start : tie.Need-slice-bounds-read-recording-start
 part-read-recording-start c = search rules
 
 part-read-recording-end : tie.Need-slice-bounds-read-recording-end
-part-read-recording-end c = omega (arith, recording-fits _ _ _ _ _ _ c.before.before.before.before.before.before.write-recording.ensures c.before.before.written.given.1)
+part-read-recording-end c = omega (arith, recording_fits _ _ _ _ _ _ c.before.before.before.before.before.before.write-recording.ensures c.before.before.written.given.1)
 
 read-recording-requires : tie.Need-read-recording-requires
 read-recording-requires c κs = search rules
@@ -36,7 +36,7 @@ returns : tie.Need-returns
 returns c =
     let w = c.before.before.before.before.before.before.before.before.write-recording.ensures in
     let s = c.before.before.before.before.before.before.before.before.before.before.before.before in
-    recording-read _ _ _ _ _ w _ (λ i h. all-below s.args.r.times s.well-formed.1.0.1.1.1.0.0 s.well-formed.1.0.1.1.1.0.1.1 i) _ c.before.before.before.before.written.given.1 c.read-recording.ensures.0
+    recording_read _ _ _ _ _ w _ (λ i h. all-below s.args.r.times s.well-formed.1.0.1.1.1.0.0 s.well-formed.1.0.1.1.1.0.1.1 i) _ c.before.before.before.before.written.given.1 c.read-recording.ensures.0
 
 same-length-2 : tie.Need-same-length-2
 same-length-2 c = search rules
@@ -44,7 +44,7 @@ same-length-2 c = search rules
 returns-2 : tie.Need-returns-2
 returns-2 c =
     let w = c.before.before.before.before.before.before.write-recording.ensures in
-    recording-unwritten _ _ _ _ _ w _ _ c.before.before.written2.given.1 c.refused-recording.ensures
+    recording_unwritten _ _ _ _ _ w _ _ c.before.before.written2.given.1 c.refused-recording.ensures
 
 pub recording-back-spec : {M : Type 1} → statement M
 recording-back-spec =

@@ -1,6 +1,6 @@
 use mathlib.Core.Path.{refl, ap, ◌∙◌}
 use borrow.Author.Rules.{rules}
-use Rattle.read_back.proofs.Kept.{no-recording-read}
+use Rattle.read_back.proofs.Kept.{no_recording_read}
 use Rattle.read_back.proofs.refused_recording.Statement.{statement}
 use Rattle.read_back.proofs.refused_recording.Tie as tie
 
@@ -14,7 +14,7 @@ read-recording-requires : tie.Need-read-recording-requires
 read-recording-requires c κs = search rules
 
 returns : tie.Need-returns
-returns c = (refl, ap (λ (x : _). x.parts) c.before.read-recording.ensures.0 ∙ no-recording-read)
+returns c = (refl, ap (λ (x : _). x.parts) c.before.read-recording.ensures.0 ∙ no_recording_read)
 
 pub refused-recording-spec : {M : Type 1} → statement M
 refused-recording-spec =

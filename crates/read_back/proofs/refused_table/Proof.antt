@@ -1,6 +1,6 @@
 use mathlib.Core.Path.{refl, ap, ◌∙◌}
 use borrow.Author.Rules.{rules}
-use Rattle.read_back.proofs.Kept.{no-table-read}
+use Rattle.read_back.proofs.Kept.{no_table_read}
 use Rattle.read_back.proofs.refused_table.Statement.{statement}
 use Rattle.read_back.proofs.refused_table.Tie as tie
 
@@ -11,7 +11,7 @@ read-table-requires : tie.Need-read-table-requires
 read-table-requires c κs = search rules
 
 returns : tie.Need-returns
-returns c = (refl, ap (λ (x : _). x.parts) c.before.read_table.ensures.0 ∙ no-table-read)
+returns c = (refl, ap (λ (x : _). x.parts) c.before.read_table.ensures.0 ∙ no_table_read)
 
 pub refused-table-spec : {M : Type 1} → statement M
 refused-table-spec = tie.close (tie.spec slice-aggregate-read-table read-table-requires returns)

@@ -1,6 +1,6 @@
 use mathlib.Core.Path.{refl, ap, ◌∙◌}
 use borrow.Author.Rules.{rules}
-use Rattle.read_back.proofs.Kept.{no-witness-read}
+use Rattle.read_back.proofs.Kept.{no_witness_read}
 use Rattle.read_back.proofs.refused_witness.Statement.{statement}
 use Rattle.read_back.proofs.refused_witness.Tie as tie
 
@@ -11,7 +11,7 @@ read-witness-requires : tie.Need-read-witness-requires
 read-witness-requires c κs = search rules
 
 returns : tie.Need-returns
-returns c = (refl, ap (λ (x : _). x.parts) c.before.read-witness.ensures.0 ∙ no-witness-read)
+returns c = (refl, ap (λ (x : _). x.parts) c.before.read-witness.ensures.0 ∙ no_witness_read)
 
 pub refused-witness-spec : {M : Type 1} → statement M
 refused-witness-spec =

@@ -2,7 +2,7 @@ use native.Mathlib.Omega.{arith}
 use mathlib.Core.Path.{sym, ◌∙◌}
 use lib.ListN.{length-map}
 use borrow.Author.Rules.{rules}
-use Rattle.read_back.proofs.Kept.{table_fits, table-read, table-unwritten}
+use Rattle.read_back.proofs.Kept.{table_fits, table_read, table_unwritten}
 use Rattle.read_back.proofs.table_back.Statement.{statement}
 use Rattle.read_back.proofs.table_back.Tie as tie
 
@@ -37,7 +37,7 @@ returns : tie.Need-returns
 returns c =
     let w = c.before.before.before.before.before.before.before.before.write-table.ensures.0 in
     let s = c.before.before.before.before.before.before.before.before.before.before.before in
-    table-read _ _ _ _ w _ (sym (length-map s.args.t.guards (λ x. x)) ∙ s.well-formed.0.1.1.1.1.1.1.1.1.1.1.1.1.1.1.1.1.1.1.0.1.0.1) _ c.before.before.before.before.written.given.1 c.read_table.ensures.0
+    table_read _ _ _ _ w _ (sym (length-map s.args.t.guards (λ x. x)) ∙ s.well-formed.0.1.1.1.1.1.1.1.1.1.1.1.1.1.1.1.1.1.1.0.1.0.1) _ c.before.before.before.before.written.given.1 c.read_table.ensures.0
 
 same-length-2 : tie.Need-same-length-2
 same-length-2 c = search rules
@@ -45,7 +45,7 @@ same-length-2 c = search rules
 returns-2 : tie.Need-returns-2
 returns-2 c =
     let w = c.before.before.before.before.before.before.write-table.ensures.0 in
-    table-unwritten _ _ _ _ w _ _ c.before.before.written2.given.1 c.refused-table.ensures
+    table_unwritten _ _ _ _ w _ _ c.before.before.written2.given.1 c.refused-table.ensures
 
 pub table-back-spec : {M : Type 1} → statement M
 table-back-spec =

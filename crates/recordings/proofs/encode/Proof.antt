@@ -7,18 +7,18 @@ use Rattle.model.specs.Bytes.{joined}
 use Rattle.model.specs.Room.{over}
 use Rattle.wire.specs.Placed.{placed}
 use Rattle.wire.proofs.Room.{placed-behind}
-use Rattle.model.specs.Frame.{rowsFrame}
-use Rattle.model.specs.Recording.{recordedBytes}
+use Rattle.model.specs.Frame.{rows_frame}
+use Rattle.model.specs.Recording.{recorded_bytes}
 use Rattle.model.specs.declared.Edition.TheVariants.{One}
 use Rattle.recordings.proofs.Recordings.{long-rows}
-use Rattle.frame.proofs.Written.{joined-none, placed_row}
+use Rattle.frame.proofs.Written.{joined_none, placed_row}
 use borrow.Author.Rules.{rules}
 use Rattle.recordings.proofs.encode.Statement.{statement}
 use Rattle.recordings.proofs.encode.Tie as tie
 
 abbrev invariant-loop : tie.invariant-loop
 invariant-loop times kinds count out₀ i₀ out i = (i ≤ count)
-    × ((room : List ℕ) → 5 + 3 * count ≤ length room → out₀ ≡ over (rowsFrame One 3 count) room → out ≡ over (rowsFrame One 3 count ++ joined (recordedBytes times kinds) i) room)
+    × ((room : List ℕ) → 5 + 3 * count ≤ length room → out₀ ≡ over (rows_frame One 3 count) room → out ≡ over (rows_frame One 3 count ++ joined (recorded_bytes times kinds) i) room)
     × (length out ≡ length out₀)
 
 abbrev decreases-loop : tie.decreases-loop
@@ -33,7 +33,7 @@ put-frame-requires c κs = search rules
 loop-holds : tie.Need-loop-init invariant-loop decreases-loop
 loop-holds c = (
   omega arith,
-  λ room h e. let a = c.before.before.before.before.before.before.before.args in e ∙ ap (λ (l : List ℕ). over l room) (sym (joined-none (rowsFrame One 3 a.count) (recordedBytes a.times.now a.kinds.now))),
+  λ room h e. let a = c.before.before.before.before.before.before.before.args in e ∙ ap (λ (l : List ℕ). over l room) (sym (joined_none (rows_frame One 3 a.count) (recorded_bytes a.times.now a.kinds.now))),
   refl,
 )
 
@@ -49,8 +49,8 @@ loop-less c = search rules
 loop-again : tie.Need-loop-preserved invariant-loop decreases-loop
 loop-again c = let a = c.before.before.before.before.before.before.before.before.before.before.before.before.before.args in
     let i = c.before.before.before.before.before.loop.i in
-    let head = rowsFrame One 3 a.count in
-    let row = recordedBytes a.times.now a.kinds.now in (
+    let head = rows_frame One 3 a.count in
+    let row = recorded_bytes a.times.now a.kinds.now in (
       omega arith,
       λ room h e. c.before.before.put-row.ensures ∙ ap (placed (row i) (5 + 3 * i)) (c.before.before.before.before.before.loop.invariant.1 room h e) ∙ placed_row head row room i (5 + 3 * i) (long-rows a.count a.times.now a.kinds.now i) (omega arith),
       search rules,
@@ -61,8 +61,8 @@ same_length c = search rules
 
 returns : tie.Need-returns invariant-loop decreases-loop
 returns c = let a = c.before.before.before.before.before.before.before.before.before.args in
-    let head = rowsFrame One 3 a.count in
-    let row = recordedBytes a.times.now a.kinds.now in
+    let head = rows_frame One 3 a.count in
+    let row = recorded_bytes a.times.now a.kinds.now in
     let room = a.out.now in
     let all : c.before.loop.i ≡ a.count = omega arith in
     c.before.loop.invariant.1 room (omega arith) (c.before.before.before.before.put-frame.ensures ∙ placed-behind [] head room 0 refl (omega arith))

@@ -1,9 +1,9 @@
 use native.Mathlib.Omega.{arith}
 use mathlib.Core.Path.{refl, ap, ◌∙◌}
-use Rattle.model.specs.Limits.{rowLimit}
+use Rattle.model.specs.Limits.{row_limit}
 use Rattle.model.specs.Bytes.{padded, tab}
-use Rattle.model.specs.Recording.{recordingParts, rowKindAt}
-use Rattle.columns.proofs.Columns.{filled-zeros}
+use Rattle.model.specs.Recording.{recording_parts, row_kind_at}
+use Rattle.columns.proofs.Columns.{filled_zeros}
 use borrow.Author.Rules.{rules}
 use Rattle.recordings.proofs.kind_column.Statement.{statement}
 use Rattle.recordings.proofs.kind_column.Tie as tie
@@ -21,9 +21,9 @@ bytes-column-requires : tie.Need-bytes-column-requires
 bytes-column-requires c κs = search rules
 
 returns : tie.Need-returns
-unfolding recordingParts
+unfolding recording_parts
 returns c = let b = c.before.before.before.before.before.args.b.now in
-    c.before.bytes-column.ensures ∙ filled-zeros (rowKindAt b) c.before.before.before.word.result rowLimit _ (omega arith) refl ∙ ap (λ m. padded rowLimit (tab (rowKindAt b) m)) c.before.before.before.word.ensures.0
+    c.before.bytes-column.ensures ∙ filled_zeros (row_kind_at b) c.before.before.before.word.result row_limit _ (omega arith) refl ∙ ap (λ m. padded row_limit (tab (row_kind_at b) m)) c.before.before.before.word.ensures.0
 
 pub kind-column-spec : {M : Type 1} → statement M
 kind-column-spec =

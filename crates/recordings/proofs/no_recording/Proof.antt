@@ -1,10 +1,10 @@
 use mathlib.Core.Path.{refl}
-use Rattle.model.specs.Recording.{noRecording}
+use Rattle.model.specs.Recording.{no_recording}
 use Rattle.recordings.proofs.no_recording.Statement.{statement}
 use Rattle.recordings.proofs.no_recording.Tie as tie
 
 returns : tie.Need-returns
-unfolding noRecording
+unfolding no_recording
 returns c = refl
 
 pub no-recording-spec : {M : Type 1} → statement M

@@ -1,7 +1,7 @@
 use borrow.Author.Tests.{le-leb, lt-leb, le-ltb, lt-ltb, not-true, not-false}
 use native.Mathlib.Omega.{arith}
-use Rattle.model.specs.Limits.{timeLimit}
-use Rattle.model.specs.Recording.{recordedRow}
+use Rattle.model.specs.Limits.{time_limit}
+use Rattle.model.specs.Recording.{recorded_row}
 use borrow.Author.Rules.{rules}
 use Rattle.recordings.proofs.recorded_row.Statement.{statement}
 use Rattle.recordings.proofs.recorded_row.Tie as tie
@@ -16,7 +16,7 @@ word-requires : tie.Need-word-requires
 word-requires c κs = search rules
 
 returns : tie.Need-returns
-unfolding recordedRow
+unfolding recorded_row
 returns c = rw (← c.before.word.ensures.0, lt-leb _ _ c.if1.true)
 
 byte-requires : tie.Need-byte-requires
@@ -32,19 +32,19 @@ byte-requires-2 : tie.Need-byte-requires-2
 byte-requires-2 c κs = search rules
 
 returns-2 : tie.Need-returns-2
-unfolding recordedRow
-returns-2 c = rw (← c.before.before.before.before.word.ensures.0, le-leb _ _ c.before.before.before.if1.false, le-leb c.before.before.before.before.word.result timeLimit (omega arith), ← c.before.before.byte.ensures.0, ← c.before.byte2.ensures.0, le-ltb _ _ c.if2.true)
+unfolding recorded_row
+returns-2 c = rw (← c.before.before.before.before.word.ensures.0, le-leb _ _ c.before.before.before.if1.false, le-leb c.before.before.before.before.word.result time_limit (omega arith), ← c.before.before.byte.ensures.0, ← c.before.byte2.ensures.0, le-ltb _ _ c.if2.true)
 
 clear-of-before-requires : tie.Need-clear-of-before-requires
 clear-of-before-requires c κs = search rules
 
 returns-3 : tie.Need-returns-3
-unfolding recordedRow
-returns-3 c = rw (← c.before.before.before.before.before.before.word.ensures.0, le-leb _ _ c.before.before.before.before.before.if1.false, le-leb c.before.before.before.before.before.before.word.result timeLimit (omega arith), ← c.before.before.before.before.byte.ensures.0, ← c.before.before.before.byte2.ensures.0, lt-ltb _ _ c.before.before.if2.false, ← c.before.clear-of-before.ensures, not-true c.before.clear-of-before.result c.if3.true)
+unfolding recorded_row
+returns-3 c = rw (← c.before.before.before.before.before.before.word.ensures.0, le-leb _ _ c.before.before.before.before.before.if1.false, le-leb c.before.before.before.before.before.before.word.result time_limit (omega arith), ← c.before.before.before.before.byte.ensures.0, ← c.before.before.before.byte2.ensures.0, lt-ltb _ _ c.before.before.if2.false, ← c.before.clear-of-before.ensures, not-true c.before.clear-of-before.result c.if3.true)
 
 returns-4 : tie.Need-returns-4
-unfolding recordedRow
-returns-4 c = rw (← c.before.before.before.before.before.before.word.ensures.0, le-leb _ _ c.before.before.before.before.before.if1.false, le-leb c.before.before.before.before.before.before.word.result timeLimit (omega arith), ← c.before.before.before.before.byte.ensures.0, ← c.before.before.before.byte2.ensures.0, lt-ltb _ _ c.before.before.if2.false, ← c.before.clear-of-before.ensures, not-false c.before.clear-of-before.result c.if3.false)
+unfolding recorded_row
+returns-4 c = rw (← c.before.before.before.before.before.before.word.ensures.0, le-leb _ _ c.before.before.before.before.before.if1.false, le-leb c.before.before.before.before.before.before.word.result time_limit (omega arith), ← c.before.before.before.before.byte.ensures.0, ← c.before.before.before.byte2.ensures.0, lt-ltb _ _ c.before.before.if2.false, ← c.before.clear-of-before.ensures, not-false c.before.clear-of-before.result c.if3.false)
 
 pub recorded-row-spec : {M : Type 1} → statement M
 recorded-row-spec =

@@ -2,15 +2,15 @@ use Prim.Native.Nat.{◌≤◌, ◌<◌, ◌-◌}
 use native.Mathlib.Omega.{arith}
 use native.Mathlib.Nat.{sub-zero}
 use mathlib.Core.Path.{◌≡◌, sym, ◌∙◌}
-use Rattle.model.specs.Recording.{recordedRows}
-use Rattle.recordings.proofs.Recordings.{rows-turn, rows_end}
+use Rattle.model.specs.Recording.{recorded_rows}
+use Rattle.recordings.proofs.Recordings.{rows_turn, rows_end}
 use Rattle.frame.proofs.Answers.{turn-stops, turn-goes}
 use borrow.Author.Rules.{rules}
 use Rattle.recordings.proofs.recorded_rows.Statement.{statement}
 use Rattle.recordings.proofs.recorded_rows.Tie as tie
 
 abbrev invariant-loop : tie.invariant-loop
-invariant-loop table b n i₀ i = (i ≤ n) × (n < 65536) × (recordedRows n table b 0 ≡ recordedRows (n - i) table b i)
+invariant-loop table b n i₀ i = (i ≤ n) × (n < 65536) × (recorded_rows n table b 0 ≡ recorded_rows (n - i) table b i)
 
 abbrev decreases-loop : tie.decreases-loop
 decreases-loop table b n i₀ i = n - i
@@ -33,7 +33,7 @@ sound-requires c κs = search rules
 returns : tie.Need-returns invariant-loop decreases-loop
 returns c = let a = c.before.before.before.before.before.before.before.before.args in
     rw (← c.before.before.before.before.before.word.ensures.0)
-    (turn-stops _ _ _ _ _ (rows-turn a.table.now a.b.now c.before.before.before.before.before.word.result c.before.before.before.before.loop.i c.before.before.before.loop-test.true) c.before.before.Recorded-row.ensures c.before.sound.ensures c.if1.true ∙ sym c.before.before.before.before.loop.invariant.2)
+    (turn-stops _ _ _ _ _ (rows_turn a.table.now a.b.now c.before.before.before.before.before.word.result c.before.before.before.before.loop.i c.before.before.before.loop-test.true) c.before.before.Recorded-row.ensures c.before.sound.ensures c.if1.true ∙ sym c.before.before.before.before.loop.invariant.2)
 
 add-i : tie.Need-overflow-add-i invariant-loop decreases-loop
 add-i c = search rules
@@ -45,7 +45,7 @@ loop-again : tie.Need-loop-preserved invariant-loop decreases-loop
 loop-again c = let a = c.before.before.before.before.before.before.before.before.args in (
   omega arith,
   omega arith,
-  c.before.before.before.before.loop.invariant.2 ∙ turn-goes _ _ _ _ _ (rows-turn a.table.now a.b.now c.before.before.before.before.before.word.result c.before.before.before.before.loop.i c.before.before.before.loop-test.true) c.before.before.Recorded-row.ensures c.before.sound.ensures c.if1.false,
+  c.before.before.before.before.loop.invariant.2 ∙ turn-goes _ _ _ _ _ (rows_turn a.table.now a.b.now c.before.before.before.before.before.word.result c.before.before.before.before.loop.i c.before.before.before.loop-test.true) c.before.before.Recorded-row.ensures c.before.sound.ensures c.if1.false,
 )
 
 returns-2 : tie.Need-returns-2 invariant-loop decreases-loop

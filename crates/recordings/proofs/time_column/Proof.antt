@@ -1,9 +1,9 @@
 use native.Mathlib.Omega.{arith}
 use mathlib.Core.Path.{refl, ap, ◌∙◌}
-use Rattle.model.specs.Limits.{rowLimit}
+use Rattle.model.specs.Limits.{row_limit}
 use Rattle.model.specs.Bytes.{padded, tab}
-use Rattle.model.specs.Recording.{recordingParts, timeAt}
-use Rattle.columns.proofs.Columns.{filled-zeros}
+use Rattle.model.specs.Recording.{recording_parts, time_at}
+use Rattle.columns.proofs.Columns.{filled_zeros}
 use borrow.Author.Rules.{rules}
 use Rattle.recordings.proofs.time_column.Statement.{statement}
 use Rattle.recordings.proofs.time_column.Tie as tie
@@ -21,9 +21,9 @@ words-column-requires : tie.Need-words-column-requires
 words-column-requires c κs = search rules
 
 returns : tie.Need-returns
-unfolding recordingParts
+unfolding recording_parts
 returns c = let b = c.before.before.before.before.before.args.b.now in
-    c.before.words-column.ensures ∙ filled-zeros (timeAt b) c.before.before.before.word.result rowLimit _ (omega arith) refl ∙ ap (λ m. padded rowLimit (tab (timeAt b) m)) c.before.before.before.word.ensures.0
+    c.before.words-column.ensures ∙ filled_zeros (time_at b) c.before.before.before.word.result row_limit _ (omega arith) refl ∙ ap (λ m. padded row_limit (tab (time_at b) m)) c.before.before.before.word.ensures.0
 
 pub time-column-spec : {M : Type 1} → statement M
 time-column-spec =

@@ -2,9 +2,9 @@ use Prim.Native.Nat.{◌+◌, ◌*◌, ◌-◌, ◌≤◌}
 use native.Mathlib.Omega.{arith}
 use mathlib.Core.Path.{sym, ap, ◌∙◌}
 use lib.ListN.{replicate}
-use Rattle.model.specs.First.{isSound}
-use Rattle.model.specs.Limits.{rowLimit}
-use Rattle.recordings.proofs.Recordings.{early-bound, write-early, write-late, encoded}
+use Rattle.model.specs.First.{is_sound}
+use Rattle.model.specs.Limits.{row_limit}
+use Rattle.recordings.proofs.Recordings.{early_bound, write-early, write-late, encoded}
 use borrow.Author.Rules.{rules}
 use Rattle.recordings.proofs.write_recording.Statement.{statement}
 use Rattle.recordings.proofs.write_recording.Tie as tie
@@ -29,7 +29,7 @@ slice-aggregate-encode : tie.Need-slice-aggregate-encode
 slice-aggregate-encode c = search rules
 
 encode-requires : tie.Need-encode-requires
-encode-requires c κs = let few : c.before.before.before.before.before.before.before.before.before.before.before.args.t2.count ≤ rowLimit = early-bound c.before.before.before.before.before.before.before.before.before.before.before.args.table.now c.before.before.before.before.before.before.before.before.before.before.before.args.t2 (ap isSound (sym c.before.before.before.before.before.before.before.before.early-answer.ensures ∙ c.before.before.before.before.before.before.enum_told.given.1)) in
+encode-requires c κs = let few : c.before.before.before.before.before.before.before.before.before.before.before.args.t2.count ≤ row_limit = early_bound c.before.before.before.before.before.before.before.before.before.before.before.args.table.now c.before.before.before.before.before.before.before.before.before.before.before.args.t2 (ap is_sound (sym c.before.before.before.before.before.before.before.before.early-answer.ensures ∙ c.before.before.before.before.before.before.enum_told.given.1)) in
     (few, omega arith)
 
 mul-encoded : tie.Need-overflow-mul-encoded
@@ -45,7 +45,7 @@ part-encoded-start : tie.Need-slice-bounds-encoded-start
 part-encoded-start c = search rules
 
 part-encoded-end : tie.Need-slice-bounds-encoded-end
-part-encoded-end c = let few : c.before.before.before.before.before.before.before.before.before.before.before.before.before.before.args.t2.count ≤ rowLimit = early-bound c.before.before.before.before.before.before.before.before.before.before.before.before.before.before.args.table.now c.before.before.before.before.before.before.before.before.before.before.before.before.before.before.args.t2 (ap isSound (sym c.before.before.before.before.before.before.before.before.before.before.before.early-answer.ensures ∙ c.before.before.before.before.before.before.before.before.before.enum_told.given.1)) in
+part-encoded-end c = let few : c.before.before.before.before.before.before.before.before.before.before.before.before.before.before.args.t2.count ≤ row_limit = early_bound c.before.before.before.before.before.before.before.before.before.before.before.before.before.before.args.table.now c.before.before.before.before.before.before.before.before.before.before.before.before.before.before.args.t2 (ap is_sound (sym c.before.before.before.before.before.before.before.before.before.before.before.early-answer.ensures ∙ c.before.before.before.before.before.before.before.before.before.enum_told.given.1)) in
     omega (arith, c.before.before.encode.auto)
 
 recording-answer-requires : tie.Need-recording-answer-requires
@@ -59,8 +59,8 @@ same_length c = search rules
 
 returns-2 : tie.Need-returns-2
 returns-2 c = let a = c.before.before.before.before.before.before.before.before.before.before.before.before.before.before.before.before.before.before.before.before.args in
-    write-late a.table.now a.t2 a.room.now _ _ (ap isSound (sym c.before.before.before.before.before.before.before.before.before.before.before.before.before.before.before.before.before.early-answer.ensures ∙ c.before.before.before.before.before.before.before.before.before.before.before.before.before.before.before.enum_told.given.1))
-    (encoded a.table.now a.t2 (replicate (5 + 3 * rowLimit) 0) _ (5 + 3 * a.t2.count - 0) c.before.before.before.before.before.before.before.before.encode.ensures (omega arith))
+    write-late a.table.now a.t2 a.room.now _ _ (ap is_sound (sym c.before.before.before.before.before.before.before.before.before.before.before.before.before.before.before.before.before.early-answer.ensures ∙ c.before.before.before.before.before.before.before.before.before.before.before.before.before.before.before.enum_told.given.1))
+    (encoded a.table.now a.t2 (replicate (5 + 3 * row_limit) 0) _ (5 + 3 * a.t2.count - 0) c.before.before.before.before.before.before.before.before.encode.ensures (omega arith))
     c.before.before.before.before.recording-answer.ensures _ _ c.before.before.put.ensures
 
 pub write-recording-spec : {M : Type 1} → statement M

@@ -7,9 +7,9 @@ use borrow.Author.Rules.{rules}
 use Rattle.model.specs.Monitor.{airtime}
 use Rattle.model.specs.declared.Config.{Config}
 use Rattle.model.specs.declared.Situation.{Situation}
-use Rattle.rests.specs.Resting.{tickedBy}
-use Rattle.situation.specs.Ruled.{ruledFrom}
-use Rattle.rests.proofs.Removed.{missed-taken, missed-not, missed-row}
+use Rattle.rests.specs.Resting.{ticked_by}
+use Rattle.situation.specs.Ruled.{ruled_from}
+use Rattle.rests.proofs.Removed.{missed_taken, missed_not, missed-row}
 use Rattle.rests.proofs.missed.Statement.{statement}
 use Rattle.rests.proofs.missed.Tie as tie
 
@@ -19,7 +19,7 @@ nowhere-requires c κs = search rules
 returns : tie.Need-returns
 returns c =
     let a = c.before.before.before.before.args in
-    λ offsets. c.nowhere.ensures ∙ missed-taken a.h (ruledFrom a.h a.table.now offsets) a.kind a.s (λ e. omega (arith, c.before.if1.true, e))
+    λ offsets. c.nowhere.ensures ∙ missed_taken a.h (ruled_from a.h a.table.now offsets) a.kind a.s (λ e. omega (arith, c.before.if1.true, e))
 
 to-unit-requires : tie.Need-to-unit-requires
 to-unit-requires c κs = search rules
@@ -32,7 +32,7 @@ returns-2 c =
     let a = c.before.before.before.before.before.before.args in
     λ offsets.
     c.nowhere2.ensures
-    ∙ missed-not a.h (ruledFrom a.h a.table.now offsets) a.kind a.s (omega (arith, c.before.before.before.if1.false))
+    ∙ missed_not a.h (ruled_from a.h a.table.now offsets) a.kind a.s (omega (arith, c.before.before.before.if1.false))
     (sym (c.before.before.to-unit.ensures offsets) ∙ not-true _ c.before.if2.true)
 
 airtime-of-requires : tie.Need-airtime-of-requires
@@ -48,11 +48,11 @@ returns-3 : tie.Need-returns-3
 returns-3 c =
     let a = c.before.before.before.before.before.before.before.before.args in
     λ offsets.
-    let m = ruledFrom a.h a.table.now offsets in
+    let m = ruled_from a.h a.table.now offsets in
     ap (λ (x : Situation). record { leads = true; to = x })
     (c.ticked.ensures
-    ∙ ap (λ (air : ℕ). tickedBy a.h c.before.config-of.result air a.s.window) (c.before.before.airtime-of.ensures offsets)
-    ∙ ap (λ (d : Config). tickedBy a.h d (airtime m a.kind) a.s.window) c.before.config-of.ensures)
+    ∙ ap (λ (air : ℕ). ticked_by a.h c.before.config-of.result air a.s.window) (c.before.before.airtime-of.ensures offsets)
+    ∙ ap (λ (d : Config). ticked_by a.h d (airtime m a.kind) a.s.window) c.before.config-of.ensures)
     ∙ missed-row a.h m a.kind a.s (omega (arith, c.before.before.before.before.before.if1.false)) (sym (c.before.before.before.before.to-unit.ensures offsets) ∙ not-false _ c.before.before.before.if2.false)
 
 pub missed-spec : {M : Type 1} → statement M

@@ -4,9 +4,9 @@ use Rattle.model.specs.Situation.{rest}
 use Rattle.model.specs.declared.Situation.{Situation}
 use Rattle.situation.specs.declared.Heard.{Heard}
 use Rattle.situation.specs.declared.Heard.TheVariants.{Kind}
-use Rattle.situation.specs.Rows.{heardOf}
+use Rattle.situation.specs.Rows.{heard_of}
 use Rattle.rests.specs.Resting.{stepped}
-use Rattle.situation.specs.Ruled.{ruledFrom}
+use Rattle.situation.specs.Ruled.{ruled_from}
 use Rattle.rests.proofs.Removed.{rested-nothing, removed-row}
 use borrow.Author.Rules.{rules}
 use Rattle.rests.proofs.rested.Statement.{statement}
@@ -28,10 +28,10 @@ returns : tie.Need-returns
 returns c =
     let a = c.before.before.before.before.args in
     λ offsets.
-    let m = ruledFrom a.h a.table.now offsets in
+    let m = ruled_from a.h a.table.now offsets in
     ap (λ (x : Situation). record { leads = true; to = x }) c.still.ensures
     ∙ rested-nothing a.h m a.s
-    ∙ ap (λ (x : Heard). stepped a.h m (heardOf x) a.s rest) (sym c.before.enum_told.given.1)
+    ∙ ap (λ (x : Heard). stepped a.h m (heard_of x) a.s rest) (sym c.before.enum_told.given.1)
 
 returns-2 : tie.Need-returns-2
 returns-2 c =
@@ -39,10 +39,10 @@ returns-2 c =
     let p = c.before.before.heard.given.0 in
     let e : a.heard ≡ Kind p.0 = cc in
     λ offsets.
-    let m = ruledFrom a.h a.table.now offsets in
+    let m = ruled_from a.h a.table.now offsets in
     c.missed.ensures offsets
     ∙ removed-row a.h m p.0 a.s
-    ∙ ap (λ (x : Heard). stepped a.h m (heardOf x) a.s rest) (sym e)
+    ∙ ap (λ (x : Heard). stepped a.h m (heard_of x) a.s rest) (sym e)
 
 pub rested-spec : {M : Type 1} → statement M
 rested-spec =

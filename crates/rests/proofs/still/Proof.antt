@@ -2,7 +2,7 @@ use Prim.Native.Nat.{◌-◌}
 use native.Mathlib.Omega.{arith}
 use mathlib.Core.Path.{refl, ap, ◌∙◌}
 use Rattle.model.specs.declared.Config.{Config}
-use Rattle.rests.specs.Resting.{tickedBy}
+use Rattle.rests.specs.Resting.{ticked_by}
 use Rattle.rests.proofs.Removed.{still-ticked}
 use borrow.Author.Rules.{rules}
 use Rattle.rests.proofs.still.Statement.{statement}
@@ -17,7 +17,7 @@ ticked-requires c κs = search rules
 returns : tie.Need-returns
 returns c = let a = c.before.before.before.before.args in
     let d = c.before.config-of in
-    c.ticked.ensures ∙ ap (λ (x : Config). tickedBy a.h x 0 a.s.window) d.ensures ∙ still-ticked a.h a.s 0 (omega arith)
+    c.ticked.ensures ∙ ap (λ (x : Config). ticked_by a.h x 0 a.s.window) d.ensures ∙ still-ticked a.h a.s 0 (omega arith)
 
 config-of-requires-2 : tie.Need-config-of-requires-2
 config-of-requires-2 c κs = search rules
@@ -31,7 +31,7 @@ ticked-requires-2 c κs = search rules
 returns-2 : tie.Need-returns-2
 returns-2 c = let a = c.before.before.before.before.before.args in
     let d = c.before.before.config-of2 in
-    c.ticked2.ensures ∙ ap (λ (x : Config). tickedBy a.h x (a.s.air - 1) a.s.window) d.ensures ∙ still-ticked a.h a.s (a.s.air - 1) refl
+    c.ticked2.ensures ∙ ap (λ (x : Config). ticked_by a.h x (a.s.air - 1) a.s.window) d.ensures ∙ still-ticked a.h a.s (a.s.air - 1) refl
 
 pub still-spec : {M : Type 1} → statement M
 still-spec =

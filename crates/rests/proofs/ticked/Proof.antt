@@ -1,6 +1,6 @@
 use mathlib.Core.Path.{◌≡◌, sym, ◌∙◌}
 use lib.ListN.{length, length-map}
-use Rattle.rests.proofs.Ticks.{ticked-with}
+use Rattle.rests.proofs.Ticks.{ticked_with}
 use borrow.Author.Rules.{rules}
 use Rattle.rests.proofs.ticked.Statement.{statement}
 use Rattle.rests.proofs.ticked.Tie as tie
@@ -22,7 +22,7 @@ returns c =
     let s = c.before.before.before in
     let config = s.args.c in
     let two : length config.clocks ≡ 2 = sym (length-map config.clocks (λ x. x)) ∙ s.well-formed.1.0.1.1.1.1.0.1.0.1 in
-    ticked-with s.args.h config s.args.air s.args.window c.before.clock-ticked.result c.clock-ticked2.result two (cc) (cc)
+    ticked_with s.args.h config s.args.air s.args.window c.before.clock-ticked.result c.clock-ticked2.result two (cc) (cc)
 
 pub ticked-spec : {M : Type 1} → statement M
 ticked-spec =

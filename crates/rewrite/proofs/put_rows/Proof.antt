@@ -3,11 +3,11 @@ use native.Mathlib.Omega.{arith}
 use mathlib.Core.List.{List}
 use mathlib.Core.Path.{◌≡◌, refl, ap, ◌∙◌}
 use lib.ListN.{length}
-use Rattle.model.specs.Edition.{rowsPlace}
+use Rattle.model.specs.Edition.{rows_place}
 use Rattle.model.specs.Room.{over}
-use Rattle.model.specs.Witness.{rowPlace, rowAt, rowBytes}
+use Rattle.model.specs.Witness.{row_place, row_at, row_bytes}
 use Rattle.wire.specs.Placed.{placed}
-use Rattle.witnesses.proofs.Encoded.{bytesTo, bytes-all, encode-none, encode-more}
+use Rattle.witnesses.proofs.Encoded.{bytes_to, bytes-all, encode_none, encode_more}
 use borrow.Author.Rules.{rules}
 use Rattle.rewrite.proofs.put_rows.Statement.{statement}
 use Rattle.rewrite.proofs.put_rows.Tie as tie
@@ -15,10 +15,10 @@ use Rattle.rewrite.proofs.put_rows.Tie as tie
 abbrev invariant-loop : tie.invariant-loop
 invariant-loop edition b count room₀ start i₀ room i =
     (i ≤ count)
-    × ((entry : List ℕ) → rowPlace edition count ≤ length entry → room₀ ≡ over (bytesTo edition (rowAt edition b) count 0) entry
-    → room ≡ over (bytesTo edition (rowAt edition b) count i) entry)
+    × ((entry : List ℕ) → row_place edition count ≤ length entry → room₀ ≡ over (bytes_to edition (row_at edition b) count 0) entry
+    → room ≡ over (bytes_to edition (row_at edition b) count i) entry)
     × (length room ≡ length room₀)
-    × (start ≡ rowsPlace edition)
+    × (start ≡ rows_place edition)
 
 abbrev decreases-loop : tie.decreases-loop
 decreases-loop edition b count room₀ start i₀ room i = count - i
@@ -63,9 +63,9 @@ loop-again : tie.Need-loop-preserved invariant-loop decreases-loop
 loop-again c =
     let a = c.before.before.before.before.before.before.before.before.before.before.before.before.before.before.before.before.args in
     let i = c.before.before.before.before.before.before.before.before.loop.i in
-    let put = ap (λ (l : List ℕ). placed l (c.before.before.before.before.before.before.before.before.before.rows-place.result + 5 * i) c.before.before.before.before.before.before.before.before.loop.room) (c.before.before.before.before.before.row-bytes.ensures ∙ ap rowBytes c.before.before.before.before.before.before.row_at.ensures) in (
+    let put = ap (λ (l : List ℕ). placed l (c.before.before.before.before.before.before.before.before.before.rows-place.result + 5 * i) c.before.before.before.before.before.before.before.before.loop.room) (c.before.before.before.before.before.row-bytes.ensures ∙ ap row_bytes c.before.before.before.before.before.before.row_at.ensures) in (
       omega arith,
-      λ entry h e. encode-more a.edition (rowAt a.edition a.b.now) a.count entry h i c.before.before.before.before.before.before.before.loop-test.true _ _ (c.before.before.before.before.before.before.before.before.loop.invariant.1 entry h e)
+      λ entry h e. encode_more a.edition (row_at a.edition a.b.now) a.count entry h i c.before.before.before.before.before.before.before.loop-test.true _ _ (c.before.before.before.before.before.before.before.before.loop.invariant.1 entry h e)
           (rw (← c.before.before.before.before.before.before.before.before.loop.invariant.3) (c.before.before.place.ensures ∙ put)),
       search rules,
       c.before.before.before.before.before.before.before.before.loop.invariant.3,
@@ -77,13 +77,13 @@ same_length c = search rules
 returns : tie.Need-returns invariant-loop decreases-loop
 returns c =
     let a = c.before.before.before.before.before.before.before.before.before.args in
-    let f = rowAt a.edition a.b.now in
+    let f = row_at a.edition a.b.now in
     let entry = a.room.now in
     let n = a.count in
-    let fits : rowPlace a.edition n ≤ length entry = omega arith in
+    let fits : row_place a.edition n ≤ length entry = omega arith in
     let e : c.before.loop.i ≡ n = omega arith in
-    c.before.loop.invariant.1 entry fits (c.before.before.before.before.before.put-frame.ensures ∙ encode-none a.edition f n entry fits)
-    ∙ ap (λ (k : ℕ). over (bytesTo a.edition f n k) entry) e
+    c.before.loop.invariant.1 entry fits (c.before.before.before.before.before.put-frame.ensures ∙ encode_none a.edition f n entry fits)
+    ∙ ap (λ (k : ℕ). over (bytes_to a.edition f n k) entry) e
     ∙ ap (λ (l : List ℕ). over l entry) (bytes-all a.edition f n)
 
 pub put-rows-spec : {M : Type 1} → statement M

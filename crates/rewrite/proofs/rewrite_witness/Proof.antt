@@ -1,5 +1,5 @@
 use native.Mathlib.Omega.{arith}
-use Rattle.rewrite.proofs.Again.{witness-refused, witness-short, witness-rewritten}
+use Rattle.rewrite.proofs.Again.{witness_refused, witness_short, witness_rewritten}
 use borrow.Author.Rules.{rules}
 use Rattle.rewrite.proofs.rewrite_witness.Statement.{statement}
 use Rattle.rewrite.proofs.rewrite_witness.Tie as tie
@@ -11,7 +11,7 @@ enum-known-answer : tie.Need-enum-known-answer
 enum-known-answer c = search rules
 
 returns : tie.Need-returns
-returns c = witness-refused _ _ _ (λ i. omega (arith, c.before.before.before.before.before.shared-slice-known.given i)) _ c.before.before.before.witness-answer.ensures _ c.before.answer.given.1
+returns c = witness_refused _ _ _ (λ i. omega (arith, c.before.before.before.before.before.shared-slice-known.given i)) _ c.before.before.before.witness-answer.ensures _ c.before.answer.given.1
 
 enum_told : tie.Need-enum-told
 enum_told c = search rules
@@ -33,7 +33,7 @@ add-wanted c = search rules
 
 returns-2 : tie.Need-returns-2
 returns-2 c =
-    witness-short _ _ _ (λ i. omega (arith, c.before.before.before.before.before.before.before.shared-slice-known.given i)) _ c.before.before.before.before.before.witness-answer.ensures c.before.before.before.enum_told.given.1 _ _ c.before.before.count_at.ensures.0
+    witness_short _ _ _ (λ i. omega (arith, c.before.before.before.before.before.before.before.shared-slice-known.given i)) _ c.before.before.before.before.before.witness-answer.ensures c.before.before.before.enum_told.given.1 _ _ c.before.before.count_at.ensures.0
     (omega (arith, c.before.rows-place.ensures.0)) c.if1.true
 
 put-rows-requires : tie.Need-put-rows-requires
@@ -44,7 +44,7 @@ same_length c = search rules
 
 returns-3 : tie.Need-returns-3
 returns-3 c =
-    witness-rewritten _ _ _ (λ i. omega (arith, c.before.before.before.before.before.before.before.before.before.before.before.shared-slice-known.given i)) _ c.before.before.before.before.before.before.before.before.before.witness-answer.ensures c.before.before.before.before.before.before.before.enum_told.given.1 _ _ c.before.before.before.before.before.before.count_at.ensures.0
+    witness_rewritten _ _ _ (λ i. omega (arith, c.before.before.before.before.before.before.before.before.before.before.before.shared-slice-known.given i)) _ c.before.before.before.before.before.before.before.before.before.witness-answer.ensures c.before.before.before.before.before.before.before.enum_told.given.1 _ _ c.before.before.before.before.before.before.count_at.ensures.0
     (omega (arith, c.before.before.before.before.before.rows-place.ensures.0)) c.before.before.before.before.if1.false _ c.before.before.put-rows.ensures
 
 pub rewrite-witness-spec : {M : Type 1} → statement M

@@ -4,16 +4,16 @@ use mathlib.Core.Path.{ap, sym, ◌∙◌}
 use lib.Dec.{eqb}
 use borrow.Author.Rules.{rules}
 use borrow.Author.Tests.{eq-eqb, ne_eqb}
-use Rattle.model.specs.Monitor.{isGuess}
+use Rattle.model.specs.Monitor.{is_guess}
 use Rattle.model.specs.Witness.{added}
-use Rattle.row_tests.specs.Under.{ruledFrom}
+use Rattle.row_tests.specs.Under.{ruled_from}
 use Rattle.row_tests.proofs.is_guess.Statement.{statement}
 use Rattle.row_tests.proofs.is_guess.Tie as tie
 
 returns : tie.Need-returns
 returns c =
     let a = c.before.before.before.args in
-    λ offsets. ap (λ (x : Bool). x && isGuess (ruledFrom a.rule a.table.now offsets) a.e.kind) (sym (ne_eqb a.e.mark added c.if1.true))
+    λ offsets. ap (λ (x : Bool). x && is_guess (ruled_from a.rule a.table.now offsets) a.e.kind) (sym (ne_eqb a.e.mark added c.if1.true))
 
 device-of-requires : tie.Need-device-of-requires
 device-of-requires c κs = search rules
@@ -24,7 +24,7 @@ returns-2 c =
     let a = marked.before.before.before.args in
     λ offsets.
     ap (λ (d : ℕ). eqb d a.rule.device) (c.before.device-of.ensures offsets)
-    ∙ ap (λ (x : Bool). x && isGuess (ruledFrom a.rule a.table.now offsets) a.e.kind) (sym (eq-eqb a.e.mark added marked.if1.false))
+    ∙ ap (λ (x : Bool). x && is_guess (ruled_from a.rule a.table.now offsets) a.e.kind) (sym (eq-eqb a.e.mark added marked.if1.false))
 
 pub is-guess-spec : {M : Type 1} → statement M
 is-guess-spec = tie.close (tie.spec returns device-of-requires returns-2)

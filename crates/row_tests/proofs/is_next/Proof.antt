@@ -1,9 +1,9 @@
 use mathlib.Core.Bool.{false≢true}
-use Rattle.model.specs.Recording.{timeAt, rowKindAt}
+use Rattle.model.specs.Recording.{time_at, row_kind_at}
 use borrow.Author.Tests.{eq-eqb, ne_eqb}
-use Rattle.row_tests.proofs.Left.{left-cons, left-past}
+use Rattle.row_tests.proofs.Left.{left_cons, left-past}
 use Rattle.witness.specs.Rows.{row_of}
-use Rattle.model.specs.Rules.{isNext}
+use Rattle.model.specs.Rules.{is_next}
 use Rattle.model.specs.Trace.{Packet}
 use lib.Dec.{eqb}
 use mathlib.Core.List.{List}
@@ -20,7 +20,7 @@ word-requires c κs = search rules
 
 returns : tie.Need-returns
 returns c = let a = c.before.before.before.args in (
-  ap (λ (l : List Packet). isNext l (row_of a.e)) (sym (left-past a.recording.now a.next (omega (arith, c.before.word.ensures.0)))),
+  ap (λ (l : List Packet). is_next l (row_of a.e)) (sym (left-past a.recording.now a.next (omega (arith, c.before.word.ensures.0)))),
   λ q. absurd (false≢true q),
 )
 
@@ -35,9 +35,9 @@ word-requires-2 c κs = search rules
 
 returns-2 : tie.Need-returns-2
 returns-2 c = let a = c.before.before.before.before.before.before.args in (
-  ap (λ (t : Bool). t && eqb (rowKindAt a.recording.now a.next) a.e.kind)
-      (sym (ne_eqb (timeAt a.recording.now a.next) a.e.time (λ q. c.if2.true (c.before.before.word2.ensures.0 ∙ q))))
-      ∙ ap (λ (l : List Packet). isNext l (row_of a.e)) (sym (left-cons a.recording.now a.next (omega (arith, c.before.before.before.before.word.ensures.0)))),
+  ap (λ (t : Bool). t && eqb (row_kind_at a.recording.now a.next) a.e.kind)
+      (sym (ne_eqb (time_at a.recording.now a.next) a.e.time (λ q. c.if2.true (c.before.before.word2.ensures.0 ∙ q))))
+      ∙ ap (λ (l : List Packet). is_next l (row_of a.e)) (sym (left_cons a.recording.now a.next (omega (arith, c.before.before.before.before.word.ensures.0)))),
   λ q. absurd (false≢true q),
 )
 
@@ -53,9 +53,9 @@ byte-requires c κs = search rules
 returns-3 : tie.Need-returns-3
 returns-3 c = let a = c.before.before.before.before.before.before.before.before.args in (
   ap (λ (x : ℕ). eqb x a.e.kind) c.before.byte.ensures.0
-      ∙ ap (λ (t : Bool). t && eqb (rowKindAt a.recording.now a.next) a.e.kind)
-      (sym (eq-eqb (timeAt a.recording.now a.next) a.e.time (sym c.before.before.before.before.word2.ensures.0 ∙ c.before.before.if2.false)))
-      ∙ ap (λ (l : List Packet). isNext l (row_of a.e)) (sym (left-cons a.recording.now a.next (omega (arith, c.before.before.before.before.before.before.word.ensures.0)))),
+      ∙ ap (λ (t : Bool). t && eqb (row_kind_at a.recording.now a.next) a.e.kind)
+      (sym (eq-eqb (time_at a.recording.now a.next) a.e.time (sym c.before.before.before.before.word2.ensures.0 ∙ c.before.before.if2.false)))
+      ∙ ap (λ (l : List Packet). is_next l (row_of a.e)) (sym (left_cons a.recording.now a.next (omega (arith, c.before.before.before.before.before.before.word.ensures.0)))),
   λ q. omega arith,
 )
 

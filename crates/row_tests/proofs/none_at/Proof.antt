@@ -1,5 +1,5 @@
-use Rattle.row_tests.proofs.Left.{left-cons, left-past}
-use Rattle.model.specs.Rules.{noneAt}
+use Rattle.row_tests.proofs.Left.{left_cons, left-past}
+use Rattle.model.specs.Rules.{none_at}
 use Rattle.model.specs.Trace.{Packet}
 use lib.Dec.{eqb}
 use mathlib.Core.List.{List}
@@ -16,7 +16,7 @@ word-requires c κs = search rules
 
 returns : tie.Need-returns
 returns c = let a = c.before.before.before.args in
-    ap (λ (l : List Packet). noneAt l a.time) (sym (left-past a.recording.now a.next (omega (arith, c.before.word.ensures.0))))
+    ap (λ (l : List Packet). none_at l a.time) (sym (left-past a.recording.now a.next (omega (arith, c.before.word.ensures.0))))
 
 mul-word : tie.Need-overflow-mul-word
 mul-word c = search rules
@@ -30,7 +30,7 @@ word-requires-2 c κs = search rules
 returns-2 : tie.Need-returns-2
 returns-2 c = let a = c.before.before.before.before.args in
     ap (λ (x : ℕ). not (eqb x a.time)) c.word2.ensures.0
-    ∙ ap (λ (l : List Packet). noneAt l a.time) (sym (left-cons a.recording.now a.next (omega (arith, c.before.before.word.ensures.0))))
+    ∙ ap (λ (l : List Packet). none_at l a.time) (sym (left_cons a.recording.now a.next (omega (arith, c.before.before.word.ensures.0))))
 
 pub none-at-spec : {M : Type 1} → statement M
 none-at-spec =

@@ -1,4 +1,4 @@
-use Rattle.rows.proofs.Bytes.{byte-bits}
+use Rattle.rows.proofs.Bytes.{byte_bits}
 use borrow.Author.Rules.{rules}
 use Rattle.rows.proofs.byte_of.Statement.{statement}
 use Rattle.rows.proofs.byte_of.Tie as tie
@@ -18,7 +18,7 @@ cast-result c = search rules
 returns : tie.Need-returns
 returns c =
     let a = c.before.before.args in
-    byte-bits a.a.now a.b c.word.result c.word.ensures.0
+    byte_bits a.a.now a.b c.word.result c.word.ensures.0
 
 pub byte-of-spec : {M : Type 1} → statement M
 byte-of-spec = tie.close (tie.spec word-requires mul-result shr-result cast-result returns)

@@ -3,7 +3,7 @@ use mathlib.Core.Path.{◌≡◌, subst}
 use native.Mathlib.Omega.{arith}
 use borrow.Author.Rules.{rules}
 use Rattle.rows.specs.Bytes.{From}
-use Rattle.rows.proofs.Bytes.{gather_none, gather-more, gathered}
+use Rattle.rows.proofs.Bytes.{gather_none, gather_more, gathered}
 use Rattle.rows.proofs.gather_slow.Statement.{statement}
 use Rattle.rows.proofs.gather_slow.Tie as tie
 
@@ -38,7 +38,7 @@ loop-again c =
     let x = at-loop.loop.x in
     let t = at-loop.loop.t - 1 in
     let e : at-loop.loop.t ≡ t + 1 = omega arith in
-    (omega arith, gather-more a.row.now a.k t x c.byte.result (omega arith) c.byte.ensures.0 c.byte.ensures.1 (subst (λ (n : ℕ). From a.row.now a.k n x) e at-loop.loop.invariant.1))
+    (omega arith, gather_more a.row.now a.k t x c.byte.result (omega arith) c.byte.ensures.0 c.byte.ensures.1 (subst (λ (n : ℕ). From a.row.now a.k n x) e at-loop.loop.invariant.1))
 
 returns : tie.Need-returns invariant-loop decreases-loop
 returns c =

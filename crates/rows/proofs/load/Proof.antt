@@ -1,4 +1,4 @@
-use Rattle.words.proofs.Sets.{fill-word}
+use Rattle.words.proofs.Sets.{fill_word}
 use Rattle.bits.specs.Member as bytes
 use Rattle.words.specs.Words.{mem}
 use lib.ListN.{length, length-set}
@@ -40,7 +40,7 @@ loop-again c =
     let k = at-loop.loop.k in
     let x = c.gather.result in
     let s = at-loop.loop.a in
-    (omega arith, length-set s k x ∙ at-loop.loop.invariant.1, fill-word (bytes.mem a.row.now) s k x (omega arith) c.gather.ensures at-loop.loop.invariant.2)
+    (omega arith, length-set s k x ∙ at-loop.loop.invariant.1, fill_word (bytes.mem a.row.now) s k x (omega arith) c.gather.ensures at-loop.loop.invariant.2)
 
 same_length : tie.Need-same-length invariant-loop decreases-loop
 same_length c = search rules

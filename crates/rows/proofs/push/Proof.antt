@@ -1,4 +1,4 @@
-use Rattle.rows.proofs.Bytes.{gather-more}
+use Rattle.rows.proofs.Bytes.{gather_more}
 use native.Mathlib.Omega.{arith}
 use Prim.Native.Nat.{◌+◌, ◌*◌}
 use mathlib.Core.Path.{refl}
@@ -22,7 +22,7 @@ returns : tie.Need-returns
 returns c =
     let a = c.before.args in
     let pre = c.before.requires in
-    gather-more a.row.now a.k a.t a.x _ pre.1 refl (c.shared-slice-known.given (8 * a.k + a.t)).fits pre.2
+    gather_more a.row.now a.k a.t a.x _ pre.1 refl (c.shared-slice-known.given (8 * a.k + a.t)).fits pre.2
 
 pub push_spec : {M : Type 1} → statement M
 push_spec = tie.close (tie.spec mul-result add-result shared-slice-read-result cast-result returns)

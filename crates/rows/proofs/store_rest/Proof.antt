@@ -1,4 +1,4 @@
-use Rattle.rows.proofs.Bytes.{fill-byte}
+use Rattle.rows.proofs.Bytes.{fill_byte}
 use Rattle.rows.specs.Bytes.{Upto8}
 use Rattle.words.specs.Words.{mem}
 use lib.ListN.{length, length-set}
@@ -37,7 +37,7 @@ loop-again c =
     let b = at-loop.loop.b in
     let x = c.byte_of.result in
     let row = at-loop.loop.row in
-    (omega arith, length-set row b x ∙ at-loop.loop.invariant.1, record { all = fill-byte (mem a.a.now) row b x (omega arith) c.byte_of.ensures at-loop.loop.invariant.2.all })
+    (omega arith, length-set row b x ∙ at-loop.loop.invariant.1, record { all = fill_byte (mem a.a.now) row b x (omega arith) c.byte_of.ensures at-loop.loop.invariant.2.all })
 
 same_length : tie.Need-same-length invariant-loop decreases-loop
 same_length c = search rules

@@ -1,6 +1,6 @@
 -- `rule::allows` meets its contract. Assumes nothing.
 use native.Mathlib.Omega.{arith}
-use Rattle.rule.proofs.Windows.{allows-one, allows-more, guesses-few}
+use Rattle.rule.proofs.Windows.{allows_one, allows-more, guesses-few}
 use borrow.Author.Rules.{rules}
 use Rattle.rule.proofs.allows.Statement.{statement}
 use Rattle.rule.proofs.allows.Tie as tie
@@ -11,7 +11,7 @@ cast-result c = search rules
 returns : tie.Need-returns
 returns c =
     let args = c.before.before.before.args in
-    allows-one args.rule args.window args.guess c.before.if1.true
+    allows_one args.rule args.window args.guess c.before.if1.true
 
 all-guesses-requires : tie.Need-all-guesses-requires
 all-guesses-requires c κs = search rules

@@ -2,7 +2,7 @@
 use Prim.Native.Nat.{ℕ, ◌*◌}
 use mathlib.Core.Path.{ap, ◌∙◌}
 use lib.Dec.{leb}
-use Rattle.model.specs.Limits.{sizeLimit}
+use Rattle.model.specs.Limits.{size_limit}
 use Rattle.rule.proofs.Answers.{divided}
 use borrow.Author.Rules.{rules}
 use Rattle.rule.proofs.in_limit.Statement.{statement}
@@ -20,7 +20,7 @@ div-result c = search rules
 returns : tie.Need-returns
 returns c =
     let size = c.before.args.size in
-    divided size c.masks.result sizeLimit c.masks.ensures.2 ∙ ap (λ (n : ℕ). leb (size * n) sizeLimit) c.masks.ensures.0
+    divided size c.masks.result size_limit c.masks.ensures.2 ∙ ap (λ (n : ℕ). leb (size * n) size_limit) c.masks.ensures.0
 
 pub in-limit-spec : {M : Type 1} → statement M
 in-limit-spec = tie.close (tie.spec masks-requires cast-result div-result returns)

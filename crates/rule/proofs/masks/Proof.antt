@@ -2,7 +2,7 @@
 use mathlib.Core.Path.{sym, ap}
 use Prim.Native.Nat.{ℕ, ◌-◌, ◌^◌}
 use native.Mathlib.Omega.{arith}
-use Rattle.rule.proofs.Laws.{rows-one, rows-many, masks-bounds}
+use Rattle.rule.proofs.Laws.{rows_one, rows-many, masks_bounds}
 use Rattle.rule.proofs.Windows.{shifted}
 use borrow.Author.Rules.{rules}
 use Rattle.rule.proofs.masks.Statement.{statement}
@@ -11,7 +11,7 @@ use Rattle.rule.proofs.masks.Tie as tie
 returns : tie.Need-returns
 returns c =
     let window = c.before.before.args.rule.window in
-    (ap (λ (n : ℕ). 2 ^ (n - 1)) (sym (rows-one window c.if1.true)), omega arith, omega arith)
+    (ap (λ (n : ℕ). 2 ^ (n - 1)) (sym (rows_one window c.if1.true)), omega arith, omega arith)
 
 returns-2 : tie.Need-returns-2
 returns-2 c =
@@ -28,7 +28,7 @@ returns-3 : tie.Need-returns-3
 returns-3 c =
     let rule = c.before.before.before.before.before.args.rule in
     let e = shifted rule.window (omega arith) (omega arith) in
-    let bounds = masks-bounds rule in
+    let bounds = masks_bounds rule in
     (e, omega (arith, bounds.0), omega (arith, bounds.1))
 
 pub masks-spec : {M : Type 1} → statement M

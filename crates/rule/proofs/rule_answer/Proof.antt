@@ -26,7 +26,7 @@ returns c m same table =
     let args = ranged.before.args in
     c.before.unless2.ensures
     ∙ ap (λ (t : Bool). unless t RuleSize) c.before.before.before.in-limit.ensures
-    ∙ sized m args.rule args.size same table (sym ranged.in-range.ensures ∙ c.if1.true)
+    ∙ sized m args.rule args.size same table (sym ranged.in_range_lem.ensures ∙ c.if1.true)
 
 returns-2 : tie.Need-returns-2
 returns-2 c m same table =
@@ -34,7 +34,7 @@ returns-2 c m same table =
     let args = ranged.before.args in
     c.before.before.unless.ensures
     ∙ ap (λ (t : Bool). unless t RuleRange) c.if1.false
-    ∙ refused m args.rule args.size same table (sym ranged.in-range.ensures ∙ c.if1.false)
+    ∙ refused m args.rule args.size same table (sym ranged.in_range_lem.ensures ∙ c.if1.false)
 
 pub rule-answer-spec : {M : Type 1} → statement M
 rule-answer-spec =

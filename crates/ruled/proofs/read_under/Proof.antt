@@ -1,5 +1,5 @@
 use mathlib.Core.Path.{sym, ◌∙◌}
-use Rattle.ruled.proofs.Laws.{table-refused, scan-refused, rule-answered}
+use Rattle.ruled.proofs.Laws.{table_refused, scan_refused, rule-answered}
 use borrow.Author.Tests.{not-true, not-false}
 use borrow.Author.Rules.{rules}
 use Rattle.ruled.proofs.read_under.Statement.{statement}
@@ -14,7 +14,7 @@ sound-requires c κs = search rules
 returns : tie.Need-returns
 returns c =
     let a = c.before.before.before.before.before.args in
-    table-refused a.rule a.table.now a.recording.now _ c.before.before.read_table.ensures.0
+    table_refused a.rule a.table.now a.recording.now _ c.before.before.read_table.ensures.0
     (sym c.before.sound.ensures ∙ not-true c.before.sound.result c.if1.true)
 
 recording-scan-requires : tie.Need-recording-scan-requires
@@ -26,7 +26,7 @@ sound-requires-2 c κs = search rules
 returns-2 : tie.Need-returns-2
 returns-2 c =
     let a = c.before.before.before.before.before.before.before.before.before.args in
-    scan-refused a.rule a.table.now a.recording.now _ c.before.before.before.before.before.before.read_table.ensures.0
+    scan_refused a.rule a.table.now a.recording.now _ c.before.before.before.before.before.before.read_table.ensures.0
     (sym c.before.before.before.before.before.sound.ensures ∙ not-false c.before.before.before.before.before.sound.result c.before.before.before.before.if1.false)
     _ c.before.before.recording-scan.ensures
     (sym c.before.sound2.ensures ∙ not-true c.before.sound2.result c.if2.true)

@@ -3,7 +3,7 @@ use Prim.Native.Nat.{◌≤◌, ◌-◌}
 use native.Mathlib.Omega.{arith}
 use mathlib.Core.Path.{◌≡◌, sym, ◌∙◌}
 use Rattle.model.specs.Table.{apart}
-use Rattle.scan.proofs.Steps.{apart-turn, apart-end}
+use Rattle.scan.proofs.Steps.{apart_turn, apart-end}
 use borrow.Author.Rules.{rules}
 use Rattle.scan.proofs.apart_masks.Statement.{statement}
 use Rattle.scan.proofs.apart_masks.Tie as tie
@@ -23,7 +23,7 @@ meet-requires c κs = search rules
 returns : tie.Need-returns invariant-loop decreases-loop
 returns c = let n = c.before.before.before.before.args.n in
     let l = c.before.before.before.loop in
-    sym (l.invariant.1 ∙ apart-turn n l.i l.s l.c c.before.before.loop-test.true ∙ rw (← c.before.meet.ensures, c.if1.true))
+    sym (l.invariant.1 ∙ apart_turn n l.i l.s l.c c.before.before.loop-test.true ∙ rw (← c.before.meet.ensures, c.if1.true))
 
 add-i : tie.Need-overflow-add-i invariant-loop decreases-loop
 add-i c = search rules
@@ -35,7 +35,7 @@ loop-again : tie.Need-loop-preserved invariant-loop decreases-loop
 loop-again c = let n = c.before.before.before.before.args.n in
     let l = c.before.before.before.loop in (
       omega arith,
-      l.invariant.1 ∙ apart-turn n l.i l.s l.c c.before.before.loop-test.true ∙ rw (← c.before.meet.ensures, c.if1.false),
+      l.invariant.1 ∙ apart_turn n l.i l.s l.c c.before.before.loop-test.true ∙ rw (← c.before.meet.ensures, c.if1.false),
     )
 
 returns-2 : tie.Need-returns-2 invariant-loop decreases-loop

@@ -3,18 +3,18 @@ use native.Mathlib.Omega.{arith}
 use mathlib.Core.Path.{◌≡◌, sym, ap₂, ◌∙◌}
 use borrow.Author.Tests.{not-true, not-false}
 use lib.ListN.{get_or}
-use Rattle.model.specs.Kinds.{versionAt, kindAt, kindRecord}
-use Rattle.model.specs.Table.{kindRecords, kindsAt}
+use Rattle.model.specs.Kinds.{version_at, kind_at, kind_record}
+use Rattle.model.specs.Table.{kind_records, kinds_at}
 use Rattle.model.specs.declared.Reading.TheVariants.{Sound}
-use Rattle.model.proofs.Tests.{first-passed}
+use Rattle.model.proofs.Tests.{first_passed}
 use Rattle.frame.proofs.Answers.{sound-is}
-use Rattle.scan.proofs.Steps.{first_stops, passed-more}
+use Rattle.scan.proofs.Steps.{first_stops, passed_more}
 use borrow.Author.Rules.{rules}
 use Rattle.scan.proofs.kind_records.Statement.{statement}
 use Rattle.scan.proofs.kind_records.Tie as tie
 
 abbrev invariant-loop : tie.invariant-loop
-invariant-loop b devices n i₀ i = (i ≤ n) × (n ≡ kindsAt b) × ((k : ℕ) → k < i → kindRecord b (kindAt (versionAt b) k) (get_or devices k 0) ≡ Sound)
+invariant-loop b devices n i₀ i = (i ≤ n) × (n ≡ kinds_at b) × ((k : ℕ) → k < i → kind_record b (kind_at (version_at b) k) (get_or devices k 0) ≡ Sound)
 
 abbrev decreases-loop : tie.decreases-loop
 decreases-loop b devices n i₀ i = n - i
@@ -41,12 +41,12 @@ sound-requires : tie.Need-sound-requires invariant-loop decreases-loop
 sound-requires c κs = search rules
 
 returns : tie.Need-returns invariant-loop decreases-loop
-unfolding kindRecords
+unfolding kind_records
 returns c =
     let b = c.before.before.before.before.before.before.before.before.before.before.args.b.now in
     let l = c.before.before.before.before.before.before.loop in
-    let here = c.before.before.kind-record.ensures ∙ ap₂ (kindRecord b) c.before.before.before.before.record-at.ensures c.before.before.before.byte2.ensures.0 in
-    first_stops (λ k. kindRecord b (kindAt (versionAt b) k) (get_or c.before.before.before.before.before.before.before.before.before.before.args.devices.now k 0)) (kindsAt b) l.i _ (omega arith) l.invariant.2 here (sym c.before.sound.ensures ∙ not-true c.before.sound.result c.if1.true)
+    let here = c.before.before.kind-record.ensures ∙ ap₂ (kind_record b) c.before.before.before.before.record-at.ensures c.before.before.before.byte2.ensures.0 in
+    first_stops (λ k. kind_record b (kind_at (version_at b) k) (get_or c.before.before.before.before.before.before.before.before.before.before.args.devices.now k 0)) (kinds_at b) l.i _ (omega arith) l.invariant.2 here (sym c.before.sound.ensures ∙ not-true c.before.sound.result c.if1.true)
 
 add-i : tie.Need-overflow-add-i invariant-loop decreases-loop
 add-i c = search rules
@@ -58,18 +58,18 @@ loop-again : tie.Need-loop-preserved invariant-loop decreases-loop
 loop-again c =
     let b = c.before.before.before.before.before.before.before.before.before.before.args.b.now in
     let l = c.before.before.before.before.before.before.loop in
-    let here = c.before.before.kind-record.ensures ∙ ap₂ (kindRecord b) c.before.before.before.before.record-at.ensures c.before.before.before.byte2.ensures.0 in (
+    let here = c.before.before.kind-record.ensures ∙ ap₂ (kind_record b) c.before.before.before.before.record-at.ensures c.before.before.before.byte2.ensures.0 in (
       omega arith,
       l.invariant.1,
-      passed-more (λ k. kindRecord b (kindAt (versionAt b) k) (get_or c.before.before.before.before.before.before.before.before.before.before.args.devices.now k 0)) l.i l.invariant.2 (sym here ∙ sound-is _ (sym c.before.sound.ensures ∙ not-false c.before.sound.result c.if1.false)),
+      passed_more (λ k. kind_record b (kind_at (version_at b) k) (get_or c.before.before.before.before.before.before.before.before.before.before.args.devices.now k 0)) l.i l.invariant.2 (sym here ∙ sound-is _ (sym c.before.sound.ensures ∙ not-false c.before.sound.result c.if1.false)),
     )
 
 returns-2 : tie.Need-returns-2 invariant-loop decreases-loop
-unfolding kindRecords
+unfolding kind_records
 returns-2 c =
     let b = c.before.before.before.before.before.args.b.now in
     let l = c.before.loop in
-    sym (first-passed (λ k. kindRecord b (kindAt (versionAt b) k) (get_or c.before.before.before.before.before.args.devices.now k 0)) (kindsAt b) (λ k h. l.invariant.2 k (omega arith)))
+    sym (first_passed (λ k. kind_record b (kind_at (version_at b) k) (get_or c.before.before.before.before.before.args.devices.now k 0)) (kinds_at b) (λ k h. l.invariant.2 k (omega arith)))
 
 pub kind-records-spec : {M : Type 1} → statement M
 kind-records-spec =

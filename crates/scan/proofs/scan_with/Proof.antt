@@ -1,9 +1,9 @@
 use mathlib.Core.Path.{sym, ◌∙◌}
 use borrow.Author.Tests.{not-true, not-false}
-use Rattle.model.specs.Table.{scanWith}
-use Rattle.model.proofs.Tests.{then-sound}
+use Rattle.model.specs.Table.{scan_with}
+use Rattle.model.proofs.Tests.{then_sound}
 use Rattle.frame.proofs.Answers.{stops, goes}
-use Rattle.scan.proofs.Scans.{counts-are}
+use Rattle.scan.proofs.Scans.{counts_are}
 use borrow.Author.Rules.{rules}
 use Rattle.scan.proofs.scan_with.Statement.{statement}
 use Rattle.scan.proofs.scan_with.Tie as tie
@@ -15,7 +15,7 @@ sound-requires : tie.Need-sound-requires
 sound-requires c κs = search rules
 
 returns : tie.Need-returns
-unfolding scanWith
+unfolding scan_with
 returns c = rw (← c.before.before.framed_answer.ensures, stops _ _ (sym c.before.sound.ensures ∙ not-true c.before.sound.result c.if1.true))
 
 byte-requires : tie.Need-byte-requires
@@ -40,9 +40,9 @@ sound-requires-2 : tie.Need-sound-requires-2
 sound-requires-2 c κs = search rules
 
 returns-2 : tie.Need-returns-2
-unfolding scanWith
+unfolding scan_with
 returns-2 c = let a = c.before.before.before.before.before.before.before.before.before.before.before.before.before.args in
-    let counts = c.before.before.counts-answer.ensures ∙ counts-are a.b.now _ _ _ _ _ c.before.before.before.before.before.before.before.byte.ensures.0 c.before.before.before.before.before.before.byte2.ensures.0 c.before.before.before.before.before.byte3.ensures.0 c.before.before.before.before.byte4.ensures.0 c.before.before.before.byte5.ensures.0 in
+    let counts = c.before.before.counts-answer.ensures ∙ counts_are a.b.now _ _ _ _ _ c.before.before.before.before.before.before.before.byte.ensures.0 c.before.before.before.before.before.before.byte2.ensures.0 c.before.before.before.before.before.byte3.ensures.0 c.before.before.before.before.byte4.ensures.0 c.before.before.before.byte5.ensures.0 in
     rw (← c.before.before.before.before.before.before.before.before.before.before.framed_answer.ensures, goes _ _ (sym c.before.before.before.before.before.before.before.before.before.sound.ensures ∙ not-false c.before.before.before.before.before.before.before.before.before.sound.result c.before.before.before.before.before.before.before.before.if1.false), ← counts, stops _ _ (sym c.before.sound2.ensures ∙ not-true c.before.sound2.result c.if2.true))
 
 kind-records-requires : tie.Need-kind-records-requires
@@ -52,19 +52,19 @@ sound-requires-3 : tie.Need-sound-requires-3
 sound-requires-3 c κs = search rules
 
 returns-3 : tie.Need-returns-3
-unfolding scanWith
+unfolding scan_with
 returns-3 c = let a = c.before.before.before.before.before.before.before.before.before.before.before.before.before.before.before.before.args in
-    let counts = c.before.before.before.before.before.counts-answer.ensures ∙ counts-are a.b.now _ _ _ _ _ c.before.before.before.before.before.before.before.before.before.before.byte.ensures.0 c.before.before.before.before.before.before.before.before.before.byte2.ensures.0 c.before.before.before.before.before.before.before.before.byte3.ensures.0 c.before.before.before.before.before.before.before.byte4.ensures.0 c.before.before.before.before.before.before.byte5.ensures.0 in
+    let counts = c.before.before.before.before.before.counts-answer.ensures ∙ counts_are a.b.now _ _ _ _ _ c.before.before.before.before.before.before.before.before.before.before.byte.ensures.0 c.before.before.before.before.before.before.before.before.before.byte2.ensures.0 c.before.before.before.before.before.before.before.before.byte3.ensures.0 c.before.before.before.before.before.before.before.byte4.ensures.0 c.before.before.before.before.before.before.byte5.ensures.0 in
     rw (← c.before.before.before.before.before.before.before.before.before.before.before.before.before.framed_answer.ensures, goes _ _ (sym c.before.before.before.before.before.before.before.before.before.before.before.before.sound.ensures ∙ not-false c.before.before.before.before.before.before.before.before.before.before.before.before.sound.result c.before.before.before.before.before.before.before.before.before.before.before.if1.false), ← counts, goes _ _ (sym c.before.before.before.before.sound2.ensures ∙ not-false c.before.before.before.before.sound2.result c.before.before.before.if2.false), ← c.before.before.kind-records.ensures, stops _ _ (sym c.before.sound3.ensures ∙ not-true c.before.sound3.result c.if3.true))
 
 transition-records-requires : tie.Need-transition-records-requires
 transition-records-requires c κs = search rules
 
 returns-4 : tie.Need-returns-4
-unfolding scanWith
+unfolding scan_with
 returns-4 c = let a = c.before.before.before.before.before.before.before.before.before.before.before.before.before.before.before.before.before.args in
-    let counts = c.before.before.before.before.before.before.counts-answer.ensures ∙ counts-are a.b.now _ _ _ _ _ c.before.before.before.before.before.before.before.before.before.before.before.byte.ensures.0 c.before.before.before.before.before.before.before.before.before.before.byte2.ensures.0 c.before.before.before.before.before.before.before.before.before.byte3.ensures.0 c.before.before.before.before.before.before.before.before.byte4.ensures.0 c.before.before.before.before.before.before.before.byte5.ensures.0 in
-    rw (← c.before.before.before.before.before.before.before.before.before.before.before.before.before.before.framed_answer.ensures, goes _ _ (sym c.before.before.before.before.before.before.before.before.before.before.before.before.before.sound.ensures ∙ not-false c.before.before.before.before.before.before.before.before.before.before.before.before.before.sound.result c.before.before.before.before.before.before.before.before.before.before.before.before.if1.false), ← counts, goes _ _ (sym c.before.before.before.before.before.sound2.ensures ∙ not-false c.before.before.before.before.before.sound2.result c.before.before.before.before.if2.false), ← c.before.before.before.kind-records.ensures, goes _ _ (sym c.before.before.sound3.ensures ∙ not-false c.before.before.sound3.result c.before.if3.false), ← c.transition-records.ensures, then-sound)
+    let counts = c.before.before.before.before.before.before.counts-answer.ensures ∙ counts_are a.b.now _ _ _ _ _ c.before.before.before.before.before.before.before.before.before.before.before.byte.ensures.0 c.before.before.before.before.before.before.before.before.before.before.byte2.ensures.0 c.before.before.before.before.before.before.before.before.before.byte3.ensures.0 c.before.before.before.before.before.before.before.before.byte4.ensures.0 c.before.before.before.before.before.before.before.byte5.ensures.0 in
+    rw (← c.before.before.before.before.before.before.before.before.before.before.before.before.before.before.framed_answer.ensures, goes _ _ (sym c.before.before.before.before.before.before.before.before.before.before.before.before.before.sound.ensures ∙ not-false c.before.before.before.before.before.before.before.before.before.before.before.before.before.sound.result c.before.before.before.before.before.before.before.before.before.before.before.before.if1.false), ← counts, goes _ _ (sym c.before.before.before.before.before.sound2.ensures ∙ not-false c.before.before.before.before.before.sound2.result c.before.before.before.before.if2.false), ← c.before.before.before.kind-records.ensures, goes _ _ (sym c.before.before.sound3.ensures ∙ not-false c.before.before.sound3.result c.before.if3.false), ← c.transition-records.ensures, then_sound)
 
 pub scan-with-spec : {M : Type 1} → statement M
 scan-with-spec =

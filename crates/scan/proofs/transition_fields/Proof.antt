@@ -1,6 +1,6 @@
 use mathlib.Core.Path.{refl}
 use borrow.Author.Tests.{not-true, not-false}
-use Rattle.scan.proofs.Scans.{fields-row}
+use Rattle.scan.proofs.Scans.{fields_row}
 use borrow.Author.Rules.{rules}
 use Rattle.scan.proofs.transition_fields.Statement.{statement}
 use Rattle.scan.proofs.transition_fields.Tie as tie
@@ -30,7 +30,7 @@ ends-fit-requires : tie.Need-ends-fit-requires
 ends-fit-requires c κs = search rules
 
 returns : tie.Need-returns
-returns c = rw (fields-row _ _ c.before.before.before.before.before.before.byte.ensures.0 refl refl c.before.before.before.before.before.byte2.ensures.0 c.before.before.before.before.byte3.ensures.0 c.before.before.before.byte4.ensures.0 c.before.before.byte5.ensures.0 refl refl refl c.before.ends-fit.ensures refl, not-true c.before.ends-fit.result c.if1.true)
+returns c = rw (fields_row _ _ c.before.before.before.before.before.before.byte.ensures.0 refl refl c.before.before.before.before.before.byte2.ensures.0 c.before.before.before.before.byte3.ensures.0 c.before.before.before.byte4.ensures.0 c.before.before.byte5.ensures.0 refl refl refl c.before.ends-fit.ensures refl, not-true c.before.ends-fit.result c.if1.true)
 
 byte-requires-6 : tie.Need-byte-requires-6
 byte-requires-6 c κs = search rules
@@ -60,10 +60,10 @@ masks-fit-requires : tie.Need-masks-fit-requires
 masks-fit-requires c κs = search rules
 
 returns-2 : tie.Need-returns-2
-returns-2 c = rw (fields-row _ _ c.before.before.before.before.before.before.before.before.before.before.before.before.before.byte.ensures.0 c.before.before.before.before.before.before.byte6.ensures.0 c.before.before.before.before.before.byte7.ensures.0 c.before.before.before.before.before.before.before.before.before.before.before.before.byte2.ensures.0 c.before.before.before.before.before.before.before.before.before.before.before.byte3.ensures.0 c.before.before.before.before.before.before.before.before.before.before.byte4.ensures.0 c.before.before.before.before.before.before.before.before.before.byte5.ensures.0 c.before.before.before.before.byte8.ensures.0 c.before.before.before.byte9.ensures.0 c.before.before.byte10.ensures.0 c.before.before.before.before.before.before.before.before.ends-fit.ensures c.before.masks-fit.ensures, not-false c.before.before.before.before.before.before.before.before.ends-fit.result c.before.before.before.before.before.before.before.if1.false, not-true c.before.masks-fit.result c.if2.true)
+returns-2 c = rw (fields_row _ _ c.before.before.before.before.before.before.before.before.before.before.before.before.before.byte.ensures.0 c.before.before.before.before.before.before.byte6.ensures.0 c.before.before.before.before.before.byte7.ensures.0 c.before.before.before.before.before.before.before.before.before.before.before.before.byte2.ensures.0 c.before.before.before.before.before.before.before.before.before.before.before.byte3.ensures.0 c.before.before.before.before.before.before.before.before.before.before.byte4.ensures.0 c.before.before.before.before.before.before.before.before.before.byte5.ensures.0 c.before.before.before.before.byte8.ensures.0 c.before.before.before.byte9.ensures.0 c.before.before.byte10.ensures.0 c.before.before.before.before.before.before.before.before.ends-fit.ensures c.before.masks-fit.ensures, not-false c.before.before.before.before.before.before.before.before.ends-fit.result c.before.before.before.before.before.before.before.if1.false, not-true c.before.masks-fit.result c.if2.true)
 
 returns-3 : tie.Need-returns-3
-returns-3 c = rw (fields-row _ _ c.before.before.before.before.before.before.before.before.before.before.before.before.before.byte.ensures.0 c.before.before.before.before.before.before.byte6.ensures.0 c.before.before.before.before.before.byte7.ensures.0 c.before.before.before.before.before.before.before.before.before.before.before.before.byte2.ensures.0 c.before.before.before.before.before.before.before.before.before.before.before.byte3.ensures.0 c.before.before.before.before.before.before.before.before.before.before.byte4.ensures.0 c.before.before.before.before.before.before.before.before.before.byte5.ensures.0 c.before.before.before.before.byte8.ensures.0 c.before.before.before.byte9.ensures.0 c.before.before.byte10.ensures.0 c.before.before.before.before.before.before.before.before.ends-fit.ensures c.before.masks-fit.ensures, not-false c.before.before.before.before.before.before.before.before.ends-fit.result c.before.before.before.before.before.before.before.if1.false, not-false c.before.masks-fit.result c.if2.false)
+returns-3 c = rw (fields_row _ _ c.before.before.before.before.before.before.before.before.before.before.before.before.before.byte.ensures.0 c.before.before.before.before.before.before.byte6.ensures.0 c.before.before.before.before.before.byte7.ensures.0 c.before.before.before.before.before.before.before.before.before.before.before.before.byte2.ensures.0 c.before.before.before.before.before.before.before.before.before.before.before.byte3.ensures.0 c.before.before.before.before.before.before.before.before.before.before.byte4.ensures.0 c.before.before.before.before.before.before.before.before.before.byte5.ensures.0 c.before.before.before.before.byte8.ensures.0 c.before.before.before.byte9.ensures.0 c.before.before.byte10.ensures.0 c.before.before.before.before.before.before.before.before.ends-fit.ensures c.before.masks-fit.ensures, not-false c.before.before.before.before.before.before.before.before.ends-fit.result c.before.before.before.before.before.before.before.if1.false, not-false c.before.masks-fit.result c.if2.false)
 
 pub transition-fields-spec : {M : Type 1} → statement M
 transition-fields-spec =

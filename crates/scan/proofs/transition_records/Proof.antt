@@ -3,15 +3,15 @@ use native.Mathlib.Omega.{arith}
 use native.Mathlib.Nat.{sub-zero}
 use borrow.Author.Tests.{eq-eqb, ne_eqb}
 use mathlib.Core.Path.{◌≡◌, sym, ◌∙◌}
-use Rattle.model.specs.Table.{transitionRecords}
+use Rattle.model.specs.Table.{transition_records}
 use Rattle.frame.proofs.Answers.{turn-stops, turn-goes}
-use Rattle.scan.proofs.Steps.{transitions-turn, transitions-end}
+use Rattle.scan.proofs.Steps.{transitions_turn, transitions-end}
 use borrow.Author.Rules.{rules}
 use Rattle.scan.proofs.transition_records.Statement.{statement}
 use Rattle.scan.proofs.transition_records.Tie as tie
 
 abbrev invariant-loop : tie.invariant-loop
-invariant-loop b n at₀ i₀ at i = (i ≤ n) × (n < 256) × (at ≤ 773 + 262 * i) × (transitionRecords n b at₀ ≡ transitionRecords (n - i) b at)
+invariant-loop b n at₀ i₀ at i = (i ≤ n) × (n < 256) × (at ≤ 773 + 262 * i) × (transition_records n b at₀ ≡ transition_records (n - i) b at)
 
 abbrev decreases-loop : tie.decreases-loop
 decreases-loop b n at₀ i₀ at i = n - i
@@ -38,7 +38,7 @@ returns : tie.Need-returns invariant-loop decreases-loop
 returns c = let l = c.before.before.before.before.loop in
     let b = c.before.before.before.before.before.before.before.before.args.b.now in
     rw (← c.before.before.before.before.before.before.byte.ensures.0, ← c.before.before.before.before.before.transitions-at.ensures.0)
-    (turn-stops _ _ _ _ _ (transitions-turn b c.before.before.before.before.before.before.byte.result l.i l.at c.before.before.before.loop-test.true) c.before.before.transition-record.ensures c.before.sound.ensures c.if1.true ∙ sym l.invariant.3)
+    (turn-stops _ _ _ _ _ (transitions_turn b c.before.before.before.before.before.before.byte.result l.i l.at c.before.before.before.loop-test.true) c.before.before.transition-record.ensures c.before.sound.ensures c.if1.true ∙ sym l.invariant.3)
 
 add_at : tie.Need-overflow-add-at invariant-loop decreases-loop
 add_at c = search rules
@@ -69,7 +69,7 @@ loop-again c = let l = c.before.before.before.before.before.loop in
       omega arith,
       omega arith,
       l.invariant.3
-          ∙ turn-goes _ _ _ _ _ (transitions-turn b c.before.before.before.before.before.before.before.byte.result l.i l.at c.before.before.before.before.loop-test.true) c.before.before.before.transition-record.ensures c.before.before.sound.ensures c.before.if1.false
+          ∙ turn-goes _ _ _ _ _ (transitions_turn b c.before.before.before.before.before.before.before.byte.result l.i l.at c.before.before.before.before.loop-test.true) c.before.before.before.transition-record.ensures c.before.before.sound.ensures c.before.if1.false
           ∙ rw (← length),
     )
 

@@ -5,7 +5,7 @@ use mathlib.Core.Path.{◌≡◌, sym, refl, ap, ◌∙◌}
 use lib.ListN.{get_or}
 use Rattle.model.specs.Bytes.{tab}
 use Rattle.model.specs.Size.{greatest}
-use Rattle.model.specs.Table.{monitorOf}
+use Rattle.model.specs.Table.{monitor_of}
 use borrow.Author.Rules.{rules}
 use Rattle.sizes.proofs.largest_airtime.Statement.{statement}
 use Rattle.sizes.proofs.largest_airtime.Tie as tie
@@ -43,7 +43,7 @@ cast-result : tie.Need-overflow-cast-result invariant-loop decreases-loop
 cast-result c = search rules
 
 returns : tie.Need-returns invariant-loop decreases-loop
-unfolding monitorOf
+unfolding monitor_of
 returns c = let t = c.before.before.args.t1 in
     let all : c.before.loop.i ≡ t.kinds = omega arith in
     (c.before.loop.invariant.3 ∙ ap (λ n. greatest (tab (λ k. get_or t.airtimes k 0) n)) all, omega arith)

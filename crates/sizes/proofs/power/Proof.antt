@@ -1,5 +1,5 @@
 use native.Mathlib.Omega.{arith}
-use Rattle.sizes.proofs.Sizes.{power_small, power-large}
+use Rattle.sizes.proofs.Sizes.{power_small, power_large}
 use borrow.Author.Rules.{rules}
 use Rattle.sizes.proofs.power.Statement.{statement}
 use Rattle.sizes.proofs.power.Tie as tie
@@ -11,7 +11,7 @@ returns : tie.Need-returns
 returns c = (power_small c.before.args.n c.if1.true, omega (arith, power_small c.before.args.n c.if1.true))
 
 returns-2 : tie.Need-returns-2
-returns-2 c = (power-large c.before.args.n c.if1.false, omega arith)
+returns-2 c = (power_large c.before.args.n c.if1.false, omega arith)
 
 pub power-spec : {M : Type 1} → statement M
 power-spec = tie.close (tie.spec shl-result returns returns-2)

@@ -1,8 +1,8 @@
 use Prim.Native.Nat.{◌+◌, ◌^◌}
 use mathlib.Core.Path.{◌∙◌}
-use Rattle.model.specs.Size.{cap, tableSize, largestAirtime}
-use Rattle.model.specs.Table.{monitorOf}
-use Rattle.sizes.proofs.Sizes.{product-least}
+use Rattle.model.specs.Size.{cap, table_size, largest_airtime}
+use Rattle.model.specs.Table.{monitor_of}
+use Rattle.sizes.proofs.Sizes.{product_least}
 use borrow.Author.Rules.{rules}
 use Rattle.sizes.proofs.table_size.Statement.{statement}
 use Rattle.sizes.proofs.table_size.Tie as tie
@@ -38,10 +38,10 @@ times-requires-4 : tie.Need-times-requires-4
 times-requires-4 c κs = search rules
 
 returns : tie.Need-returns
-unfolding tableSize monitorOf
+unfolding table_size monitor_of
 returns c = let t = c.before.before.before.before.before.before.before.before.before.args.t in
-    let m = monitorOf t in
-    product-least t.states (2 ^ t.variables) (cap m 0 + 1) (cap m 1 + 1) (largestAirtime m + 1) 65537
+    let m = monitor_of t in
+    product_least t.states (2 ^ t.variables) (cap m 0 + 1) (cap m 1 + 1) (largest_airtime m + 1) 65537
     c.before.before.power.result c.before.before.before.before.before.times.result c.before.before.before.before.times2.result c.before.times3.result c.times4.result
     (c.before.before.before.before.before.times.ensures.0 ∙ rw (c.before.before.before.before.before.before.before.clock-values2.ensures.0, c.before.before.before.before.before.before.largest-airtime.ensures.0))
     (c.before.before.before.before.times2.ensures.0 ∙ rw c.before.before.before.before.before.before.before.before.clock-values.ensures.0)

@@ -4,30 +4,30 @@ use borrow.Author.Rules.{rules}
 use lib.Dec.{eqb}
 use Rattle.model.specs.Monitor.{Monitor}
 use Rattle.model.specs.Situation.{add}
-use Rattle.monitor.specs.From.{monitorFrom}
+use Rattle.monitor.specs.From.{monitor_from}
 use Rattle.rule.specs.Within.{within}
 use Rattle.situation.specs.declared.Heard.{Heard}
 use Rattle.steps.specs.declared.Trigger.TheVariants.{Kind}
-use Rattle.situation.specs.Rows.{heardOf}
+use Rattle.situation.specs.Rows.{heard_of}
 use Rattle.rests.specs.Resting.{stepped}
-use Rattle.steps.specs.Steps.{triggerKind, triggerFrom, sentBy}
-use Rattle.situation.specs.Ruled.{ruledFrom}
+use Rattle.steps.specs.Steps.{trigger_kind, trigger_from, sent_by}
+use Rattle.situation.specs.Ruled.{ruled_from}
 use Rattle.steps.proofs.Moves.{trigger-under, added-heard, added_none, added-row}
 use Rattle.steps.proofs.added.Statement.{statement}
 use Rattle.steps.proofs.added.Tie as tie
 
 abbrev ruled : tie.Start → Monitor
-ruled s = ruledFrom s.args.h s.args.table.now s.args.offsets.now
+ruled s = ruled_from s.args.h s.args.table.now s.args.offsets.now
 
 -- the kind on which the transition fires is that of the monitor under the rule
 
 abbrev entry : tie.After-trigger-from → tie.Start
 entry c = c.before.before.before.before.before
 
-triggered : (c : tie.After-trigger-from) → let s = entry c in triggerFrom (ruled s) s.args.s.state s.args.j ≡ triggerKind c.trigger-from.result
+triggered : (c : tie.After-trigger-from) → let s = entry c in trigger_from (ruled s) s.args.s.state s.args.j ≡ trigger_kind c.trigger-from.result
 triggered c =
     let a = (entry c).args in
-    sym (c.trigger-from.ensures ∙ trigger-under (within a.h.rule) (monitorFrom a.table.now a.offsets.now) a.s.state a.j)
+    sym (c.trigger-from.ensures ∙ trigger-under (within a.h.rule) (monitor_from a.table.now a.offsets.now) a.s.state a.j)
 
 enum_told : tie.Need-enum-told
 enum_told c = search rules
@@ -41,7 +41,7 @@ returns c =
     let a = s.args in
     c.nowhere.ensures
     ∙ added-heard a.h (ruled s) a.s a.j _
-    ∙ ap (λ (x : Heard). stepped a.h (ruled s) (heardOf x) a.s (add a.j)) (sym c.before.enum_told.given.1)
+    ∙ ap (λ (x : Heard). stepped a.h (ruled s) (heard_of x) a.s (add a.j)) (sym c.before.enum_told.given.1)
 
 enum-told-2 : tie.Need-enum-told-2
 enum-told-2 c = search rules
@@ -64,8 +64,8 @@ returns-2 c =
     let s = entry t in
     let a = s.args in
     c.nowhere2.ensures
-    ∙ added_none a.h (ruled s) a.s a.j (triggered t ∙ ap triggerKind c.before.enum-told3.given.1)
-    ∙ ap (λ (x : Heard). stepped a.h (ruled s) (heardOf x) a.s (add a.j)) (sym t.before.enum-told2.given.1)
+    ∙ added_none a.h (ruled s) a.s a.j (triggered t ∙ ap trigger_kind c.before.enum-told3.given.1)
+    ∙ ap (λ (x : Heard). stepped a.h (ruled s) (heard_of x) a.s (add a.j)) (sym t.before.enum-told2.given.1)
 
 device-of-requires : tie.Need-device-of-requires
 device-of-requires c κs = search rules
@@ -81,9 +81,9 @@ returns-3 c =
     let p = c.before.before.before.before.trigger.given.0 in
     let q : t.trigger-from.result ≡ Kind p.0 = cc in
     c.sent.ensures
-    ∙ ap (λ (d : ℕ). sentBy a.h (ruled s) (eqb d a.h.rule.device) a.j p.0 a.s) (c.before.before.device-of.ensures a.offsets.now)
-    ∙ added-row a.h (ruled s) a.s a.j p.0 (triggered t ∙ ap triggerKind q)
-    ∙ ap (λ (x : Heard). stepped a.h (ruled s) (heardOf x) a.s (add a.j)) (sym t.before.enum-told2.given.1)
+    ∙ ap (λ (d : ℕ). sent_by a.h (ruled s) (eqb d a.h.rule.device) a.j p.0 a.s) (c.before.before.device-of.ensures a.offsets.now)
+    ∙ added-row a.h (ruled s) a.s a.j p.0 (triggered t ∙ ap trigger_kind q)
+    ∙ ap (λ (x : Heard). stepped a.h (ruled s) (heard_of x) a.s (add a.j)) (sym t.before.enum-told2.given.1)
 
 pub added-spec : {M : Type 1} → statement M
 added-spec =

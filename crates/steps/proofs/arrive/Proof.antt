@@ -8,28 +8,28 @@ use mathlib.Core.Option.{Option, none, some, map}
 use Rattle.model.specs.declared.Situation.{Situation}
 use Rattle.situation.specs.declared.Shape.{Shape}
 use Rattle.situation.specs.declared.Next.{Next}
-use Rattle.situation.specs.Numbering.{numberBy, cappedBy}
-use Rattle.model.specs.Situation.{stepBy, move_of}
+use Rattle.situation.specs.Numbering.{number_by, capped_by}
+use Rattle.model.specs.Situation.{step_by, move_of}
 use Rattle.rests.specs.Resting.{leading, stepped}
-use Rattle.situation.specs.Ruled.{ruledFrom}
-use Rattle.steps.specs.Stepping.{arriveFrom}
+use Rattle.situation.specs.Ruled.{ruled_from}
+use Rattle.steps.specs.Stepping.{arrive_from}
 use Rattle.steps.proofs.arrive.Statement.{statement}
 use Rattle.steps.proofs.arrive.Tie as tie
 
 module _ (table offsets : List ℕ) (h : Shape) (heard : Option ℕ) (s : Situation) (k : ℕ) (n : Next) where
-  arrived : n ≡ stepped h (ruledFrom h table offsets) heard s (move_of k) → n.leads ≡ true → some (numberBy h n.to) ≡ arriveFrom table offsets h heard s k
-  unfolding arriveFrom stepped
-  arrived e l = by (stepBy (ruledFrom h table offsets) (cappedBy h) heard s (move_of k)) e
+  arrived : n ≡ stepped h (ruled_from h table offsets) heard s (move_of k) → n.leads ≡ true → some (number_by h n.to) ≡ arrive_from table offsets h heard s k
+  unfolding arrive_from stepped
+  arrived e l = by (step_by (ruled_from h table offsets) (capped_by h) heard s (move_of k)) e
     where
-      by : (o : Option Situation) → n ≡ leading s o → some (numberBy h n.to) ≡ map (numberBy h) o
+      by : (o : Option Situation) → n ≡ leading s o → some (number_by h n.to) ≡ map (number_by h) o
       by none q = cc
-      by (some x) q = ap (λ (m : Next). some (numberBy h m.to)) q
+      by (some x) q = ap (λ (m : Next). some (number_by h m.to)) q
 
-  stayed : n ≡ stepped h (ruledFrom h table offsets) heard s (move_of k) → n.leads ≡ false → none ≡ arriveFrom table offsets h heard s k
-  unfolding arriveFrom stepped
-  stayed e l = by (stepBy (ruledFrom h table offsets) (cappedBy h) heard s (move_of k)) e
+  stayed : n ≡ stepped h (ruled_from h table offsets) heard s (move_of k) → n.leads ≡ false → none ≡ arrive_from table offsets h heard s k
+  unfolding arrive_from stepped
+  stayed e l = by (step_by (ruled_from h table offsets) (capped_by h) heard s (move_of k)) e
     where
-      by : (o : Option Situation) → n ≡ leading s o → none ≡ map (numberBy h) o
+      by : (o : Option Situation) → n ≡ leading s o → none ≡ map (number_by h) o
       by none q = refl
       by (some x) q = cc
 

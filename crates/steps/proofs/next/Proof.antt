@@ -1,7 +1,7 @@
 use mathlib.Core.Path.{ap, sym, ◌∙◌}
 use Rattle.rests.specs.Resting.{stepped}
-use Rattle.model.proofs.Instants.{moveOf-keep, move-rest, move-add}
-use Rattle.steps.proofs.Moves.{taken-nowhere}
+use Rattle.model.proofs.Instants.{move_of-keep, move_rest, move_add}
+use Rattle.steps.proofs.Moves.{taken_nowhere}
 use native.Mathlib.Omega.{arith}
 use borrow.Author.Rules.{rules}
 use Rattle.steps.proofs.next.Statement.{statement}
@@ -11,19 +11,19 @@ rested-requires : tie.Need-rested-requires
 rested-requires c κs = search rules
 
 returns : tie.Need-returns
-returns c = c.rested.ensures _ ∙ ap (stepped _ _ _ _) (sym (move-rest _ c.before.if1.true))
+returns c = c.rested.ensures _ ∙ ap (stepped _ _ _ _) (sym (move_rest _ c.before.if1.true))
 
 nowhere-requires : tie.Need-nowhere-requires
 nowhere-requires c κs = search rules
 
 returns-2 : tie.Need-returns-2
-returns-2 c = c.nowhere.ensures ∙ taken-nowhere _ _ _ _ _ c.before.before.before.if1.false c.before.if2.true
+returns-2 c = c.nowhere.ensures ∙ taken_nowhere _ _ _ _ _ c.before.before.before.if1.false c.before.if2.true
 
 kept-requires : tie.Need-kept-requires
 kept-requires c κs = search rules
 
 returns-3 : tie.Need-returns-3
-returns-3 c = c.kept.ensures ∙ ap (stepped _ _ _ _) (sym (moveOf-keep _ c.before.if3.true))
+returns-3 c = c.kept.ensures ∙ ap (stepped _ _ _ _) (sym (move_of-keep _ c.before.if3.true))
 
 sub-added : tie.Need-overflow-sub-added
 sub-added c = search rules
@@ -32,7 +32,7 @@ added-requires : tie.Need-added-requires
 added-requires c κs = search rules
 
 returns-4 : tie.Need-returns-4
-returns-4 c = c.added.ensures ∙ ap (stepped _ _ _ _) (sym (move-add _ (omega (arith, c.before.if3.false, c.before.before.before.before.if1.false))))
+returns-4 c = c.added.ensures ∙ ap (stepped _ _ _ _) (sym (move_add _ (omega (arith, c.before.if3.false, c.before.before.before.before.if1.false))))
 
 pub next-spec : {M : Type 1} → statement M
 next-spec =

@@ -6,16 +6,16 @@ use borrow.Author.Tests.{not-true, not-false}
 use Rattle.model.specs.Rule.{allows}
 use Rattle.model.specs.Monitor.{Monitor, fires, airtime}
 use Rattle.model.specs.declared.Situation.{Situation}
-use Rattle.monitor.specs.From.{firing, monitorFrom}
+use Rattle.monitor.specs.From.{firing, monitor_from}
 use Rattle.rule.specs.Within.{within}
-use Rattle.rests.specs.Resting.{tickedBy}
-use Rattle.situation.specs.Ruled.{ruledFrom}
-use Rattle.steps.proofs.Moves.{fires-under, sent-forbidden, sent-fired, sent-unfired}
+use Rattle.rests.specs.Resting.{ticked_by}
+use Rattle.situation.specs.Ruled.{ruled_from}
+use Rattle.steps.proofs.Moves.{fires-under, sent_forbidden, sent-fired, sent_unfired}
 use Rattle.steps.proofs.sent.Statement.{statement}
 use Rattle.steps.proofs.sent.Tie as tie
 
 abbrev ruled : tie.Start → Monitor
-ruled s = ruledFrom s.args.h s.args.table.now s.args.offsets.now
+ruled s = ruled_from s.args.h s.args.table.now s.args.offsets.now
 
 -- once the transition is tried, the rule allows the row, and the answer is that of the monitor under the rule
 
@@ -30,7 +30,7 @@ answered : (c : tie.After-fire)
 answered c =
     let a = (entry c).args in
     let from = c.before.config-of.result in
-    c.fire.ensures ∙ ap (firing from) (fires-under (within a.h.rule) (monitorFrom a.table.now a.offsets.now) a.j a.kind from)
+    c.fire.ensures ∙ ap (firing from) (fires-under (within a.h.rule) (monitor_from a.table.now a.offsets.now) a.j a.kind from)
 
 allows-requires : tie.Need-allows-requires
 allows-requires c κs = search rules
@@ -43,7 +43,7 @@ returns c =
     let s = c.before.before.before.before.before.before in
     let a = s.args in
     c.nowhere.ensures
-    ∙ sent-forbidden a.h (ruled s) a.guess a.j a.kind a.s s.requires (sym c.before.before.allows.ensures ∙ not-true _ c.before.if1.true)
+    ∙ sent_forbidden a.h (ruled s) a.guess a.j a.kind a.s s.requires (sym c.before.before.allows.ensures ∙ not-true _ c.before.if1.true)
 
 config-of-requires : tie.Need-config-of-requires
 config-of-requires c κs = search rules
@@ -68,8 +68,8 @@ returns-2 c =
     let to = f.fire.result.to in
     ap (λ (x : Situation). record { leads = true; to = x })
     (c.ticked.ensures
-    ∙ ap (λ (air : ℕ). tickedBy a.h to air c.before.before.window-behind.result) (c.before.airtime-of.ensures a.offsets.now)
-    ∙ ap (tickedBy a.h to (airtime (ruled s) a.kind)) c.before.before.window-behind.ensures)
+    ∙ ap (λ (air : ℕ). ticked_by a.h to air c.before.before.window-behind.result) (c.before.airtime-of.ensures a.offsets.now)
+    ∙ ap (ticked_by a.h to (airtime (ruled s) a.kind)) c.before.before.window-behind.ensures)
     ∙ sent-fired a.h (ruled s) a.guess a.j a.kind a.s s.pre (allowed f)
     f.before.config-of.result f.before.config-of.ensures f.fire.result (answered f) c.before.before.before.before.if2.true
 
@@ -82,7 +82,7 @@ returns-3 c =
     let s = entry f in
     let a = s.args in
     c.nowhere2.ensures
-    ∙ sent-unfired a.h (ruled s) a.guess a.j a.kind a.s s.pre (allowed f)
+    ∙ sent_unfired a.h (ruled s) a.guess a.j a.kind a.s s.pre (allowed f)
     f.before.config-of.result f.before.config-of.ensures f.fire.result (answered f) c.before.if2.false
 
 pub sent-spec : {M : Type 1} → statement M

@@ -1,4 +1,4 @@
-use Rattle.steps.proofs.Moves.{trigger-past, trigger-here, trigger-elsewhere}
+use Rattle.steps.proofs.Moves.{trigger-past, trigger-here, trigger_elsewhere}
 use mathlib.Core.Option.{some}
 use mathlib.Core.Path.{ap, sym, ◌∙◌}
 use native.Mathlib.Omega.{arith}
@@ -40,7 +40,7 @@ returns-2 c = let a = c.before.before.before.before.before.before.before.before.
 returns-3 : tie.Need-returns-3
 returns-3 c = let a = c.before.before.before.before.before.before.before.args in
     let at = c.before.before.short in
-    trigger-elsewhere a.table.now a.offsets.now a.state a.j at.result (omega arith) at.ensures.0 (λ e. c.if2.false (c.before.byte2.ensures.0 ∙ e))
+    trigger_elsewhere a.table.now a.offsets.now a.state a.j at.result (omega arith) at.ensures.0 (λ e. c.if2.false (c.before.byte2.ensures.0 ∙ e))
 
 pub trigger-from-spec : {M : Type 1} → statement M
 trigger-from-spec =

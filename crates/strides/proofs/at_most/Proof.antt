@@ -1,8 +1,8 @@
 use native.Mathlib.Omega.{arith}
 use native.Mathlib.Nat.{mul-pos}
 use mathlib.Core.Path.{refl, subst, ◌∙◌}
-use Rattle.strides.proofs.Moves.{short-product}
-use Rattle.strides.proofs.Digits.{low-none, digits}
+use Rattle.strides.proofs.Moves.{short_product}
+use Rattle.strides.proofs.Digits.{low_none, digits}
 use Rattle.words.specs.Words.{Is}
 use lib.Dec.{ltb}
 use Prim.Native.Nat.{ℕ, ◌<◌, ◌*◌}
@@ -28,7 +28,7 @@ lesser-requires c κs = search rules
 mul-below : tie.Need-overflow-mul-below
 mul-below c =
     let start = c.before.before.before.before.before.before.before.before in
-    record { fits = short-product start.args.w c.lesser.result start.ranges.w.fits (omega (arith, c.lesser.ensures, start.ranges.r.fits)) }
+    record { fits = short_product start.args.w c.lesser.result start.ranges.w.fits (omega (arith, c.lesser.ensures, start.ranges.r.fits)) }
 
 below-requires : tie.Need-below-requires
 below-requires c κs = search rules
@@ -36,7 +36,7 @@ below-requires c κs = search rules
 mul-repeat : tie.Need-overflow-mul-repeat
 mul-repeat c =
     let start = c.before.before.before.before.before.before.before.before.before.before.before.before.before in
-    record { fits = short-product start.args.w start.args.r start.ranges.w.fits start.ranges.r.fits }
+    record { fits = short_product start.args.w start.args.r start.ranges.w.fits start.ranges.r.fits }
 
 repeat-requires : tie.Need-repeat-requires
 repeat-requires c κs =
@@ -51,7 +51,7 @@ repeat-requires c κs =
       omega (arith, cleared.below.auto.0),
       omega (arith, cleared.below.auto.0),
       mul-pos hw hr,
-      low-none a.a.now cleared.below.new.0 cleared.below.new.0 a.w a.r a.n hw hr low,
+      low_none a.a.now cleared.below.new.0 cleared.below.new.0 a.w a.r a.n hw hr low,
     )
 
 same_length : tie.Need-same-length

@@ -1,5 +1,5 @@
 use Rattle.words.specs.Words.{Upto}
-use Rattle.strides.proofs.Moves.{upto-more, upto_is}
+use Rattle.strides.proofs.Moves.{upto_more, upto_is}
 use lib.ListN.{length, length-set}
 use lib.Dec.{ltb}
 use native.Mathlib.Omega.{arith}
@@ -41,7 +41,7 @@ loop-again c =
     let x = c.word_below.result in (
       omega arith,
       length-set at.loop.a k x ∙ at.loop.invariant.1,
-      upto-more (λ i. ltb i a.e) at.loop.a k x (omega arith) c.word_below.ensures at.loop.invariant.2,
+      upto_more (λ i. ltb i a.e) at.loop.a k x (omega arith) c.word_below.ensures at.loop.invariant.2,
     )
 
 same_length : tie.Need-same-length invariant-loop decreases-loop

@@ -1,6 +1,6 @@
-use Rattle.strides.proofs.Repeats.{down_step, down-first}
-use Rattle.strides.proofs.Moves.{short-product}
-use Rattle.words.specs.Words.{mem, Is, anyBelow}
+use Rattle.strides.proofs.Repeats.{down_step, down_first}
+use Rattle.strides.proofs.Moves.{short_product}
+use Rattle.words.specs.Words.{mem, Is, any_below}
 use lib.ListN.{length}
 use native.Mathlib.Omega.{arith}
 use Prim.Native.Nat.{ℕ, ◌+◌, ◌-◌, ◌≤◌, ◌*◌}
@@ -10,13 +10,13 @@ use Rattle.strides.proofs.down_all.Statement.{statement}
 use Rattle.strides.proofs.down_all.Tie as tie
 
 abbrev invariant-loop : tie.invariant-loop
-invariant-loop a₀ spare₀ w n k₀ a spare k = (1 ≤ k) × (k ≤ n) × (length a ≡ length a₀) × (length spare ≡ length spare₀) × Is (λ i. anyBelow (λ d. mem a₀ (i + w * d)) k) a₀ a
+invariant-loop a₀ spare₀ w n k₀ a spare k = (1 ≤ k) × (k ≤ n) × (length a ≡ length a₀) × (length spare ≡ length spare₀) × Is (λ i. any_below (λ d. mem a₀ (i + w * d)) k) a₀ a
 
 abbrev decreases-loop : tie.decreases-loop
 decreases-loop a₀ spare₀ w n k₀ a spare k = n - k
 
 loop-holds : tie.Need-loop-init invariant-loop decreases-loop
-loop-holds c = let start = c.before.before in (omega arith, omega arith, refl, refl, down-first start.args.a.now start.args.w)
+loop-holds c = let start = c.before.before in (omega arith, omega arith, refl, refl, down_first start.args.a.now start.args.w)
 
 sub-loop : tie.Need-overflow-sub-loop invariant-loop decreases-loop
 sub-loop c = search rules
@@ -25,7 +25,7 @@ mul-step-down : tie.Need-overflow-mul-step-down invariant-loop decreases-loop
 mul-step-down c =
     let at = c.before.before.before in
     let start = at.before.before.before in
-    record { fits = short-product start.args.w at.loop.k start.requires.1 (omega (arith, start.requires.3)) }
+    record { fits = short_product start.args.w at.loop.k start.requires.1 (omega (arith, start.requires.3)) }
 
 step-down-requires : tie.Need-step-down-requires invariant-loop decreases-loop
 step-down-requires c κs = search rules
@@ -48,7 +48,7 @@ loop-again c =
       omega arith,
       stepped.step_down.ensures.size ∙ at.loop.invariant.2,
       stepped.step_down.auto.1.0 ∙ at.loop.invariant.3,
-      subst (λ (n : ℕ). Is (λ i. anyBelow (λ d. mem a.a.now (i + a.w * d)) n) a.a.now stepped.step_down.new.0) e
+      subst (λ (n : ℕ). Is (λ i. any_below (λ d. mem a.a.now (i + a.w * d)) n) a.a.now stepped.step_down.new.0) e
           (down_step a.a.now at.loop.a stepped.step_down.new.0 a.w k k (omega arith) at.loop.invariant.4 stepped.step_down.ensures),
     )
 
@@ -59,7 +59,7 @@ mul-step-down-2 : tie.Need-overflow-mul-step-down-2 invariant-loop decreases-loo
 mul-step-down-2 c =
     let at = c.before.before.before.before in
     let start = at.before.before.before in
-    record { fits = short-product start.args.w (start.args.n - at.loop.k) start.requires.1 (omega (arith, start.requires.3)) }
+    record { fits = short_product start.args.w (start.args.n - at.loop.k) start.requires.1 (omega (arith, start.requires.3)) }
 
 step-down-requires-2 : tie.Need-step-down-requires-2 invariant-loop decreases-loop
 step-down-requires-2 c κs = search rules
@@ -78,7 +78,7 @@ returns c =
     let a = start.args in
     let k = at.loop.k in
     let e : a.n - k + k ≡ a.n = omega arith in
-    subst (λ (n : ℕ). Is (λ i. anyBelow (λ d. mem a.a.now (i + a.w * d)) n) a.a.now stepped.step-down2.new.0) e
+    subst (λ (n : ℕ). Is (λ i. any_below (λ d. mem a.a.now (i + a.w * d)) n) a.a.now stepped.step-down2.new.0) e
     (down_step a.a.now at.loop.a stepped.step-down2.new.0 a.w (a.n - k) k (omega arith) at.loop.invariant.4 stepped.step-down2.ensures)
 
 same-length-3 : tie.Need-same-length-3 invariant-loop decreases-loop
@@ -92,7 +92,7 @@ returns-2 c =
     let at = c.before.before in
     let a = at.before.before.before.args in
     let e : at.loop.k ≡ a.n = omega arith in
-    subst (λ (n : ℕ). Is (λ i. anyBelow (λ d. mem a.a.now (i + a.w * d)) n) a.a.now at.loop.a) e at.loop.invariant.4
+    subst (λ (n : ℕ). Is (λ i. any_below (λ d. mem a.a.now (i + a.w * d)) n) a.a.now at.loop.a) e at.loop.invariant.4
 
 pub down-all-spec : {M : Type 1} → statement M
 down-all-spec =

@@ -1,7 +1,7 @@
 use Rattle.words.specs.Words.{mem}
 use Rattle.words.specs.Words.{Upto}
-use Rattle.strides.specs.Strides.{withDown}
-use Rattle.strides.proofs.Moves.{upto-more}
+use Rattle.strides.specs.Strides.{with_down}
+use Rattle.strides.proofs.Moves.{upto_more}
 use lib.ListN.{length, length-set}
 use native.Mathlib.Omega.{arith}
 use Prim.Native.Nat.{ℕ, ◌-◌, ◌≤◌}
@@ -11,7 +11,7 @@ use Rattle.strides.proofs.down_fast.Statement.{statement}
 use Rattle.strides.proofs.down_fast.Tie as tie
 
 abbrev invariant-loop : tie.invariant-loop
-invariant-loop dst₀ src k e w₀ dst w = (w ≤ e) × (length dst ≡ length dst₀) × Upto (withDown k (mem src)) w dst
+invariant-loop dst₀ src k e w₀ dst w = (w ≤ e) × (length dst ≡ length dst₀) × Upto (with_down k (mem src)) w dst
 
 abbrev decreases-loop : tie.decreases-loop
 decreases-loop dst₀ src k e w₀ dst w = e - w
@@ -45,7 +45,7 @@ loop-again c =
     let x = c.word-down-inner.result in (
       omega arith,
       length-set at.loop.dst w x ∙ at.loop.invariant.1,
-      upto-more (withDown a.k (mem a.src.now)) at.loop.dst w x (omega (arith, at.before.before.before.requires.1)) c.word-down-inner.ensures at.loop.invariant.2,
+      upto_more (with_down a.k (mem a.src.now)) at.loop.dst w x (omega (arith, at.before.before.before.requires.1)) c.word-down-inner.ensures at.loop.invariant.2,
     )
 
 same_length : tie.Need-same-length invariant-loop decreases-loop
@@ -56,7 +56,7 @@ returns c =
     let at = c.before in
     let a = at.before.before.before.args in
     let e : at.loop.w ≡ a.e = omega arith in
-    (at.loop.invariant.1, subst (λ (n : ℕ). Upto (withDown a.k (mem a.src.now)) n at.loop.dst) e at.loop.invariant.2)
+    (at.loop.invariant.1, subst (λ (n : ℕ). Upto (with_down a.k (mem a.src.now)) n at.loop.dst) e at.loop.invariant.2)
 
 pub down-fast-spec : {M : Type 1} → statement M
 down-fast-spec =

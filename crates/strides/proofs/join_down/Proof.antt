@@ -1,5 +1,5 @@
 use Rattle.strides.proofs.Moves.{is-from}
-use Rattle.strides.specs.Strides.{withDown}
+use Rattle.strides.specs.Strides.{with_down}
 use Rattle.words.specs.Words.{mem}
 use borrow.Author.Rules.{rules}
 use Rattle.strides.proofs.join_down.Statement.{statement}
@@ -25,7 +25,7 @@ returns c =
     let slow = c.before.before in
     let fast = slow.before.before.before.before in
     let a = fast.before.before.before.before.before.args in
-    is-from (withDown a.k (mem a.src.now)) a.dst.now fast.down-fast.new.0 slow.down-slow.new.0 fast.down-fast.ensures.0 slow.down-slow.ensures
+    is-from (with_down a.k (mem a.src.now)) a.dst.now fast.down-fast.new.0 slow.down-slow.new.0 fast.down-fast.ensures.0 slow.down-slow.ensures
 
 pub join-down-spec : {M : Type 1} → statement M
 join-down-spec =

@@ -1,5 +1,5 @@
 use Rattle.strides.proofs.Moves.{is-from}
-use Rattle.strides.specs.Strides.{withUp}
+use Rattle.strides.specs.Strides.{with_up}
 use Rattle.words.specs.Words.{mem}
 use borrow.Author.Rules.{rules}
 use Rattle.strides.proofs.join_up.Statement.{statement}
@@ -25,7 +25,7 @@ returns c =
     let fast = c.before.before in
     let slow = fast.before.before.before.before in
     let a = slow.before.before.before.before.before.args in
-    is-from (withUp a.k (mem a.src.now)) a.dst.now slow.up-slow.new.0 fast.up-fast.new.0 slow.up-slow.ensures.0 fast.up-fast.ensures
+    is-from (with_up a.k (mem a.src.now)) a.dst.now slow.up-slow.new.0 fast.up-fast.new.0 slow.up-slow.ensures.0 fast.up-fast.ensures
 
 pub join-up-spec : {M : Type 1} → statement M
 join-up-spec =

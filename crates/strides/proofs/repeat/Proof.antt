@@ -1,4 +1,4 @@
-use Rattle.strides.proofs.Digits.{period-first, period-none, period-more, period-last}
+use Rattle.strides.proofs.Digits.{period_first, period_none, period_more, period_last}
 use Rattle.words.specs.Words.{mem, Is}
 use lib.ListN.{length}
 use lib.Dec.{ltb}
@@ -21,13 +21,13 @@ loop-holds : tie.Need-loop-init invariant-loop decreases-loop
 loop-holds c =
     let start = c.before.before in
     let p = start.args.period in
-    (start.requires.2, refl, refl, (λ x. add-mod_left p x), period-first start.args.a.now p start.requires.3)
+    (start.requires.2, refl, refl, (λ x. add-mod_left p x), period_first start.args.a.now p start.requires.3)
 
 grow-requires : tie.Need-grow-requires invariant-loop decreases-loop
 grow-requires c κs =
     let at = c.before.before.before in
     let a = at.before.before.before.args in
-    (search rules, period-none a.a.now at.loop.a at.loop.a a.period at.loop.e at.loop.invariant.3 at.loop.invariant.4)
+    (search rules, period_none a.a.now at.loop.a at.loop.a a.period at.loop.e at.loop.invariant.3 at.loop.invariant.4)
 
 mul-e : tie.Need-overflow-mul-e invariant-loop decreases-loop
 mul-e c = search rules
@@ -47,7 +47,7 @@ loop-again c =
       stepped.grow.ensures.size ∙ at.loop.invariant.1,
       stepped.grow.auto.1.0 ∙ at.loop.invariant.2,
       (λ x. ap (λ (n : ℕ). n % a.period) (twice x) ∙ at.loop.invariant.3 (e + x) ∙ at.loop.invariant.3 x),
-      period-more a.a.now at.loop.a stepped.grow.new.0 a.period e at.loop.invariant.3 at.loop.invariant.4 stepped.grow.ensures,
+      period_more a.a.now at.loop.a stepped.grow.new.0 a.period e at.loop.invariant.3 at.loop.invariant.4 stepped.grow.ensures,
     )
 
 same_length : tie.Need-same-length invariant-loop decreases-loop
@@ -60,7 +60,7 @@ returns : tie.Need-returns invariant-loop decreases-loop
 returns c =
     let at = c.before in
     let a = at.before.before.before.args in
-    period-last a.a.now at.loop.a at.loop.a a.period at.loop.e at.loop.invariant.3 at.loop.invariant.4 (omega arith)
+    period_last a.a.now at.loop.a at.loop.a a.period at.loop.e at.loop.invariant.3 at.loop.invariant.4 (omega arith)
 
 pub repeat-spec : {M : Type 1} → statement M
 repeat-spec =

@@ -1,5 +1,5 @@
 use Rattle.strides.proofs.Moves.{is-is}
-use Rattle.strides.specs.Strides.{withDown}
+use Rattle.strides.specs.Strides.{with_down}
 use Rattle.words.specs.Words.{mem}
 use borrow.Author.Rules.{rules}
 use Rattle.strides.proofs.step_down.Statement.{statement}
@@ -23,7 +23,7 @@ returns c =
     let joined = copied.before.before.before.before.before in
     let start = joined.before.before.before.before.before in
     let a = start.args in
-    is-is (withDown a.k (mem a.a.now)) a.spare.now joined.join-down.new.0 a.a.now copied.copy.new.0 joined.join-down.ensures start.requires copied.copy.ensures
+    is-is (with_down a.k (mem a.a.now)) a.spare.now joined.join-down.new.0 a.a.now copied.copy.new.0 joined.join-down.ensures start.requires copied.copy.ensures
 
 pub step-down-spec : {M : Type 1} → statement M
 step-down-spec =

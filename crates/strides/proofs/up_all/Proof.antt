@@ -1,6 +1,6 @@
 use Rattle.strides.proofs.Repeats.{up_step, up_first}
-use Rattle.strides.proofs.Moves.{short-product}
-use Rattle.words.specs.Words.{mem, Is, up, anyBelow}
+use Rattle.strides.proofs.Moves.{short_product}
+use Rattle.words.specs.Words.{mem, Is, up, any_below}
 use lib.ListN.{length}
 use native.Mathlib.Omega.{arith}
 use Prim.Native.Nat.{ℕ, ◌+◌, ◌-◌, ◌≤◌, ◌*◌}
@@ -10,7 +10,7 @@ use Rattle.strides.proofs.up_all.Statement.{statement}
 use Rattle.strides.proofs.up_all.Tie as tie
 
 abbrev invariant-loop : tie.invariant-loop
-invariant-loop a₀ spare₀ w n k₀ a spare k = (1 ≤ k) × (k ≤ n) × (length a ≡ length a₀) × (length spare ≡ length spare₀) × Is (λ i. anyBelow (λ d. up (w * d) (mem a₀) i) k) a₀ a
+invariant-loop a₀ spare₀ w n k₀ a spare k = (1 ≤ k) × (k ≤ n) × (length a ≡ length a₀) × (length spare ≡ length spare₀) × Is (λ i. any_below (λ d. up (w * d) (mem a₀) i) k) a₀ a
 
 abbrev decreases-loop : tie.decreases-loop
 decreases-loop a₀ spare₀ w n k₀ a spare k = n - k
@@ -25,7 +25,7 @@ mul-step-up : tie.Need-overflow-mul-step-up invariant-loop decreases-loop
 mul-step-up c =
     let at = c.before.before.before in
     let start = at.before.before.before in
-    record { fits = short-product start.args.w at.loop.k start.requires.1 (omega (arith, start.requires.3)) }
+    record { fits = short_product start.args.w at.loop.k start.requires.1 (omega (arith, start.requires.3)) }
 
 step-up-requires : tie.Need-step-up-requires invariant-loop decreases-loop
 step-up-requires c κs = search rules
@@ -48,7 +48,7 @@ loop-again c =
       omega arith,
       stepped.step-up.ensures.size ∙ at.loop.invariant.2,
       stepped.step-up.auto.1.0 ∙ at.loop.invariant.3,
-      subst (λ (n : ℕ). Is (λ i. anyBelow (λ d. up (a.w * d) (mem a.a.now) i) n) a.a.now stepped.step-up.new.0) e
+      subst (λ (n : ℕ). Is (λ i. any_below (λ d. up (a.w * d) (mem a.a.now) i) n) a.a.now stepped.step-up.new.0) e
           (up_step a.a.now at.loop.a stepped.step-up.new.0 a.w k k (omega arith) at.loop.invariant.4 stepped.step-up.ensures),
     )
 
@@ -59,7 +59,7 @@ mul-step-up-2 : tie.Need-overflow-mul-step-up-2 invariant-loop decreases-loop
 mul-step-up-2 c =
     let at = c.before.before.before.before in
     let start = at.before.before.before in
-    record { fits = short-product start.args.w (start.args.n - at.loop.k) start.requires.1 (omega (arith, start.requires.3)) }
+    record { fits = short_product start.args.w (start.args.n - at.loop.k) start.requires.1 (omega (arith, start.requires.3)) }
 
 step-up-requires-2 : tie.Need-step-up-requires-2 invariant-loop decreases-loop
 step-up-requires-2 c κs = search rules
@@ -78,7 +78,7 @@ returns c =
     let a = start.args in
     let k = at.loop.k in
     let e : a.n - k + k ≡ a.n = omega arith in
-    subst (λ (n : ℕ). Is (λ i. anyBelow (λ d. up (a.w * d) (mem a.a.now) i) n) a.a.now stepped.step-up2.new.0) e
+    subst (λ (n : ℕ). Is (λ i. any_below (λ d. up (a.w * d) (mem a.a.now) i) n) a.a.now stepped.step-up2.new.0) e
     (up_step a.a.now at.loop.a stepped.step-up2.new.0 a.w (a.n - k) k (omega arith) at.loop.invariant.4 stepped.step-up2.ensures)
 
 same-length-3 : tie.Need-same-length-3 invariant-loop decreases-loop
@@ -92,7 +92,7 @@ returns-2 c =
     let at = c.before.before in
     let a = at.before.before.before.args in
     let e : at.loop.k ≡ a.n = omega arith in
-    subst (λ (n : ℕ). Is (λ i. anyBelow (λ d. up (a.w * d) (mem a.a.now) i) n) a.a.now at.loop.a) e at.loop.invariant.4
+    subst (λ (n : ℕ). Is (λ i. any_below (λ d. up (a.w * d) (mem a.a.now) i) n) a.a.now at.loop.a) e at.loop.invariant.4
 
 pub up-all-spec : {M : Type 1} → statement M
 up-all-spec =

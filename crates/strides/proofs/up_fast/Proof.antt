@@ -1,7 +1,7 @@
 use Rattle.words.specs.Words.{mem}
 use Rattle.words.specs.Words.{Upto}
-use Rattle.strides.specs.Strides.{withUp}
-use Rattle.strides.proofs.Moves.{upto-more, upto_is}
+use Rattle.strides.specs.Strides.{with_up}
+use Rattle.strides.proofs.Moves.{upto_more, upto_is}
 use lib.ListN.{length, length-set}
 use native.Mathlib.Omega.{arith}
 use Prim.Native.Nat.{◌-◌, ◌≤◌}
@@ -11,7 +11,7 @@ use Rattle.strides.proofs.up_fast.Statement.{statement}
 use Rattle.strides.proofs.up_fast.Tie as tie
 
 abbrev invariant-loop : tie.invariant-loop
-invariant-loop dst₀ src k v e w₀ dst w = (v ≤ w) × (w ≤ e) × (e ≡ length dst₀) × (length dst ≡ length dst₀) × Upto (withUp k (mem src)) w dst
+invariant-loop dst₀ src k v e w₀ dst w = (v ≤ w) × (w ≤ e) × (e ≡ length dst₀) × (length dst ≡ length dst₀) × Upto (with_up k (mem src)) w dst
 
 abbrev decreases-loop : tie.decreases-loop
 decreases-loop dst₀ src k v e w₀ dst w = e - w
@@ -47,7 +47,7 @@ loop-again c =
       omega arith,
       refl,
       length-set at.loop.dst w x ∙ at.loop.invariant.3,
-      upto-more (withUp a.k (mem a.src.now)) at.loop.dst w x (omega arith) c.word-up-inner.ensures at.loop.invariant.4,
+      upto_more (with_up a.k (mem a.src.now)) at.loop.dst w x (omega arith) c.word-up-inner.ensures at.loop.invariant.4,
     )
 
 same_length : tie.Need-same-length invariant-loop decreases-loop
@@ -57,7 +57,7 @@ returns : tie.Need-returns invariant-loop decreases-loop
 returns c =
     let at = c.before in
     let a = at.before.before.before.args in
-    upto_is (withUp a.k (mem a.src.now)) a.dst.now at.loop.dst at.loop.w at.loop.invariant.3 (omega arith) at.loop.invariant.4
+    upto_is (with_up a.k (mem a.src.now)) a.dst.now at.loop.dst at.loop.w at.loop.invariant.3 (omega arith) at.loop.invariant.4
 
 pub up-fast-spec : {M : Type 1} → statement M
 up-fast-spec =

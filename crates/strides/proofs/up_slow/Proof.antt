@@ -1,7 +1,7 @@
 use Rattle.words.specs.Words.{mem}
 use Rattle.words.specs.Words.{Upto}
-use Rattle.strides.specs.Strides.{withUp}
-use Rattle.strides.proofs.Moves.{upto-more}
+use Rattle.strides.specs.Strides.{with_up}
+use Rattle.strides.proofs.Moves.{upto_more}
 use lib.ListN.{length, length-set}
 use native.Mathlib.Omega.{arith}
 use Prim.Native.Nat.{ℕ, ◌-◌, ◌≤◌}
@@ -11,7 +11,7 @@ use Rattle.strides.proofs.up_slow.Statement.{statement}
 use Rattle.strides.proofs.up_slow.Tie as tie
 
 abbrev invariant-loop : tie.invariant-loop
-invariant-loop dst₀ src k e w₀ dst w = (w ≤ e) × (length dst ≡ length dst₀) × Upto (withUp k (mem src)) w dst
+invariant-loop dst₀ src k e w₀ dst w = (w ≤ e) × (length dst ≡ length dst₀) × Upto (with_up k (mem src)) w dst
 
 abbrev decreases-loop : tie.decreases-loop
 decreases-loop dst₀ src k e w₀ dst w = e - w
@@ -42,7 +42,7 @@ loop-again c =
     let x = c.word-up.result in (
       omega arith,
       length-set at.loop.dst w x ∙ at.loop.invariant.1,
-      upto-more (withUp a.k (mem a.src.now)) at.loop.dst w x (omega (arith, at.before.before.before.requires)) c.word-up.ensures at.loop.invariant.2,
+      upto_more (with_up a.k (mem a.src.now)) at.loop.dst w x (omega (arith, at.before.before.before.requires)) c.word-up.ensures at.loop.invariant.2,
     )
 
 same_length : tie.Need-same-length invariant-loop decreases-loop
@@ -53,7 +53,7 @@ returns c =
     let at = c.before in
     let a = at.before.before.before.args in
     let e : at.loop.w ≡ a.e = omega arith in
-    (at.loop.invariant.1, subst (λ (n : ℕ). Upto (withUp a.k (mem a.src.now)) n at.loop.dst) e at.loop.invariant.2)
+    (at.loop.invariant.1, subst (λ (n : ℕ). Upto (with_up a.k (mem a.src.now)) n at.loop.dst) e at.loop.invariant.2)
 
 pub up-slow-spec : {M : Type 1} → statement M
 up-slow-spec =

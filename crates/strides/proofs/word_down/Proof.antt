@@ -1,4 +1,4 @@
-use Rattle.strides.proofs.Moves.{with-down, pair-down}
+use Rattle.strides.proofs.Moves.{with_down_lem, pair_down}
 use borrow.Author.Rules.{rules}
 use Rattle.strides.proofs.word_down.Statement.{statement}
 use Rattle.strides.proofs.word_down.Tie as tie
@@ -31,8 +31,8 @@ returns : tie.Need-returns
 returns c =
     let first = c.before.before in
     let a = first.before.before.args in
-    with-down a.s.now a.w a.k first.word.result first.word.ensures.0 first.word.ensures.1 _
-    (pair-down a.s.now a.w a.k c.before.word2.result c.word3.result c.before.word2.ensures.0 c.word3.ensures.0 c.before.word2.ensures.1)
+    with_down_lem a.s.now a.w a.k first.word.result first.word.ensures.0 first.word.ensures.1 _
+    (pair_down a.s.now a.w a.k c.before.word2.result c.word3.result c.before.word2.ensures.0 c.word3.ensures.0 c.before.word2.ensures.1)
 
 pub word-down-spec : {M : Type 1} → statement M
 word-down-spec =

@@ -1,4 +1,4 @@
-use Rattle.strides.proofs.Moves.{with-down, pair-down}
+use Rattle.strides.proofs.Moves.{with_down_lem, pair_down}
 use mathlib.Core.Path.{refl}
 use Prim.Native.Nat.{◌+◌, ◌/◌}
 use borrow.Author.Rules.{rules}
@@ -42,8 +42,8 @@ returns : tie.Need-returns
 returns c =
     let first = c.before.before in
     let a = first.before.args in
-    with-down a.s.now a.w a.k _ refl (first.shared-slice-known.given a.w).fits _
-    (pair-down a.s.now a.w a.k _ _ refl refl (c.before.shared-slice-known2.given (a.w + a.k / 64)).fits)
+    with_down_lem a.s.now a.w a.k _ refl (first.shared-slice-known.given a.w).fits _
+    (pair_down a.s.now a.w a.k _ _ refl refl (c.before.shared-slice-known2.given (a.w + a.k / 64)).fits)
 
 pub word-down-inner-spec : {M : Type 1} → statement M
 word-down-inner-spec =

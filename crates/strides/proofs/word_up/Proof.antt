@@ -1,4 +1,4 @@
-use Rattle.strides.proofs.Moves.{with-up}
+use Rattle.strides.proofs.Moves.{with_up_lem}
 use borrow.Author.Rules.{rules}
 use Rattle.strides.proofs.word_up.Statement.{statement}
 use Rattle.strides.proofs.word_up.Tie as tie
@@ -28,7 +28,7 @@ returns : tie.Need-returns
 returns c =
     let word_of = c.before.before in
     let a = word_of.before.before.args in
-    with-up a.s.now a.w a.k word_of.word.result word_of.word.ensures.0 word_of.word.ensures.1 c.before.word-before.result c.word-before2.result
+    with_up_lem a.s.now a.w a.k word_of.word.result word_of.word.ensures.0 word_of.word.ensures.1 c.before.word-before.result c.word-before2.result
     c.before.word-before.ensures c.word-before2.ensures
 
 pub word-up-spec : {M : Type 1} → statement M

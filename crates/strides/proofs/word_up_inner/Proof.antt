@@ -1,5 +1,5 @@
 use Rattle.shifts.proofs.Moved.{before-bits}
-use Rattle.strides.proofs.Moves.{with-up}
+use Rattle.strides.proofs.Moves.{with_up_lem}
 use native.Mathlib.Omega.{arith}
 use Prim.Native.Nat.{◌+◌, ◌-◌, ◌/◌}
 use mathlib.Core.Path.{refl}
@@ -50,7 +50,7 @@ returns c =
     let s = a.s.now in
     let w = a.w in
     let q = a.k / 64 in
-    with-up s w a.k _ refl (first.shared-slice-known.given w).fits _ _
+    with_up_lem s w a.k _ refl (first.shared-slice-known.given w).fits _ _
     (before-bits s w q _ (omega (arith, first.before.requires.0)) refl (c.before.shared-slice-known2.given (w - q)).fits)
     (before-bits s w (q + 1) _ first.before.requires.0 refl (c.shared-slice-known3.given (w - (q + 1))).fits)
 

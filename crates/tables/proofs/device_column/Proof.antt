@@ -3,19 +3,19 @@ use native.Mathlib.Omega.{arith}
 use mathlib.Core.Path.{◌≡◌, refl, ap, ◌∙◌}
 use mathlib.Core.List.{List, [], ◌++◌}
 use lib.ListN.{drop, set}
-use Rattle.model.specs.Limits.{kindLimit}
+use Rattle.model.specs.Limits.{kind_limit}
 use Rattle.model.specs.Bytes.{tab, padded}
-use Rattle.model.specs.Kinds.{versionAt, kindAt, deviceAt}
-use Rattle.model.specs.Table.{kindsAt}
-use Rattle.model.proofs.Basics.{getD-tab}
-use Rattle.monitor.specs.From.{monitorFrom}
-use Rattle.columns.proofs.Columns.{column-padded, column-more}
+use Rattle.model.specs.Kinds.{version_at, kind_at, device_at}
+use Rattle.model.specs.Table.{kinds_at}
+use Rattle.model.proofs.Basics.{get_or-tab}
+use Rattle.monitor.specs.From.{monitor_from}
+use Rattle.columns.proofs.Columns.{column_padded, column_more}
 use borrow.Author.Rules.{rules}
 use Rattle.tables.proofs.device_column.Statement.{statement}
 use Rattle.tables.proofs.device_column.Tie as tie
 
 abbrev invariant-loop : tie.invariant-loop
-invariant-loop b most column₀ i₀ column i = (i ≤ most) × (most ≡ min (kindsAt b) kindLimit) × (column ≡ tab (λ k. deviceAt b (kindAt (versionAt b) k)) i ++ drop i column₀)
+invariant-loop b most column₀ i₀ column i = (i ≤ most) × (most ≡ min (kinds_at b) kind_limit) × (column ≡ tab (λ k. device_at b (kind_at (version_at b) k)) i ++ drop i column₀)
 
 abbrev decreases-loop : tie.decreases-loop
 decreases-loop b most column₀ i₀ column i = most - i
@@ -31,7 +31,7 @@ smaller-requires c κs = search rules
 
 loop-holds : tie.Need-loop-init invariant-loop decreases-loop
 unfolding tab
-loop-holds c = (omega arith, c.smaller.ensures ∙ ap (λ (n : ℕ). min n kindLimit) c.before.byte.ensures.0, refl)
+loop-holds c = (omega arith, c.smaller.ensures ∙ ap (λ (n : ℕ). min n kind_limit) c.before.byte.ensures.0, refl)
 
 cast-device-of : tie.Need-overflow-cast-device-of invariant-loop decreases-loop
 cast-device-of c = search rules
@@ -49,24 +49,24 @@ loop-less : tie.Need-loop-smaller invariant-loop decreases-loop
 loop-less c = search rules
 
 loop-again : tie.Need-loop-preserved invariant-loop decreases-loop
-unfolding monitorFrom
+unfolding monitor_from
 loop-again c =
     let b = c.before.before.before.before.before.before.args.b.now in
     let l = c.before.before.loop in
-    let f : ℕ → ℕ = λ k. deviceAt b (kindAt (versionAt b) k) in
-    let here : c.device-of.result ≡ f l.i = c.device-of.ensures [] ∙ getD-tab f 0 (kindsAt b) l.i (omega arith) in (
+    let f : ℕ → ℕ = λ k. device_at b (kind_at (version_at b) k) in
+    let here : c.device-of.result ≡ f l.i = c.device-of.ensures [] ∙ get_or-tab f 0 (kinds_at b) l.i (omega arith) in (
       omega arith,
       l.invariant.1,
-      ap (λ (k : List ℕ). set k l.i c.device-of.result) l.invariant.2 ∙ rw here (column-more f _ l.i (omega arith)),
+      ap (λ (k : List ℕ). set k l.i c.device-of.result) l.invariant.2 ∙ rw here (column_more f _ l.i (omega arith)),
     )
 
 returns : tie.Need-returns invariant-loop decreases-loop
 returns c few =
     let b = c.before.before.before.before.before.args.b.now in
     let l = c.before.loop in
-    let f : ℕ → ℕ = λ k. deviceAt b (kindAt (versionAt b) k) in
-    let all : l.i ≡ kindsAt b = omega arith in
-    l.invariant.2 ∙ column-padded f l.i kindLimit ∙ ap (λ n. padded kindLimit (tab f n)) all
+    let f : ℕ → ℕ = λ k. device_at b (kind_at (version_at b) k) in
+    let all : l.i ≡ kinds_at b = omega arith in
+    l.invariant.2 ∙ column_padded f l.i kind_limit ∙ ap (λ n. padded kind_limit (tab f n)) all
 
 pub device-column-spec : {M : Type 1} → statement M
 device-column-spec =

@@ -5,19 +5,19 @@ use mathlib.Core.Path.{◌≡◌, refl, sym, ap, ap₂, ◌∙◌}
 use lib.ListN.{length, take}
 use Rattle.model.specs.Bytes.{joined}
 use Rattle.model.specs.Room.{over}
-use Rattle.model.specs.Kinds.{kindWidth, kindAt, kindFields, kindBytes}
-use Rattle.model.specs.Table.{tableLimit}
-use Rattle.model.proofs.KindForm.{two-or-three}
+use Rattle.model.specs.Kinds.{kind_width, kind_at, kind_fields, kind_bytes}
+use Rattle.model.specs.Table.{table_limit}
+use Rattle.model.proofs.KindForm.{two_or_three}
 use Rattle.wire.specs.Placed.{placed}
 use Rattle.tables.proofs.Encoded.{kinds-long, kind-room}
-use Rattle.frame.proofs.Written.{joined-none, placed_row}
+use Rattle.frame.proofs.Written.{joined_none, placed_row}
 use borrow.Author.Rules.{rules}
 use Rattle.tables.proofs.encode_kinds.Statement.{statement}
 use Rattle.tables.proofs.encode_kinds.Tie as tie
 
 abbrev invariant-loop : tie.invariant-loop
-invariant-loop out₀ t version width n i₀ out i = (i ≤ n) × (length out ≡ length out₀) × (width ≡ kindWidth version)
-    × ((head room : List ℕ) → length head ≡ 8 → tableLimit ≤ length room → out₀ ≡ over head room → out ≡ over (head ++ joined (kindBytes t) i) room)
+invariant-loop out₀ t version width n i₀ out i = (i ≤ n) × (length out ≡ length out₀) × (width ≡ kind_width version)
+    × ((head room : List ℕ) → length head ≡ 8 → table_limit ≤ length room → out₀ ≡ over head room → out ≡ over (head ++ joined (kind_bytes t) i) room)
 
 abbrev decreases-loop : tie.decreases-loop
 decreases-loop out₀ t version width n i₀ out i = n - i
@@ -29,7 +29,7 @@ cast-width : tie.Need-overflow-cast-width invariant-loop decreases-loop
 cast-width c = search rules
 
 loop-holds : tie.Need-loop-init invariant-loop decreases-loop
-loop-holds c = (omega arith, refl, c.kind-width.ensures, λ head room h k e. e ∙ ap (λ (l : List ℕ). over l room) (sym (joined-none head (kindBytes c.before.before.args.t1))))
+loop-holds c = (omega arith, refl, c.kind-width.ensures, λ head room h k e. e ∙ ap (λ (l : List ℕ). over l room) (sym (joined_none head (kind_bytes c.before.before.args.t1))))
 
 cast-k : tie.Need-overflow-cast-k invariant-loop decreases-loop
 cast-k c = search rules
@@ -50,7 +50,7 @@ part-place-start : tie.Need-slice-bounds-place-start invariant-loop decreases-lo
 part-place-start c = search rules
 
 part-place-end : tie.Need-slice-bounds-place-end invariant-loop decreases-loop
-part-place-end c = omega (arith, (two-or-three c.before.before.before.before.before.before.before.before.args.t1.version).1, c.before.before.before.before.before.loop.invariant.2)
+part-place-end c = omega (arith, (two_or_three c.before.before.before.before.before.before.before.before.args.t1.version).1, c.before.before.before.before.before.loop.invariant.2)
 
 kind-at-requires : tie.Need-kind-at-requires invariant-loop decreases-loop
 kind-at-requires c κs = search rules
@@ -68,23 +68,23 @@ loop-less : tie.Need-loop-smaller invariant-loop decreases-loop
 loop-less c = search rules
 
 loop-again : tie.Need-loop-preserved invariant-loop decreases-loop
-unfolding kindBytes
+unfolding kind_bytes
 loop-again c =
     let t = c.before.before.before.before.before.before.before.before.before.before.before.before.before.before.args.t1 in
     let l = c.before.before.before.before.before.before.before.before.before.before.before.loop in
-    let row = kindBytes t l.i in
+    let row = kind_bytes t l.i in
     let width = c.before.before.before.before.before.before.before.before.before.before.before.before.kind-width.result in
-    let all : width - 0 ≡ kindWidth t.version = omega (arith, l.invariant.2) in
-    let record_is : take (width - 0) (kindFields t l.i) ≡ row =
-    ap (λ (n : ℕ). take n (kindFields t l.i)) all in (
+    let all : width - 0 ≡ kind_width t.version = omega (arith, l.invariant.2) in
+    let record_is : take (width - 0) (kind_fields t l.i) ≡ row =
+    ap (λ (n : ℕ). take n (kind_fields t l.i)) all in (
       omega arith,
       c.before.before.place.auto.1.0 ∙ l.invariant.1,
       l.invariant.2,
       λ head room h k e.
           c.before.before.place.ensures
           ∙ ap₂ (λ (r : List ℕ) (at : ℕ). placed r at l.out) record_is c.before.before.before.kind_at.ensures
-          ∙ ap (placed row (kindAt t.version l.i)) (l.invariant.3 head room h k e)
-          ∙ placed_row head (kindBytes t) room l.i (kindAt t.version l.i) (kinds-long t head l.i h) (omega (arith, kind-room t l.i (omega arith))),
+          ∙ ap (placed row (kind_at t.version l.i)) (l.invariant.3 head room h k e)
+          ∙ placed_row head (kind_bytes t) room l.i (kind_at t.version l.i) (kinds-long t head l.i h) (omega (arith, kind-room t l.i (omega arith))),
     )
 
 same_length : tie.Need-same-length invariant-loop decreases-loop
@@ -94,7 +94,7 @@ returns : tie.Need-returns invariant-loop decreases-loop
 returns c =
     let t = c.before.before.before.before.args.t1 in
     let all : c.before.loop.i ≡ t.kinds = omega arith in
-    λ head room h k e. c.before.loop.invariant.3 head room h k e ∙ ap (λ n. over (head ++ joined (kindBytes t) n) room) all
+    λ head room h k e. c.before.loop.invariant.3 head room h k e ∙ ap (λ n. over (head ++ joined (kind_bytes t) n) room) all
 
 pub encode-kinds-spec : {M : Type 1} → statement M
 encode-kinds-spec =

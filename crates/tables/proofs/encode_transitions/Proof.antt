@@ -3,20 +3,20 @@ use native.Mathlib.Omega.{arith}
 use mathlib.Core.Path.{◌≡◌, refl, sym, ap, ◌∙◌}
 use mathlib.Core.List.{List, ◌++◌}
 use lib.ListN.{length}
-use Rattle.model.specs.Limits.{kindLimit, transitionLimit}
+use Rattle.model.specs.Limits.{kind_limit, transition_limit}
 use Rattle.model.specs.Bytes.{joined}
 use Rattle.model.specs.Room.{over}
-use Rattle.model.specs.Table.{transitionBytes, tableLimit}
+use Rattle.model.specs.Table.{transition_bytes, table_limit}
 use Rattle.model.proofs.KindForm.{kind-most}
-use Rattle.frame.proofs.Written.{joined-none, joined-more}
+use Rattle.frame.proofs.Written.{joined_none, joined-more}
 use borrow.Author.Rules.{rules}
 use Rattle.tables.proofs.encode_transitions.Statement.{statement}
 use Rattle.tables.proofs.encode_transitions.Tie as tie
 
 abbrev invariant-loop : tie.invariant-loop
-invariant-loop t out₀ n at₀ i₀ out at i = (i ≤ n) × (n ≤ transitionLimit) × (at ≤ 104 + 39 * i) × (length out ≡ length out₀)
-    × ((head room : List ℕ) → length head ≡ at₀ → tableLimit ≤ length room → out₀ ≡ over head room
-    → (out ≡ over (head ++ joined (transitionBytes t) i) room) × (at ≡ length (head ++ joined (transitionBytes t) i)))
+invariant-loop t out₀ n at₀ i₀ out at i = (i ≤ n) × (n ≤ transition_limit) × (at ≤ 104 + 39 * i) × (length out ≡ length out₀)
+    × ((head room : List ℕ) → length head ≡ at₀ → table_limit ≤ length room → out₀ ≡ over head room
+    → (out ≡ over (head ++ joined (transition_bytes t) i) room) × (at ≡ length (head ++ joined (transition_bytes t) i)))
 
 abbrev decreases-loop : tie.decreases-loop
 decreases-loop t out₀ n at₀ i₀ out at i = n - i
@@ -34,10 +34,10 @@ loop-holds : tie.Need-loop-init invariant-loop decreases-loop
 loop-holds c = let t = c.before.before.before.args.t in (
   omega arith,
   omega arith,
-  omega (arith, c.kind_at.ensures, kind-most t.version t.kinds kindLimit c.before.before.before.requires.0),
+  omega (arith, c.kind_at.ensures, kind-most t.version t.kinds kind_limit c.before.before.before.requires.0),
   refl,
   λ head room h k e.
-      let none = joined-none head (transitionBytes t) in
+      let none = joined_none head (transition_bytes t) in
       (e ∙ ap (λ (l : List ℕ). over l room) (sym none), sym h ∙ ap length (sym none)),
 )
 
@@ -59,8 +59,8 @@ loop-again c = let t = c.before.before.before.before.before.before.before.before
       search rules,
       λ head room h k e.
           let q = l.invariant.4 head room h k e in
-          let p = c.before.before.put-transition.ensures.0 (head ++ joined (transitionBytes t) l.i) room (sym q.1) (omega arith) q.0 in
-          let more = joined-more head (transitionBytes t) l.i in
+          let p = c.before.before.put-transition.ensures.0 (head ++ joined (transition_bytes t) l.i) room (sym q.1) (omega arith) q.0 in
+          let more = joined-more head (transition_bytes t) l.i in
           (p.0 ∙ ap (λ (b : List ℕ). over b room) more, p.1 ∙ ap length more),
     )
 
@@ -72,7 +72,7 @@ returns c = let t = c.before.before.before.before.before.args.t in
     let all : c.before.loop.i ≡ t.transitions = omega arith in (
       λ head room h k e.
           let q = c.before.loop.invariant.4 head room (h ∙ sym c.before.before.kind_at.ensures) k e in
-          (q.0 ∙ ap (λ n. over (head ++ joined (transitionBytes t) n) room) all, q.1 ∙ ap (λ n. length (head ++ joined (transitionBytes t) n)) all),
+          (q.0 ∙ ap (λ n. over (head ++ joined (transition_bytes t) n) room) all, q.1 ∙ ap (λ n. length (head ++ joined (transition_bytes t) n)) all),
       omega arith,
     )
 

@@ -1,17 +1,17 @@
 use Prim.Native.Nat.{◌<◌, ◌≤◌, ◌-◌, ◌+◌, ◌*◌}
-use Rattle.model.specs.Limits.{guardLimit, transitionLimit}
-use Rattle.tables.proofs.Tables.{next-at, guard-inside, guard-turn}
+use Rattle.model.specs.Limits.{guard_limit, transition_limit}
+use Rattle.tables.proofs.Tables.{next_at, guard_inside, guard_turn}
 use native.Mathlib.Omega.{arith}
 use mathlib.Core.Path.{◌≡◌, sym, refl, ap, ◌∙◌}
 use lib.ListN.{length}
 use Rattle.model.specs.Bytes.{joined, padded}
-use Rattle.model.specs.Table.{transitionAt, transitionsAt, guardPlace}
+use Rattle.model.specs.Table.{transition_at, transitions_at, guard_place}
 use borrow.Author.Rules.{rules}
 use Rattle.tables.proofs.guard_places.Statement.{statement}
 use Rattle.tables.proofs.guard_places.Tie as tie
 
 abbrev invariant-loop : tie.invariant-loop
-invariant-loop b n guards₀ at₀ i₀ guards at i = (i ≤ n) × (n ≡ transitionsAt b) × (at ≤ 773 + 262 * i) × (at ≡ transitionAt b i) × (length guards ≡ 2048) × (guards ≡ padded (guardLimit * transitionLimit) (joined (guardPlace b) i))
+invariant-loop b n guards₀ at₀ i₀ guards at i = (i ≤ n) × (n ≡ transitions_at b) × (at ≤ 773 + 262 * i) × (at ≡ transition_at b i) × (length guards ≡ 2048) × (guards ≡ padded (guard_limit * transition_limit) (joined (guard_place b) i))
 
 abbrev decreases-loop : tie.decreases-loop
 decreases-loop b n guards₀ at₀ i₀ guards at i = n - i
@@ -55,7 +55,7 @@ part-place-start c = search rules
 
 part-place-end : tie.Need-slice-bounds-place-end invariant-loop decreases-loop
 part-place-end c = let l = c.before.before.loop in
-    omega (arith, (guard-inside c.before.before.before.before.before.before.args.b.now c.before.before.before.before.before.before.requires l.i l.at c.byte2.result (omega arith) l.invariant.3 c.byte2.ensures.0).1)
+    omega (arith, (guard_inside c.before.before.before.before.before.before.args.b.now c.before.before.before.before.before.before.requires l.i l.at c.byte2.result (omega arith) l.invariant.3 c.byte2.ensures.0).1)
 
 slice-aggregate-place : tie.Need-slice-aggregate-place invariant-loop decreases-loop
 slice-aggregate-place c = sym c.before.before.before.before.loop.invariant.4
@@ -75,18 +75,18 @@ loop-less c = search rules
 loop-again : tie.Need-loop-preserved invariant-loop decreases-loop
 loop-again c = let b = c.before.before.before.before.before.before.before.before.before.before.args.b.now in
     let l = c.before.before.before.before.before.before.loop in
-    let within : l.i < transitionsAt b = omega arith in (
+    let within : l.i < transitions_at b = omega arith in (
       omega arith,
       l.invariant.1,
       omega arith,
-      next-at b l.at l.i c.before.before.before.before.byte2.result l.invariant.3 c.before.before.before.before.byte2.ensures.0,
+      next_at b l.at l.i c.before.before.before.before.byte2.result l.invariant.3 c.before.before.before.before.byte2.ensures.0,
       c.before.place.auto.1.0 ∙ l.invariant.4,
-      c.before.place.ensures ∙ guard-turn b c.before.before.before.before.before.before.before.before.before.before.requires l.i l.at c.before.before.before.before.byte2.result within l.invariant.3 c.before.before.before.before.byte2.ensures.0 l.guards l.invariant.5,
+      c.before.place.ensures ∙ guard_turn b c.before.before.before.before.before.before.before.before.before.before.requires l.i l.at c.before.before.before.before.byte2.result within l.invariant.3 c.before.before.before.before.byte2.ensures.0 l.guards l.invariant.5,
     )
 
 returns : tie.Need-returns invariant-loop decreases-loop
-returns c = let all : c.before.loop.i ≡ transitionsAt c.before.before.before.before.before.args.b.now = omega arith in
-    c.before.loop.invariant.5 ∙ ap (λ n. padded (guardLimit * transitionLimit) (joined (guardPlace c.before.before.before.before.before.args.b.now) n)) all
+returns c = let all : c.before.loop.i ≡ transitions_at c.before.before.before.before.before.args.b.now = omega arith in
+    c.before.loop.invariant.5 ∙ ap (λ n. padded (guard_limit * transition_limit) (joined (guard_place c.before.before.before.before.before.args.b.now) n)) all
 
 pub guard-places-spec : {M : Type 1} → statement M
 guard-places-spec =

@@ -1,10 +1,10 @@
 use Prim.Native.Nat.{ℕ, ◌+◌, ◌*◌}
 use native.Mathlib.Omega.{arith}
 use mathlib.Core.Path.{◌≡◌, refl, ap, ◌∙◌}
-use Rattle.model.specs.Limits.{kindLimit}
+use Rattle.model.specs.Limits.{kind_limit}
 use Rattle.model.specs.Bytes.{byte_at, padded, tab}
-use Rattle.model.specs.Kinds.{versionAt, kindWidth, kindAt}
-use Rattle.columns.proofs.Columns.{filled-zeros}
+use Rattle.model.specs.Kinds.{version_at, kind_width, kind_at}
+use Rattle.columns.proofs.Columns.{filled_zeros}
 use Rattle.model.proofs.Places.{tab-same}
 use borrow.Author.Rules.{rules}
 use Rattle.tables.proofs.kind_column.Statement.{statement}
@@ -37,11 +37,11 @@ returns c =
     let b = a.b.now in
     let w = c.before.before.before.before.kind-width.result in
     let n = c.before.before.before.byte2.result in
-    let wide : w ≡ kindWidth (versionAt b) = c.before.before.before.before.kind-width.ensures ∙ ap kindWidth c.before.before.before.before.before.byte.ensures.0 in
+    let wide : w ≡ kind_width (version_at b) = c.before.before.before.before.kind-width.ensures ∙ ap kind_width c.before.before.before.before.before.byte.ensures.0 in
     let f : ℕ → ℕ = λ i. byte_at b (8 + a.field + w * i) in
-    let g : ℕ → ℕ = λ i. byte_at b (kindAt (versionAt b) i + a.field) in
-    let same : (i : ℕ) → 8 + a.field + w * i ≡ kindAt (versionAt b) i + a.field = λ i. omega (arith, ap (λ (k : ℕ). k * i) wide) in
-    c.before.bytes-column.ensures ∙ filled-zeros f n kindLimit _ (omega arith) refl ∙ ap (padded kindLimit) (tab-same f g n (λ i h. ap (byte_at b) (same i)) ∙ ap (tab g) c.before.before.before.byte2.ensures.0)
+    let g : ℕ → ℕ = λ i. byte_at b (kind_at (version_at b) i + a.field) in
+    let same : (i : ℕ) → 8 + a.field + w * i ≡ kind_at (version_at b) i + a.field = λ i. omega (arith, ap (λ (k : ℕ). k * i) wide) in
+    c.before.bytes-column.ensures ∙ filled_zeros f n kind_limit _ (omega arith) refl ∙ ap (padded kind_limit) (tab-same f g n (λ i h. ap (byte_at b) (same i)) ∙ ap (tab g) c.before.before.before.byte2.ensures.0)
 
 pub kind-column-spec : {M : Type 1} → statement M
 kind-column-spec =

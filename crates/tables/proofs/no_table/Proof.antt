@@ -1,10 +1,10 @@
 use mathlib.Core.Path.{refl}
-use Rattle.model.specs.Table.{noTable}
+use Rattle.model.specs.Table.{no_table}
 use Rattle.tables.proofs.no_table.Statement.{statement}
 use Rattle.tables.proofs.no_table.Tie as tie
 
 returns : tie.Need-returns
-unfolding noTable
+unfolding no_table
 returns c = refl
 
 pub no-table-spec : {M : Type 1} → statement M

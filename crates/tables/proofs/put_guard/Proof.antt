@@ -3,7 +3,7 @@ use native.Mathlib.Omega.{arith}
 use mathlib.Core.Path.{ap, ◌∙◌}
 use mathlib.Core.List.{List}
 use Rattle.wire.specs.Placed.{placed}
-use Rattle.tables.proofs.Encoded.{guard-part, guard-count}
+use Rattle.tables.proofs.Encoded.{guard_part, guard-count}
 use borrow.Author.Rules.{rules}
 use Rattle.tables.proofs.put_guard.Statement.{statement}
 use Rattle.tables.proofs.put_guard.Tie as tie
@@ -38,7 +38,7 @@ same_length c = search rules
 returns : tie.Need-returns
 returns c = let a = c.before.before.before.before.before.before.before.before.args in
     let w = c.before.before.before.before.before.smaller.result in (
-      c.before.before.place.ensures ∙ ap (λ (l : List ℕ). placed l a.at a.out.now) (guard-part a.guards.now a.j a.count w c.before.before.before.before.before.smaller.ensures),
+      c.before.before.place.ensures ∙ ap (λ (l : List ℕ). placed l a.at a.out.now) (guard_part a.guards.now a.j a.count w c.before.before.before.before.before.smaller.ensures),
       guard-count a.guards.now a.j a.count w c.before.before.before.before.before.smaller.ensures c.before.before.before.before.before.before.before.before.requires.0 c.before.before.before.before.before.before.before.before.requires.1,
       omega arith,
     )

@@ -4,8 +4,8 @@ use mathlib.Core.Path.{refl, ap, ◌∙◌}
 use mathlib.Core.List.{List}
 use lib.ListN.{get_or}
 use Rattle.wire.specs.Placed.{placed}
-use Rattle.model.specs.Table.{fieldBytes, guardBytesIn}
-use Rattle.tables.proofs.Encoded.{two-long, two-placed}
+use Rattle.model.specs.Table.{field_bytes, guard_bytes_in}
+use Rattle.tables.proofs.Encoded.{two_long, two_placed}
 use borrow.Author.Rules.{rules}
 use Rattle.tables.proofs.put_transition.Statement.{statement}
 use Rattle.tables.proofs.put_transition.Tie as tie
@@ -39,13 +39,13 @@ same_length c = search rules
 
 returns : tie.Need-returns
 returns c = let a = c.before.before.before.before.before.before.before.before.before.before.before.before.before.before.before.args in
-    let x = fieldBytes a.t1 a.j in
-    let y = guardBytesIn a.t1.guards (get_or a.t1.lengths a.j 0) a.j in (
+    let x = field_bytes a.t1 a.j in
+    let y = guard_bytes_in a.t1.guards (get_or a.t1.lengths a.j 0) a.j in (
       λ head room h k e. (
-        two-placed head room x y a.at h refl (omega (arith, c.before.before.put-guard.ensures.2)) _ _ _ e
+        two_placed head room x y a.at h refl (omega (arith, c.before.before.put-guard.ensures.2)) _ _ _ e
             (c.before.before.before.before.before.before.before.before.before.before.place.ensures ∙ ap (λ (l : List ℕ). placed l a.at a.out.now) c.before.before.before.before.before.before.before.before.before.before.before.before.before.field-bytes.ensures)
             c.before.before.put-guard.ensures.0,
-        two-long head room x y a.at h refl c.before.before.put-guard.result c.before.before.put-guard.ensures.1,
+        two_long head room x y a.at h refl c.before.before.put-guard.result c.before.before.put-guard.ensures.1,
       ),
       omega (arith, c.before.before.put-guard.ensures.2),
     )

@@ -1,7 +1,7 @@
 use mathlib.Core.Path.{sym, ◌∙◌}
-use Rattle.model.proofs.AnswerLaws.{table-reads}
+use Rattle.model.proofs.AnswerLaws.{table_reads}
 use Rattle.frame.proofs.Answers.{turn-stops, turn-goes, sound-is}
-use Rattle.tables.proofs.Tables.{scan-bounds, read_all, read-scan, whole_of, read-refused, read-sound}
+use Rattle.tables.proofs.Tables.{scan_bounds, read_all, read_scan, whole_of, read_refused, read_sound}
 use borrow.Author.Tests.{not-true, not-false}
 use borrow.Author.Rules.{rules}
 use Rattle.tables.proofs.read_table.Statement.{statement}
@@ -24,14 +24,14 @@ no-table-requires c κs = search rules
 
 returns : tie.Need-returns
 returns c = let b = c.before.before.before.before.before.before.before.args.b.now in
-    let is = turn-stops _ _ _ _ _ (read_all b) (read-scan b c.before.before.before.before.before.device-column.result c.before.before.before.before.before.device-column.ensures _ c.before.before.before.scan-with.ensures) c.before.before.sound.ensures c.before.if1.true in
-    table-reads _ _ (read-refused b _ _ is (sym c.before.before.sound.ensures ∙ not-true c.before.before.sound.result c.before.if1.true) c.no_table.ensures)
+    let is = turn-stops _ _ _ _ _ (read_all b) (read_scan b c.before.before.before.before.before.device-column.result c.before.before.before.before.before.device-column.ensures _ c.before.before.before.scan-with.ensures) c.before.before.sound.ensures c.before.if1.true in
+    table_reads _ _ (read_refused b _ _ is (sym c.before.before.sound.ensures ∙ not-true c.before.before.sound.result c.before.if1.true) c.no_table.ensures)
 
 table-parts-requires : tie.Need-table-parts-requires
 table-parts-requires c κs =
     let b = c.before.before.before.before.before.before.args.b.now in
-    let scan = sym (read-scan b c.before.before.before.before.device-column.result c.before.before.before.before.device-column.ensures _ c.before.before.scan-with.ensures) ∙ sound-is _ (sym c.before.sound.ensures ∙ not-false c.before.sound.result c.if1.false) in
-    (scan, c.before.before.before.before.device-column.ensures (scan-bounds b scan).0)
+    let scan = sym (read_scan b c.before.before.before.before.device-column.result c.before.before.before.before.device-column.ensures _ c.before.before.scan-with.ensures) ∙ sound-is _ (sym c.before.sound.ensures ∙ not-false c.before.sound.result c.if1.false) in
+    (scan, c.before.before.before.before.device-column.ensures (scan_bounds b scan).0)
 
 whole-answer-requires : tie.Need-whole-answer-requires
 whole-answer-requires c κs = search rules
@@ -44,15 +44,15 @@ no-table-requires-2 c κs = search rules
 
 returns-2 : tie.Need-returns-2
 returns-2 c = let b = c.before.before.before.before.before.before.before.before.before.before.before.args.b.now in
-    let all = turn-goes _ _ _ _ _ (read_all b) (read-scan b c.before.before.before.before.before.before.before.before.before.device-column.result c.before.before.before.before.before.before.before.before.before.device-column.ensures _ c.before.before.before.before.before.before.before.scan-with.ensures) c.before.before.before.before.before.before.sound.ensures c.before.before.before.before.before.if1.false in
+    let all = turn-goes _ _ _ _ _ (read_all b) (read_scan b c.before.before.before.before.before.before.before.before.before.device-column.result c.before.before.before.before.before.before.before.before.before.device-column.ensures _ c.before.before.before.before.before.before.before.scan-with.ensures) c.before.before.before.before.before.before.sound.ensures c.before.before.before.before.before.if1.false in
     let is = whole_of b _ _ all c.before.before.before.before.table-parts.ensures c.before.before.before.whole-answer.ensures in
-    table-reads _ _ (read-refused b _ _ is (sym c.before.before.sound2.ensures ∙ not-true c.before.before.sound2.result c.before.if2.true) c.no-table2.ensures)
+    table_reads _ _ (read_refused b _ _ is (sym c.before.before.sound2.ensures ∙ not-true c.before.before.sound2.result c.before.if2.true) c.no-table2.ensures)
 
 returns-3 : tie.Need-returns-3
 returns-3 c = let b = c.before.before.before.before.before.before.before.before.before.before.args.b.now in
-    let all = turn-goes _ _ _ _ _ (read_all b) (read-scan b c.before.before.before.before.before.before.before.before.device-column.result c.before.before.before.before.before.before.before.before.device-column.ensures _ c.before.before.before.before.before.before.scan-with.ensures) c.before.before.before.before.before.sound.ensures c.before.before.before.before.if1.false in
+    let all = turn-goes _ _ _ _ _ (read_all b) (read_scan b c.before.before.before.before.before.before.before.before.device-column.result c.before.before.before.before.before.before.before.before.device-column.ensures _ c.before.before.before.before.before.before.scan-with.ensures) c.before.before.before.before.before.sound.ensures c.before.before.before.before.if1.false in
     let is = whole_of b _ _ all c.before.before.before.table-parts.ensures c.before.before.whole-answer.ensures in
-    table-reads _ _ (read-sound b _ _ is (sound-is _ (sym c.before.sound2.ensures ∙ not-false c.before.sound2.result c.if2.false)) c.before.before.before.table-parts.ensures)
+    table_reads _ _ (read_sound b _ _ is (sound-is _ (sym c.before.sound2.ensures ∙ not-false c.before.sound2.result c.if2.false)) c.before.before.before.table-parts.ensures)
 
 pub read-table-spec : {M : Type 1} → statement M
 read-table-spec =

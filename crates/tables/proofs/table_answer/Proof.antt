@@ -1,5 +1,5 @@
 use mathlib.Core.Path.{ap}
-use Rattle.model.specs.Table.{readTable}
+use Rattle.model.specs.Table.{read_table}
 use borrow.Author.Rules.{rules}
 use Rattle.tables.proofs.table_answer.Statement.{statement}
 use Rattle.tables.proofs.table_answer.Tie as tie
@@ -8,7 +8,7 @@ read-table-requires : tie.Need-read-table-requires
 read-table-requires c κs = search rules
 
 returns : tie.Need-returns
-unfolding readTable
+unfolding read_table
 returns c = (ap (λ r. r.answer) c.read_table.ensures.0, (c.read_table.ensures.1.1, c.read_table.ensures.1.2))
 
 pub table-answer-spec : {M : Type 1} → statement M

@@ -1,36 +1,36 @@
 use native.Mathlib.Omega.{arith}
 use Rattle.model.specs.Table.{table_parts}
-use Rattle.tables.proofs.Tables.{scan-bounds}
+use Rattle.tables.proofs.Tables.{scan_bounds}
 use borrow.Author.Rules.{rules}
 use Rattle.tables.proofs.table_parts.Statement.{statement}
 use Rattle.tables.proofs.table_parts.Tie as tie
 
 kind-column-requires : tie.Need-kind-column-requires
-kind-column-requires c κs = ((scan-bounds _ c.before.requires.0).0, omega arith)
+kind-column-requires c κs = ((scan_bounds _ c.before.requires.0).0, omega arith)
 
 kind-column-requires-2 : tie.Need-kind-column-requires-2
-kind-column-requires-2 c κs = ((scan-bounds _ c.before.before.requires.0).0, omega arith)
+kind-column-requires-2 c κs = ((scan_bounds _ c.before.before.requires.0).0, omega arith)
 
 transition-column-requires : tie.Need-transition-column-requires
-transition-column-requires c κs = ((scan-bounds _ c.before.before.before.requires.0).1, omega arith)
+transition-column-requires c κs = ((scan_bounds _ c.before.before.before.requires.0).1, omega arith)
 
 transition-column-requires-2 : tie.Need-transition-column-requires-2
-transition-column-requires-2 c κs = ((scan-bounds _ c.before.before.before.before.requires.0).1, omega arith)
+transition-column-requires-2 c κs = ((scan_bounds _ c.before.before.before.before.requires.0).1, omega arith)
 
 transition-column-requires-3 : tie.Need-transition-column-requires-3
-transition-column-requires-3 c κs = ((scan-bounds _ c.before.before.before.before.before.requires.0).1, omega arith)
+transition-column-requires-3 c κs = ((scan_bounds _ c.before.before.before.before.before.requires.0).1, omega arith)
 
 transition-column-requires-4 : tie.Need-transition-column-requires-4
-transition-column-requires-4 c κs = ((scan-bounds _ c.before.before.before.before.before.before.requires.0).1, omega arith)
+transition-column-requires-4 c κs = ((scan_bounds _ c.before.before.before.before.before.before.requires.0).1, omega arith)
 
 transition-column-requires-5 : tie.Need-transition-column-requires-5
-transition-column-requires-5 c κs = ((scan-bounds _ c.before.before.before.before.before.before.before.requires.0).1, omega arith)
+transition-column-requires-5 c κs = ((scan_bounds _ c.before.before.before.before.before.before.before.requires.0).1, omega arith)
 
 transition-column-requires-6 : tie.Need-transition-column-requires-6
-transition-column-requires-6 c κs = ((scan-bounds _ c.before.before.before.before.before.before.before.before.requires.0).1, omega arith)
+transition-column-requires-6 c κs = ((scan_bounds _ c.before.before.before.before.before.before.before.before.requires.0).1, omega arith)
 
 transition-column-requires-7 : tie.Need-transition-column-requires-7
-transition-column-requires-7 c κs = ((scan-bounds _ c.before.before.before.before.before.before.before.before.before.requires.0).1, omega arith)
+transition-column-requires-7 c κs = ((scan_bounds _ c.before.before.before.before.before.before.before.before.before.requires.0).1, omega arith)
 
 guard-places-requires : tie.Need-guard-places-requires
 guard-places-requires c κs = c.before.before.before.before.before.before.before.before.before.before.requires.0

@@ -1,19 +1,19 @@
-use Rattle.model.specs.Limits.{transitionLimit}
-use Rattle.columns.proofs.Columns.{column-padded, column-more}
-use Rattle.tables.proofs.Tables.{next-at}
+use Rattle.model.specs.Limits.{transition_limit}
+use Rattle.columns.proofs.Columns.{column_padded, column_more}
+use Rattle.tables.proofs.Tables.{next_at}
 use Rattle.model.specs.Bytes.{padded, byte_at, tab}
 use Prim.Native.Nat.{ℕ, ◌≤◌, ◌-◌, ◌+◌, ◌*◌}
 use native.Mathlib.Omega.{arith}
 use mathlib.Core.Path.{◌≡◌, refl, ap, ◌∙◌}
 use mathlib.Core.List.{List, ◌++◌}
 use lib.ListN.{drop, set}
-use Rattle.model.specs.Table.{transitionAt}
+use Rattle.model.specs.Table.{transition_at}
 use borrow.Author.Rules.{rules}
 use Rattle.tables.proofs.transition_column.Statement.{statement}
 use Rattle.tables.proofs.transition_column.Tie as tie
 
 abbrev invariant-loop : tie.invariant-loop
-invariant-loop b field n column₀ at₀ i₀ column at i = (i ≤ n) × (n ≤ transitionLimit) × (at ≤ 773 + 262 * i) × (at ≡ transitionAt b i) × (column ≡ tab (λ j. byte_at b (transitionAt b j + field)) i ++ drop i column₀)
+invariant-loop b field n column₀ at₀ i₀ column at i = (i ≤ n) × (n ≤ transition_limit) × (at ≤ 773 + 262 * i) × (at ≡ transition_at b i) × (column ≡ tab (λ j. byte_at b (transition_at b j + field)) i ++ drop i column₀)
 
 abbrev decreases-loop : tie.decreases-loop
 decreases-loop b field n column₀ at₀ i₀ column at i = n - i
@@ -71,16 +71,16 @@ loop-again c = let a = c.before.before.before.before.before.before.before.args i
       omega arith,
       omega arith,
       omega arith,
-      next-at b l.at l.i c.byte3.result l.invariant.3 c.byte3.ensures.0,
+      next_at b l.at l.i c.byte3.result l.invariant.3 c.byte3.ensures.0,
       ap (λ (k : List ℕ). set k l.i c.before.byte2.result) l.invariant.4
-          ∙ rw (c.before.byte2.ensures.0, l.invariant.3) (column-more (λ j. byte_at b (transitionAt b j + a.field)) _ l.i (omega arith)),
+          ∙ rw (c.before.byte2.ensures.0, l.invariant.3) (column_more (λ j. byte_at b (transition_at b j + a.field)) _ l.i (omega arith)),
     )
 
 returns : tie.Need-returns invariant-loop decreases-loop
 returns c = let a = c.before.before.before.before.before.args in
-    let f : ℕ → ℕ = λ j. byte_at a.b.now (transitionAt a.b.now j + a.field) in
+    let f : ℕ → ℕ = λ j. byte_at a.b.now (transition_at a.b.now j + a.field) in
     let all : c.before.loop.i ≡ c.before.before.before.byte.result = omega arith in
-    c.before.loop.invariant.4 ∙ column-padded f c.before.loop.i transitionLimit ∙ ap (λ n. padded transitionLimit (tab f n)) (all ∙ c.before.before.before.byte.ensures.0)
+    c.before.loop.invariant.4 ∙ column_padded f c.before.loop.i transition_limit ∙ ap (λ n. padded transition_limit (tab f n)) (all ∙ c.before.before.before.byte.ensures.0)
 
 pub transition-column-spec : {M : Type 1} → statement M
 transition-column-spec =

@@ -2,9 +2,9 @@ use Prim.Native.Nat.{◌-◌}
 use native.Mathlib.Omega.{arith}
 use mathlib.Core.Path.{◌≡◌, refl, sym, ap, ◌∙◌}
 use lib.ListN.{replicate, length-map}
-use Rattle.model.specs.First.{isSound}
-use Rattle.model.specs.Table.{tableBytes, tableLimit}
-use Rattle.model.proofs.AnswerLaws.{table-writes}
+use Rattle.model.specs.First.{is_sound}
+use Rattle.model.specs.Table.{table_bytes, table_limit}
+use Rattle.model.proofs.AnswerLaws.{table_writes}
 use Rattle.tables.proofs.Encoded.{write-version, write-early, write-late, counts-within}
 use Rattle.frame.proofs.Written.{taken}
 use borrow.Author.Tests.{not-true, not-false}
@@ -18,7 +18,7 @@ is-version-requires c κs = search rules
 returns : tie.Need-returns
 returns c =
     let a = c.before.before.before.args in
-    table-writes a.t (sym (length-map c.before.before.before.args.t.guards (λ x. x)) ∙ c.before.before.before.well-formed.0.1.1.1.1.1.1.1.1.1.1.1.1.1.1.1.1.1.1.0.1.0.1) a.room.now _ _
+    table_writes a.t (sym (length-map c.before.before.before.args.t.guards (λ x. x)) ∙ c.before.before.before.well-formed.0.1.1.1.1.1.1.1.1.1.1.1.1.1.1.1.1.1.1.0.1.0.1) a.room.now _ _
     (write-version a.t a.room.now (omega arith) (omega arith) (sym c.before.is-version.ensures ∙ not-true c.before.is-version.result c.if1.true))
 
 counts-answer-requires : tie.Need-counts-answer-requires
@@ -30,7 +30,7 @@ enum-known-counts c = search rules
 returns-2 : tie.Need-returns-2
 returns-2 c = let a = c.before.before.before.before.before.before.before.args in
     let known = sym c.before.before.before.before.before.is-version.ensures ∙ not-false c.before.before.before.before.before.is-version.result c.before.before.before.before.if1.false in
-    table-writes a.t (sym (length-map c.before.before.before.before.before.before.before.args.t.guards (λ x. x)) ∙ c.before.before.before.before.before.before.before.well-formed.0.1.1.1.1.1.1.1.1.1.1.1.1.1.1.1.1.1.1.0.1.0.1) a.room.now _ _ (write-early a.t known _ c.before.before.before.counts-answer.ensures a.room.now (omega arith) (omega arith) _ c.before.counts.given.1)
+    table_writes a.t (sym (length-map c.before.before.before.before.before.before.before.args.t.guards (λ x. x)) ∙ c.before.before.before.before.before.before.before.well-formed.0.1.1.1.1.1.1.1.1.1.1.1.1.1.1.1.1.1.1.0.1.0.1) a.room.now _ _ (write-early a.t known _ c.before.before.before.counts-answer.ensures a.room.now (omega arith) (omega arith) _ c.before.counts.given.1)
 
 enum_told : tie.Need-enum-told
 enum_told c = search rules
@@ -40,7 +40,7 @@ slice-aggregate-encode c = search rules
 
 encode-requires : tie.Need-encode-requires
 encode-requires c κs = let known = sym c.before.before.before.before.before.is-version.ensures ∙ not-false c.before.before.before.before.before.is-version.result c.before.before.before.before.if1.false in
-    let few = counts-within c.before.before.before.before.before.before.before.args.t known _ c.before.before.before.counts-answer.ensures (ap isSound c.before.enum_told.given.1) in
+    let few = counts-within c.before.before.before.before.before.before.before.args.t known _ c.before.before.before.counts-answer.ensures (ap is_sound c.before.enum_told.given.1) in
     (few.0, few.1, refl)
 
 sub-encoded : tie.Need-overflow-sub-encoded
@@ -56,7 +56,7 @@ writable-requires : tie.Need-writable-requires
 writable-requires c κs =
     let n = c.before.before.before.encode.result in
     let same : n - 0 ≡ n = omega arith in
-    taken (tableBytes c.before.before.before.before.before.before.before.before.before.before.before.args.t) (replicate tableLimit 0) _ (n - 0) c.before.before.before.encode.ensures.0 (sym c.before.before.before.encode.ensures.1 ∙ sym same)
+    taken (table_bytes c.before.before.before.before.before.before.before.before.before.before.before.args.t) (replicate table_limit 0) _ (n - 0) c.before.before.before.encode.ensures.0 (sym c.before.before.before.encode.ensures.1 ∙ sym same)
 
 put-requires : tie.Need-put-requires
 put-requires c κs = search rules
@@ -68,8 +68,8 @@ returns-3 : tie.Need-returns-3
 returns-3 c = let a = c.before.before.before.before.before.before.before.before.before.before.before.before.before.before.before.before.args in
     let n = c.before.before.before.before.before.before.before.before.encode.result in
     let same : n - 0 ≡ n = omega arith in
-    let bytes = taken (tableBytes a.t) (replicate tableLimit 0) _ (n - 0) c.before.before.before.before.before.before.before.before.encode.ensures.0 (sym c.before.before.before.before.before.before.before.before.encode.ensures.1 ∙ sym same) in
-    table-writes a.t (sym (length-map c.before.before.before.before.before.before.before.before.before.before.before.before.before.before.before.before.args.t.guards (λ x. x)) ∙ c.before.before.before.before.before.before.before.before.before.before.before.before.before.before.before.before.well-formed.0.1.1.1.1.1.1.1.1.1.1.1.1.1.1.1.1.1.1.0.1.0.1) a.room.now _ _ (write-late a.t a.room.now _ _ bytes c.before.before.before.before.writable.ensures _ _ c.before.before.put.ensures)
+    let bytes = taken (table_bytes a.t) (replicate table_limit 0) _ (n - 0) c.before.before.before.before.before.before.before.before.encode.ensures.0 (sym c.before.before.before.before.before.before.before.before.encode.ensures.1 ∙ sym same) in
+    table_writes a.t (sym (length-map c.before.before.before.before.before.before.before.before.before.before.before.before.before.before.before.before.args.t.guards (λ x. x)) ∙ c.before.before.before.before.before.before.before.before.before.before.before.before.before.before.before.before.well-formed.0.1.1.1.1.1.1.1.1.1.1.1.1.1.1.1.1.1.1.0.1.0.1) a.room.now _ _ (write-late a.t a.room.now _ _ bytes c.before.before.before.before.writable.ensures _ _ c.before.before.put.ensures)
 
 pub write-table-spec : {M : Type 1} → statement M
 write-table-spec =

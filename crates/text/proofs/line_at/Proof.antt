@@ -21,8 +21,8 @@ same_length c = search rules
 returns : tie.Need-returns
 returns c =
     let a = c.before.before.before.before.before.before.before.args in
-    subst (λ (r : Row). Wrote (row_line r) a.at a.text.now c.before.before.row_Line.new.1.0 c.before.before.row_Line.result)
-    c.before.before.before.before.row_at.ensures c.before.before.row_Line.ensures
+    subst (λ (r : Row). Wrote (row_line r) a.at a.text.now c.before.before.row_line.new.1.0 c.before.before.row_line.result)
+    c.before.before.before.before.row_at.ensures c.before.before.row_line.ensures
 
 pub line-at-spec : {M : Type 1} → statement M
 line-at-spec = tie.close (tie.spec cast-row-at row-at-requires row-line-requires same_length returns)

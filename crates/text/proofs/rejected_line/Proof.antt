@@ -1,6 +1,6 @@
 use native.Mathlib.Omega.{arith}
 use borrow.Author.Rules.{rules}
-use Rattle.model.specs.Desk.{rejectedWord}
+use Rattle.model.specs.Desk.{rejected_word}
 use Rattle.text.proofs.Digits.{spaced-length, numbers-length}
 use Rattle.text.proofs.Stores.{wrote-more}
 use Rattle.text.proofs.rejected_line.Statement.{statement}
@@ -13,15 +13,15 @@ numbers-requires : tie.Need-numbers-requires
 numbers-requires c κs = search rules
 
 number-requires : tie.Need-number-requires
-number-requires c κs = let a = c.before.before.before.before.before.before.before.args in omega (arith, numbers-length rejectedWord a.cost a.instant)
+number-requires c κs = let a = c.before.before.before.before.before.before.before.args in omega (arith, numbers-length rejected_word a.cost a.instant)
 
 number-requires-2 : tie.Need-number-requires-2
-number-requires-2 c κs = let a = c.before.before.before.before.before.before.before.before.before.before.before.args in omega (arith, numbers-length rejectedWord a.cost a.instant, spaced-length a.early)
+number-requires-2 c κs = let a = c.before.before.before.before.before.before.before.before.before.before.before.args in omega (arith, numbers-length rejected_word a.cost a.instant, spaced-length a.early)
 
 emit-requires : tie.Need-emit-requires
 emit-requires c κs =
     let a = c.before.before.before.before.before.before.before.before.before.before.before.before.before.before.before.args in
-    omega (arith, numbers-length rejectedWord a.cost a.instant, spaced-length a.early, spaced-length a.late)
+    omega (arith, numbers-length rejected_word a.cost a.instant, spaced-length a.early, spaced-length a.late)
 
 same_length : tie.Need-same-length
 same_length c = search rules

@@ -1,6 +1,6 @@
 use native.Mathlib.Omega.{arith}
 use borrow.Author.Rules.{rules}
-use Rattle.model.specs.Desk.{markWord}
+use Rattle.model.specs.Desk.{mark_word}
 use Rattle.text.proofs.Digits.{spaced-length, numbers-length}
 use Rattle.text.proofs.Rows.{mark-length}
 use Rattle.text.proofs.Stores.{wrote-more}
@@ -22,12 +22,12 @@ cast-number c = search rules
 number-requires : tie.Need-number-requires
 number-requires c κs =
     let e = c.before.before.before.before.before.before.before.before.before.args.e in
-    omega (arith, numbers-length (markWord e.mark) e.time e.kind, mark-length e.mark)
+    omega (arith, numbers-length (mark_word e.mark) e.time e.kind, mark-length e.mark)
 
 emit-requires : tie.Need-emit-requires
 emit-requires c κs =
     let e = c.before.before.before.before.before.before.before.before.before.before.before.before.before.args.e in
-    omega (arith, numbers-length (markWord e.mark) e.time e.kind, mark-length e.mark, spaced-length e.transition)
+    omega (arith, numbers-length (mark_word e.mark) e.time e.kind, mark-length e.mark, spaced-length e.transition)
 
 same_length : tie.Need-same-length
 same_length c = search rules

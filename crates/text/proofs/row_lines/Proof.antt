@@ -5,18 +5,18 @@ use mathlib.Core.Path.{◌≡◌, refl, subst}
 use lib.ListN.{length}
 use borrow.Author.Rules.{rules}
 use Rattle.model.specs.Bytes.{tab}
-use Rattle.model.specs.Witness.{rowAt}
+use Rattle.model.specs.Witness.{row_at}
 use Rattle.model.specs.declared.Edition.TheVariants.{One}
 use Rattle.model.specs.Desk.{row_lines}
 use Rattle.text.specs.Put.{Wrote}
 use Rattle.text.proofs.Stores.{wrote_none, wrote-more}
-use Rattle.text.proofs.Rows.{lines-tab, row-length}
+use Rattle.text.proofs.Rows.{lines_tab, row-length}
 use Rattle.text.proofs.row_lines.Statement.{statement}
 use Rattle.text.proofs.row_lines.Tie as tie
 
 abbrev invariant-loop : tie.invariant-loop
 invariant-loop witness rows text₀ at next₀ i₀ text next i =
-    (i ≤ rows) × Wrote (row_lines (tab (rowAt One witness) i)) at text₀ text next × (length text ≡ length text₀) × (next ≤ at + 71 * i)
+    (i ≤ rows) × Wrote (row_lines (tab (row_at One witness) i)) at text₀ text next × (length text ≡ length text₀) × (next ≤ at + 71 * i)
 
 abbrev decreases-loop : tie.decreases-loop
 decreases-loop witness rows text₀ at next₀ i₀ text next i = rows - i
@@ -40,9 +40,9 @@ loop-again : tie.Need-loop-preserved invariant-loop decreases-loop
 loop-again c =
     let a = c.before.before.before.before.before.before.before.before.args in
     let i = c.before.before.before.before.before.loop.i in
-    let f = rowAt One a.witness.now in (
+    let f = row_at One a.witness.now in (
       omega arith,
-      rw (add-one, lines-tab f i) (wrote-more c.before.before.before.before.before.loop.invariant.1 c.before.before.line_at_lem.ensures),
+      rw (add-one, lines_tab f i) (wrote-more c.before.before.before.before.before.loop.invariant.1 c.before.before.line_at_lem.ensures),
       search rules,
       omega (arith, row-length (f i)),
     )
@@ -54,7 +54,7 @@ returns : tie.Need-returns invariant-loop decreases-loop
 returns c =
     let a = c.before.before.before.before.args in
     let e : c.before.loop.i ≡ a.rows = omega arith in
-    subst (λ (n : ℕ). Wrote (row_lines (tab (rowAt One a.witness.now) n)) a.at a.text.now c.before.loop.text c.before.loop.next) e
+    subst (λ (n : ℕ). Wrote (row_lines (tab (row_at One a.witness.now) n)) a.at a.text.now c.before.loop.text c.before.loop.next) e
     c.before.loop.invariant.1
 
 pub row-lines-spec : {M : Type 1} → statement M

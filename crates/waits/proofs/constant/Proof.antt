@@ -1,17 +1,17 @@
 use mathlib.Core.Path.{sym}
-use Rattle.waits.proofs.WaitLaws.{none-word, all-word}
+use Rattle.waits.proofs.WaitLaws.{none_word, all_word}
 use Rattle.waits.proofs.constant.Statement.{statement}
 use Rattle.waits.proofs.constant.Tie as tie
 
 returns : tie.Need-returns
 returns c =
     let all = c.if1.true in
-    rw all (λ i. record { first = sym (all-word 0) i; second = sym (all-word 64) i; third = sym (all-word 128) i; fourth = sym (all-word 192) i })
+    rw all (λ i. record { first = sym (all_word 0) i; second = sym (all_word 64) i; third = sym (all_word 128) i; fourth = sym (all_word 192) i })
 
 returns-2 : tie.Need-returns-2
 returns-2 c =
     let none = c.if1.false in
-    rw none (λ i. record { first = sym (none-word 0) i; second = sym (none-word 64) i; third = sym (none-word 128) i; fourth = sym (none-word 192) i })
+    rw none (λ i. record { first = sym (none_word 0) i; second = sym (none_word 64) i; third = sym (none_word 128) i; fourth = sym (none_word 192) i })
 
 pub constant-spec : {M : Type 1} → statement M
 constant-spec = tie.close (tie.spec returns returns-2)

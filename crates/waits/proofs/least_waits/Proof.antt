@@ -1,6 +1,6 @@
 use mathlib.Core.Path.{ap, ◌∙◌}
 use Rattle.waits.specs.Waits.{others}
-use Rattle.waits.proofs.WaitLaws.{every-least, least-most}
+use Rattle.waits.proofs.WaitLaws.{every_least, least_most}
 use borrow.Author.Rules.{rules}
 use Rattle.waits.proofs.least_waits.Statement.{statement}
 use Rattle.waits.proofs.least_waits.Tie as tie
@@ -9,7 +9,7 @@ constant-requires : tie.Need-constant-requires
 constant-requires c κs = search rules
 
 returns : tie.Need-returns
-returns c = c.constant.ensures ∙ every-least c.before.before.before.args.c.now c.before.before.before.args.n c.before.before.before.args.t c.before.if1.true
+returns c = c.constant.ensures ∙ every_least c.before.before.before.args.c.now c.before.before.before.args.n c.before.before.before.args.t c.before.if1.true
 
 sub-most-waits : tie.Need-overflow-sub-most-waits
 sub-most-waits c = search rules
@@ -22,7 +22,7 @@ complement-requires c κs = search rules
 
 returns-2 : tie.Need-returns-2
 returns-2 c =
-    c.complement.ensures ∙ ap others c.before.most-waits.ensures ∙ least-most c.before.before.before.before.args.c.now c.before.before.before.before.args.n c.before.before.before.before.args.t c.before.before.if1.false
+    c.complement.ensures ∙ ap others c.before.most-waits.ensures ∙ least_most c.before.before.before.before.args.c.now c.before.before.before.before.args.n c.before.before.before.before.args.t c.before.before.if1.false
 
 pub least-waits-spec : {M : Type 1} → statement M
 least-waits-spec =

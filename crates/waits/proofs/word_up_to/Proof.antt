@@ -2,19 +2,19 @@ use Prim.Native.Nat.{◌-◌, ◌*◌, ◌%◌, ◌^◌}
 use native.Mathlib.Omega.{arith}
 use mathlib.Core.Path.{◌≡◌, sym}
 use lib.Pow.{pow_pos, shl_exact}
-use Rattle.waits.proofs.WaitLaws.{up-to-none, up-to-all, up-to-some}
+use Rattle.waits.proofs.WaitLaws.{up_to_none, up_to_all, up_to_some}
 use borrow.Author.Rules.{rules}
 use Rattle.waits.proofs.word_up_to.Statement.{statement}
 use Rattle.waits.proofs.word_up_to.Tie as tie
 
 returns : tie.Need-returns
-returns c = sym (up-to-none c.before.args.last c.before.args.from c.if1.true)
+returns c = sym (up_to_none c.before.args.last c.before.args.from c.if1.true)
 
 sub-if2 : tie.Need-overflow-sub-if2
 sub-if2 c = search rules
 
 returns-2 : tie.Need-returns-2
-returns-2 c = sym (up-to-all c.before.before.args.last c.before.before.args.from (omega arith))
+returns-2 c = sym (up_to_all c.before.before.args.last c.before.before.args.from (omega arith))
 
 sub-result : tie.Need-overflow-sub-result
 sub-result c = search rules
@@ -35,7 +35,7 @@ returns-3 : tie.Need-returns-3
 returns-3 c =
     let e = c.before.before.args.last - c.before.before.args.from in
     let one : 1 * 2 ^ e % 2 ^ 64 ≡ 1 * 2 ^ e = shl_exact 1 e 64 (omega arith) (omega arith) in
-    omega (arith, up-to-some c.before.before.args.last c.before.before.args.from e (omega arith) (omega arith))
+    omega (arith, up_to_some c.before.before.args.last c.before.before.args.from e (omega arith) (omega arith))
 
 pub word-up-to-spec : {M : Type 1} → statement M
 word-up-to-spec = tie.close (tie.spec returns sub-if2 returns-2 sub-result cast-result shl-result sub-result-2 returns-3)

@@ -1,7 +1,7 @@
 use lib.ListN.{set, get_or, length, take, drop}
 use Prim.Native.Nat.{suc, ℕ, ◌≤◌, ◌+◌, ◌-◌}
 use mathlib.Core.List.{List, ◌++◌}
-use Rattle.wire.proofs.Room.{placed-fits, placed-not}
+use Rattle.wire.proofs.Room.{placed-fits, placed_not}
 use mathlib.Core.Path.{◌≡◌, sym, ap, ◌∙◌}
 use native.Mathlib.Omega.{arith}
 use native.Mathlib.Numerals.{add-one}
@@ -24,13 +24,13 @@ abbrev decreases-loop : tie.decreases-loop
 decreases-loop bytes room₀ at count i₀ room i = length bytes - i
 
 returns : tie.Need-returns invariant-loop decreases-loop
-returns c = sym (placed-not _ _ _ (omega arith))
+returns c = sym (placed_not _ _ _ (omega arith))
 
 sub-if2 : tie.Need-overflow-sub-if2 invariant-loop decreases-loop
 sub-if2 c = search rules
 
 returns-2 : tie.Need-returns-2 invariant-loop decreases-loop
-returns-2 c = sym (placed-not _ _ _ (omega arith))
+returns-2 c = sym (placed_not _ _ _ (omega arith))
 
 loop-holds : tie.Need-loop-init invariant-loop decreases-loop
 loop-holds c = let a = c.before.before.args in (omega arith, paste-zero a.room.now a.at a.bytes.now, search rules, omega arith)

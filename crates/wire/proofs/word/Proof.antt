@@ -1,6 +1,6 @@
 use native.Mathlib.Omega.{arith}
 use borrow.Author.Rules.{rules}
-use Rattle.wire.proofs.Past.{word-past}
+use Rattle.wire.proofs.Past.{word_past}
 use Rattle.wire.proofs.word.Statement.{statement}
 use Rattle.wire.proofs.word.Tie as tie
 
@@ -29,7 +29,7 @@ returns : tie.Need-returns
 returns c = search rules
 
 returns-2 : tie.Need-returns-2
-returns-2 c = omega (arith, word-past c.before.before.args.s.now c.before.before.args.at c.if1.false)
+returns-2 c = omega (arith, word_past c.before.before.args.s.now c.before.before.args.at c.if1.false)
 
 pub word-spec : {M : Type 1} → statement M
 word-spec =

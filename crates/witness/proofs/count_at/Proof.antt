@@ -9,7 +9,7 @@ size-at-requires : tie.Need-size-at-requires
 size-at-requires c κs = search rules
 
 returns : tie.Need-returns
-returns c = rw (← c.before.count-place.ensures.0) c.size-at.ensures
+returns c = rw (← c.before.count-place.ensures.0) c.size_at_lem.ensures
 
 pub count-at-spec : {M : Type 1} → statement M
 count-at-spec = tie.close (tie.spec count-place-requires size-at-requires returns)

@@ -1,4 +1,4 @@
-use Rattle.model.specs.Witness.{rowAt}
+use Rattle.model.specs.Witness.{row_at}
 use borrow.Author.Rules.{rules}
 use Rattle.witness.proofs.row_at.Statement.{statement}
 use Rattle.witness.proofs.row_at.Tie as tie
@@ -34,7 +34,7 @@ byte-requires-3 : tie.Need-byte-requires-3
 byte-requires-3 c κs = search rules
 
 returns : tie.Need-returns
-unfolding rowAt
+unfolding row_at
 returns c =
     rw (← c.before.before.before.before.rows-place.ensures.0)
     (λ i.

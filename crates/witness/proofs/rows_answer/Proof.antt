@@ -4,15 +4,15 @@ use mathlib.Core.Option.{none}
 use mathlib.Core.Path.{◌≡◌, sym, ap, ◌∙◌}
 use borrow.Author.Tests.{not-true, not-false}
 use Rattle.model.specs.Bytes.{tab}
-use Rattle.model.specs.Witness.{misformed, badRow, rowAt}
-use Rattle.witness.proofs.Laws.{scanAt, scan-all, scan-next, scan-stops, scan-ends}
+use Rattle.model.specs.Witness.{misformed, bad_row, row_at}
+use Rattle.witness.proofs.Laws.{scan_at, scan_all, scan_next, scan_stops, scan_ends}
 use borrow.Author.Rules.{rules}
 use Rattle.witness.proofs.rows_answer.Statement.{statement}
 use Rattle.witness.proofs.rows_answer.Tie as tie
 
 abbrev invariant-loop : tie.invariant-loop
 invariant-loop edition b count before₀ i₀ before i =
-    (i ≤ count) × (misformed edition none 0 (tab (rowAt edition b) count) ≡ scanAt edition (rowAt edition b) count before i)
+    (i ≤ count) × (misformed edition none 0 (tab (row_at edition b) count) ≡ scan_at edition (row_at edition b) count before i)
 
 abbrev decreases-loop : tie.decreases-loop
 decreases-loop edition b count before₀ i₀ before i = count - i
@@ -21,7 +21,7 @@ no-row-requires : tie.Need-no-row-requires invariant-loop decreases-loop
 no-row-requires c κs = search rules
 
 loop-holds : tie.Need-loop-init invariant-loop decreases-loop
-loop-holds c = (omega arith, scan-all _ _ _ _ c.no_row.ensures)
+loop-holds c = (omega arith, scan_all _ _ _ _ c.no_row.ensures)
 
 row-at-requires : tie.Need-row-at-requires invariant-loop decreases-loop
 row-at-requires c κs = search rules
@@ -33,7 +33,7 @@ cast-t9 : tie.Need-overflow-cast-t9 invariant-loop decreases-loop
 cast-t9 c = search rules
 
 returns : tie.Need-returns invariant-loop decreases-loop
-returns c = ap badRow (sym (c.before.before.before.before.loop.invariant.1 ∙ scan-stops _ _ _ _ _ _ c.before.before.row_at.ensures (omega arith) (sym c.before.in_place.ensures ∙ not-true _ c.if1.true)))
+returns c = ap bad_row (sym (c.before.before.before.before.loop.invariant.1 ∙ scan_stops _ _ _ _ _ _ c.before.before.row_at.ensures (omega arith) (sym c.before.in_place.ensures ∙ not-true _ c.if1.true)))
 
 add-i : tie.Need-overflow-add-i invariant-loop decreases-loop
 add-i c = search rules
@@ -42,10 +42,10 @@ loop-less : tie.Need-loop-smaller invariant-loop decreases-loop
 loop-less c = search rules
 
 loop-again : tie.Need-loop-preserved invariant-loop decreases-loop
-loop-again c = (omega arith, c.before.before.before.before.loop.invariant.1 ∙ scan-next _ _ _ _ _ _ c.before.before.row_at.ensures (omega arith) (sym c.before.in_place.ensures ∙ not-false _ c.if1.false))
+loop-again c = (omega arith, c.before.before.before.before.loop.invariant.1 ∙ scan_next _ _ _ _ _ _ c.before.before.row_at.ensures (omega arith) (sym c.before.in_place.ensures ∙ not-false _ c.if1.false))
 
 returns-2 : tie.Need-returns-2 invariant-loop decreases-loop
-returns-2 c = ap badRow (sym (c.before.loop.invariant.1 ∙ scan-ends _ _ _ _ _ (omega arith)))
+returns-2 c = ap bad_row (sym (c.before.loop.invariant.1 ∙ scan_ends _ _ _ _ _ (omega arith)))
 
 pub rows-answer-spec : {M : Type 1} → statement M
 rows-answer-spec =

@@ -2,8 +2,8 @@ use Prim.Native.Nat.{ℕ}
 use mathlib.Core.Option.{none}
 use mathlib.Core.Path.{sym, ap, ◌∙◌}
 use Rattle.model.specs.Bytes.{tab}
-use Rattle.model.specs.Witness.{misformed, badRow, rowAt}
-use Rattle.witness.proofs.Laws.{answer-frame, answer-rows}
+use Rattle.model.specs.Witness.{misformed, bad_row, row_at}
+use Rattle.witness.proofs.Laws.{answer_frame, answer-rows}
 use borrow.Author.Rules.{rules}
 use Rattle.witness.proofs.witness_answer.Statement.{statement}
 use Rattle.witness.proofs.witness_answer.Tie as tie
@@ -24,11 +24,11 @@ returns : tie.Need-returns
 returns c =
     let a = c.before.before.before.before.before.before.args in
     c.rows-answer.ensures
-    ∙ ap (λ (n : ℕ). badRow (misformed a.edition none 0 (tab (rowAt a.edition a.b.now) n))) c.before.count_at.ensures.0
+    ∙ ap (λ (n : ℕ). bad_row (misformed a.edition none 0 (tab (row_at a.edition a.b.now) n))) c.before.count_at.ensures.0
     ∙ answer-rows _ _ _ c.before.before.before.before.witness-frame.ensures (sym c.before.before.before.sound.ensures ∙ c.before.before.if1.true)
 
 returns-2 : tie.Need-returns-2
-returns-2 c = answer-frame _ _ _ c.before.before.witness-frame.ensures (sym c.before.sound.ensures ∙ c.if1.false)
+returns-2 c = answer_frame _ _ _ c.before.before.witness-frame.ensures (sym c.before.sound.ensures ∙ c.if1.false)
 
 pub witness-answer-spec : {M : Type 1} → statement M
 witness-answer-spec =

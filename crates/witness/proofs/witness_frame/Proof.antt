@@ -1,4 +1,4 @@
-use Rattle.model.specs.Witness.{witnessFrame}
+use Rattle.model.specs.Witness.{witness_frame}
 use borrow.Author.Rules.{rules}
 use Rattle.witness.proofs.witness_frame.Statement.{statement}
 use Rattle.witness.proofs.witness_frame.Tie as tie
@@ -16,7 +16,7 @@ rows-framed-requires : tie.Need-rows-framed-requires
 rows-framed-requires c κs = search rules
 
 returns : tie.Need-returns
-unfolding witnessFrame
+unfolding witness_frame
 returns c =
     rw (← c.before.count-place.ensures.0, ← c.before.before.size-width.ensures.0, ← c.before.before.before.most-rows.ensures) c.rows-framed.ensures
 

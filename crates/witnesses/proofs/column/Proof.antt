@@ -1,8 +1,8 @@
 use native.Mathlib.Omega.{arith}
 use mathlib.Core.Path.{refl, ◌∙◌}
-use Rattle.model.specs.Limits.{witnessPlaces}
-use Rattle.columns.proofs.Columns.{filled-zeros}
-use Rattle.witnesses.specs.Columns.{columnAt}
+use Rattle.model.specs.Limits.{witness_places}
+use Rattle.columns.proofs.Columns.{filled_zeros}
+use Rattle.witnesses.specs.Columns.{column_at}
 use borrow.Author.Rules.{rules}
 use Rattle.witnesses.proofs.column.Statement.{statement}
 use Rattle.witnesses.proofs.column.Tie as tie
@@ -16,7 +16,7 @@ bytes-column-requires c κs = search rules
 returns : tie.Need-returns
 returns c =
     let a = c.before.before.before.before.args in
-    c.before.bytes-column.ensures ∙ filled-zeros (columnAt a.b.now a.start) a.count witnessPlaces _ (omega arith) refl
+    c.before.bytes-column.ensures ∙ filled_zeros (column_at a.b.now a.start) a.count witness_places _ (omega arith) refl
 
 pub column-spec : {M : Type 1} → statement M
 column-spec = tie.close (tie.spec slice-aggregate-bytes-column bytes-column-requires returns)

@@ -4,9 +4,9 @@ use mathlib.Core.List.{List}
 use mathlib.Core.Path.{◌≡◌, refl, ap, ◌∙◌}
 use lib.ListN.{length}
 use Rattle.model.specs.Room.{over}
-use Rattle.model.specs.Witness.{rowPlace}
-use Rattle.witnesses.specs.Columns.{rowAmong}
-use Rattle.witnesses.proofs.Encoded.{bytesTo, bytes-all, encode-none, encode-more}
+use Rattle.model.specs.Witness.{row_place}
+use Rattle.witnesses.specs.Columns.{row_among}
+use Rattle.witnesses.proofs.Encoded.{bytes_to, bytes-all, encode_none, encode_more}
 use borrow.Author.Rules.{rules}
 use Rattle.witnesses.proofs.encode.Statement.{statement}
 use Rattle.witnesses.proofs.encode.Tie as tie
@@ -14,8 +14,8 @@ use Rattle.witnesses.proofs.encode.Tie as tie
 abbrev invariant-loop : tie.invariant-loop
 invariant-loop edition marks times kinds transitions count out₀ i₀ out i =
     (i ≤ count)
-    × ((room : List ℕ) → rowPlace edition count ≤ length room → out₀ ≡ over (bytesTo edition (rowAmong marks times kinds transitions) count 0) room
-    → out ≡ over (bytesTo edition (rowAmong marks times kinds transitions) count i) room)
+    × ((room : List ℕ) → row_place edition count ≤ length room → out₀ ≡ over (bytes_to edition (row_among marks times kinds transitions) count 0) room
+    → out ≡ over (bytes_to edition (row_among marks times kinds transitions) count i) room)
     × (length out ≡ length out₀)
 
 abbrev decreases-loop : tie.decreases-loop
@@ -39,7 +39,7 @@ loop-less c = search rules
 loop-again : tie.Need-loop-preserved invariant-loop decreases-loop
 loop-again c = (
   omega arith,
-  λ room h e. encode-more _ _ _ room h _ c.before.before.before.before.loop-test.true _ _ (c.before.before.before.before.before.loop.invariant.1 room h e) c.before.before.put-row.ensures,
+  λ room h e. encode_more _ _ _ room h _ c.before.before.before.before.loop-test.true _ _ (c.before.before.before.before.before.loop.invariant.1 room h e) c.before.before.put-row.ensures,
   search rules,
 )
 
@@ -49,13 +49,13 @@ same_length c = search rules
 returns : tie.Need-returns invariant-loop decreases-loop
 returns c =
     let a = c.before.before.before.before.before.before.before.before.before.before.before.args in
-    let f = rowAmong a.marks.now a.times.now a.kinds.now a.transitions.now in
+    let f = row_among a.marks.now a.times.now a.kinds.now a.transitions.now in
     let room = a.out.now in
     let n = a.count in
-    let fits : rowPlace a.edition n ≤ length room = omega arith in
+    let fits : row_place a.edition n ≤ length room = omega arith in
     let e : c.before.loop.i ≡ n = omega arith in
-    c.before.loop.invariant.1 room fits (c.before.before.before.before.put-frame.ensures ∙ encode-none a.edition f n room fits)
-    ∙ ap (λ (k : ℕ). over (bytesTo a.edition f n k) room) e
+    c.before.loop.invariant.1 room fits (c.before.before.before.before.put-frame.ensures ∙ encode_none a.edition f n room fits)
+    ∙ ap (λ (k : ℕ). over (bytes_to a.edition f n k) room) e
     ∙ ap (λ (l : List ℕ). over l room) (bytes-all a.edition f n)
 
 pub encode-spec : {M : Type 1} → statement M

@@ -1,10 +1,10 @@
 use mathlib.Core.Path.{refl}
-use Rattle.model.specs.Witness.{noWitness}
+use Rattle.model.specs.Witness.{no_witness}
 use Rattle.witnesses.proofs.no_parts.Statement.{statement}
 use Rattle.witnesses.proofs.no_parts.Tie as tie
 
 returns : tie.Need-returns
-unfolding noWitness
+unfolding no_witness
 returns c = refl
 
 pub no-parts-spec : {M : Type 1} → statement M

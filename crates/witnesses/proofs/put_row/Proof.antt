@@ -1,7 +1,7 @@
 use Prim.Native.Nat.{ℕ, ◌+◌, ◌*◌}
 use mathlib.Core.List.{List}
 use mathlib.Core.Path.{ap, ◌∙◌}
-use Rattle.model.specs.Witness.{rowBytes}
+use Rattle.model.specs.Witness.{row_bytes}
 use Rattle.wire.specs.Placed.{placed}
 use borrow.Author.Rules.{rules}
 use Rattle.witnesses.proofs.put_row.Statement.{statement}
@@ -37,7 +37,7 @@ returns c =
     let from = c.before.before.before.rows-place.result + 5 * a.i in
     rw (← c.before.before.before.rows-place.ensures.0)
     (c.before.before.place.ensures
-    ∙ ap (λ (l : List ℕ). placed l from a.out.now) (c.before.before.before.before.before.before.row-bytes.ensures ∙ ap rowBytes c.before.before.before.before.before.before.before.row-among.ensures))
+    ∙ ap (λ (l : List ℕ). placed l from a.out.now) (c.before.before.before.before.before.before.row-bytes.ensures ∙ ap row_bytes c.before.before.before.before.before.before.before.row-among.ensures))
 
 pub put-row-spec : {M : Type 1} → statement M
 put-row-spec =

@@ -1,8 +1,8 @@
 use native.Mathlib.Omega.{arith}
 use mathlib.Core.Path.{refl, ◌∙◌}
-use Rattle.model.specs.Limits.{witnessPlaces}
-use Rattle.columns.proofs.Columns.{filled-zeros}
-use Rattle.witnesses.specs.Columns.{timeAt}
+use Rattle.model.specs.Limits.{witness_places}
+use Rattle.columns.proofs.Columns.{filled_zeros}
+use Rattle.witnesses.specs.Columns.{time_at}
 use borrow.Author.Rules.{rules}
 use Rattle.witnesses.proofs.time_column.Statement.{statement}
 use Rattle.witnesses.proofs.time_column.Tie as tie
@@ -16,7 +16,7 @@ words-column-requires c κs = search rules
 returns : tie.Need-returns
 returns c =
     let a = c.before.before.before.before.args in
-    c.before.words-column.ensures ∙ filled-zeros (timeAt a.b.now a.start) a.count witnessPlaces _ (omega arith) refl
+    c.before.words-column.ensures ∙ filled_zeros (time_at a.b.now a.start) a.count witness_places _ (omega arith) refl
 
 pub time-column-spec : {M : Type 1} → statement M
 time-column-spec = tie.close (tie.spec slice-aggregate-words-column words-column-requires returns)

@@ -1,6 +1,6 @@
 use native.Mathlib.Omega.{arith}
 use mathlib.Core.Path.{◌∙◌}
-use Rattle.model.specs.Witness.{writeWitness}
+use Rattle.model.specs.Witness.{write_witness}
 use Rattle.frame.proofs.Written.{write-refused}
 use Rattle.columns.proofs.Columns.{all-below}
 use Rattle.witnesses.proofs.Encoded.{too_many, writable, write-short, write-fits}
@@ -15,7 +15,7 @@ count-place-requires : tie.Need-count-place-requires
 count-place-requires c κs = search rules
 
 returns : tie.Need-returns
-unfolding writeWitness
+unfolding write_witness
 returns c = write-refused _ _ _ _ (too_many _ _ (omega arith) _ (omega arith))
 
 columns-answer-requires : tie.Need-columns-answer-requires
@@ -25,7 +25,7 @@ enum-known-rows : tie.Need-enum-known-rows
 enum-known-rows c = search rules
 
 returns-2 : tie.Need-returns-2
-unfolding writeWitness
+unfolding write_witness
 returns-2 c =
     let s = c.before.before.before.before.before.before.before.before.before.before.before.before.before.before.before.before in
     let a = s.args in

@@ -10,11 +10,11 @@ use borrow.Author.Tests.{not-true, not-false}
 use Rattle.situation.specs.Rows.{Cursor}
 use Rattle.images.specs.Buffers.{Kept}
 use Rattle.measures.specs.Roomy.{Roomy}
-use Rattle.measures.specs.Setting.{monitorBy, Setting, LayersUpTo}
+use Rattle.measures.specs.Setting.{monitor_by, Setting, LayersUpTo}
 use Rattle.measures.specs.Working.{Working}
-use Rattle.measures.proofs.Roominess.{roomy-kept, roomy-by, row_fits}
+use Rattle.measures.proofs.Roominess.{roomy-kept, roomy_by, row_fits}
 use Rattle.backward.specs.PruneRows.{Coming}
-use Rattle.backward.proofs.PruneLayers.{PrunedTo, cursor-first, pruned-first, pruned-turn, turning, coming-first}
+use Rattle.backward.proofs.PruneLayers.{PrunedTo, cursor-first, pruned-first, pruned_turn, turning, coming_first}
 use Rattle.backward.proofs.prune.prune.Statement.{statement}
 use Rattle.backward.proofs.prune.prune.Tie as tie
 
@@ -23,11 +23,11 @@ invariant-loop table offsets recording g marks planes scratch₀ next₀ row₀ 
     (t ≤ g.last) × Kept scratch₀ scratch × Kept next₀ next × Kept row₀ row × Kept sets₀ sets × Kept one₀ one × Kept two₀ two × Kept memo₀ memo
     × (Setting table offsets recording g
     → Working table offsets g marks planes
-    → LayersUpTo (monitorBy g table) recording scratch₀ g.row g.last
-    → Coming (monitorBy g table) g g.last scratch₀ next₀ row₀ sets₀ one₀ two₀ memo₀
+    → LayersUpTo (monitor_by g table) recording scratch₀ g.row g.last
+    → Coming (monitor_by g table) g g.last scratch₀ next₀ row₀ sets₀ one₀ two₀ memo₀
     → Cursor recording cursor (t + 1)
-    × PrunedTo (monitorBy g table) recording scratch g.row g.size g.last t
-    × Coming (monitorBy g table) g t scratch next row sets one two memo)
+    × PrunedTo (monitor_by g table) recording scratch g.row g.size g.last t
+    × Coming (monitor_by g table) g t scratch next row sets one two memo)
 
 abbrev decreases-loop : tie.decreases-loop
 decreases-loop table offsets recording g marks planes scratch₀ next₀ row₀ sets₀ one₀ two₀ memo₀ from to cursor₀ t₀ scratch next row sets one two memo cursor t = t
@@ -53,7 +53,7 @@ is-roomy-requires : tie.Need-is-roomy-requires invariant-loop decreases-loop
 is-roomy-requires c κs = search rules
 
 returns : tie.Need-returns invariant-loop decreases-loop
-returns c = (refl, refl, refl, refl, refl, refl, refl, λ set given long layers sized next row. absurd (false≢true (sym (not-true _ c.if1.true) ∙ c.before.is-roomy.ensures.1 (roomy-by set long))))
+returns c = (refl, refl, refl, refl, refl, refl, refl, λ set given long layers sized next row. absurd (false≢true (sym (not-true _ c.if1.true) ∙ c.before.is-roomy.ensures.1 (roomy_by set long))))
 
 mul-from : tie.Need-overflow-mul-from invariant-loop decreases-loop
 mul-from c = omega (arith, row_fits (roomy c.before) {t = (entry c.before).args.g.last} (omega arith), (entry c.before).good)
@@ -134,7 +134,7 @@ loop-again c =
           turning a.table.now a.offsets.now a.recording.now a.g set _ _ _ _ _ _ _ _ at-loop.loop.t (omega (arith, inside.loop-test.true)) inv.0 cursor pruned come in
           let (cut, coming) = done.8 set given at empty here in
           let (next, rows) =
-          pruned-turn a.table.now a.offsets.now a.recording.now a.g set _ _ at-loop.loop.t _ _ (omega (arith, inside.loop-test.true)) inv.0 cursor pruned done.7 cut in
+          pruned_turn a.table.now a.offsets.now a.recording.now a.g set _ _ at-loop.loop.t _ _ (omega (arith, inside.loop-test.true)) inv.0 cursor pruned done.7 cut in
           (next, rows, coming),
     )
 
@@ -174,7 +174,7 @@ returns-2 c =
       inv.7 ∙ none.forget.ensures.0,
       λ set given long layers sized next row.
           let first =
-          coming-first a.table.now a.offsets.now a.recording.now a.g set _ _ _ _ _ _ _ _ next row sized given.ready.wide last.load.ensures (none.forget.ensures.1 _ _).1 in
+          coming_first a.table.now a.offsets.now a.recording.now a.g set _ _ _ _ _ _ _ _ next row sized given.ready.wide last.load.ensures (none.forget.ensures.1 _ _).1 in
           let rows = (inv.8 set given layers first).1 in
           λ t l. rows.from t (omega arith) l,
     )

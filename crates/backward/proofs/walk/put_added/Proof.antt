@@ -5,8 +5,8 @@ use mathlib.Core.Path.{◌≡◌, sym, ap, ◌∙◌}
 use mathlib.Core.List.{[], ◌∷◌}
 use Rattle.model.specs.Bytes.{byte_at}
 use Rattle.model.specs.Witness.{added, marked}
-use Rattle.backward.proofs.WalkRoom.{rows-put-same, rows-put-length}
-use Rattle.backward.proofs.WalkMoves.{trigger-byte, row-for-one}
+use Rattle.backward.proofs.WalkRoom.{rows_put_same, rows_put_length}
+use Rattle.backward.proofs.WalkMoves.{trigger_byte, row_for_one}
 use borrow.Author.Rules.{rules}
 use Rattle.backward.proofs.walk.put_added.Statement.{statement}
 use Rattle.backward.proofs.walk.put_added.Tie as tie
@@ -39,14 +39,14 @@ returns c =
     let start = read.before.before.before.before.before in
     let a = start.args in
     let done = called.put-row.ensures in (
-      rows-put-length done,
+      rows_put_length done,
       omega (arith, done.count),
       λ found kind known.
           let told : read.byte.result ≡ kind =
           read.byte.ensures.0
           ∙ ap (λ (x : ℕ). byte_at a.table.now (x + 2)) read.before.short.ensures.0
-          ∙ trigger-byte a.table.now a.offsets.now found a.j kind known in
-          rows-put-same (ap (λ (k : ℕ). marked added a.t k a.j ∷ []) told ∙ sym (row-for-one added a.t a.j kind _ known)) done,
+          ∙ trigger_byte a.table.now a.offsets.now found a.j kind known in
+          rows_put_same (ap (λ (k : ℕ). marked added a.t k a.j ∷ []) told ∙ sym (row_for_one added a.t a.j kind _ known)) done,
     )
 
 pub put-added-spec : {M : Type 1} → statement M

@@ -1,9 +1,9 @@
 -- `backward::walk::put_heard` meets its contract. Assumes nothing.
 use native.Mathlib.Omega.{arith}
 use mathlib.Core.Path.{sym, ap}
-use Rattle.situation.specs.Rows.{heardOf}
-use Rattle.backward.proofs.WalkRoom.{rows-put-none, rows-put-same}
-use Rattle.backward.proofs.WalkMoves.{row-for-one, row-for-none}
+use Rattle.situation.specs.Rows.{heard_of}
+use Rattle.backward.proofs.WalkRoom.{rows_put_none, rows_put_same}
+use Rattle.backward.proofs.WalkMoves.{row_for_one, row_for_none}
 use borrow.Author.Rules.{rules}
 use Rattle.backward.proofs.walk.put_heard.Statement.{statement}
 use Rattle.backward.proofs.walk.put_heard.Tie as tie
@@ -24,12 +24,12 @@ returns : tie.Need-returns
 returns c =
     let called = c.before.before in
     let known = called.before.before.before in
-    (omega (arith, called.put-row.ensures.count), rows-put-same (sym (row-for-one _ _ _ _ _ (ap heardOf known.heard.given.1))) called.put-row.ensures)
+    (omega (arith, called.put-row.ensures.count), rows_put_same (sym (row_for_one _ _ _ _ _ (ap heard_of known.heard.given.1))) called.put-row.ensures)
 
 returns-2 : tie.Need-returns-2
 returns-2 c =
     let start = c.before.before.before in
-    (omega arith, rows-put-same (sym (row-for-none _ _ _ _ (ap heardOf c.enum_told.given.1))) (rows-put-none start.args.r start.args.room.now))
+    (omega arith, rows_put_same (sym (row_for_none _ _ _ _ (ap heard_of c.enum_told.given.1))) (rows_put_none start.args.r start.args.room.now))
 
 pub put-heard-spec : {M : Type 1} → statement M
 put-heard-spec =

@@ -2,7 +2,7 @@
 use native.Mathlib.Omega.{arith}
 use mathlib.Core.Path.{refl, sym}
 use borrow.Author.Rules.{rules}
-use Rattle.backward.proofs.WalkRoom.{rows-put-same, rows-put-length}
+use Rattle.backward.proofs.WalkRoom.{rows_put_same, rows_put_length}
 use Rattle.backward.proofs.WalkMoves.{rows-keep, rows-rest, rows-add, fits-add}
 use Rattle.backward.proofs.walk.put_move.Statement.{statement}
 use Rattle.backward.proofs.walk.put_move.Tie as tie
@@ -22,7 +22,7 @@ same_length c = search rules
 returns-2 : tie.Need-returns-2
 returns-2 c =
     let (short, wrote) = c.before.before.put-heard.ensures in
-    (rows-put-length wrote, short, λ found few has. rows-put-same (sym (rows-keep _ _ _ _ c.before.before.before.before.if2.true)) wrote)
+    (rows_put_length wrote, short, λ found few has. rows_put_same (sym (rows-keep _ _ _ _ c.before.before.before.before.if2.true)) wrote)
 
 put-heard-requires-2 : tie.Need-put-heard-requires-2
 put-heard-requires-2 c κs = search rules
@@ -33,7 +33,7 @@ same-length-2 c = search rules
 returns-3 : tie.Need-returns-3
 returns-3 c =
     let (short, wrote) = c.before.before.put-heard2.ensures in
-    (rows-put-length wrote, short, λ found few has. rows-put-same (sym (rows-rest _ _ _ _ c.before.before.before.before.if3.true)) wrote)
+    (rows_put_length wrote, short, λ found few has. rows_put_same (sym (rows-rest _ _ _ _ c.before.before.before.before.if3.true)) wrote)
 
 sub-put-added : tie.Need-overflow-sub-put-added
 sub-put-added c = search rules
@@ -52,7 +52,7 @@ returns-4 c =
       done.1,
       λ found few has.
           let (kind, known) = fits-add _ _ _ (omega (arith, other.before.if2.false, other.if3.false)) has in
-          rows-put-same (sym (rows-add _ _ _ _ (omega (arith, other.before.if2.false, other.if3.false)))) (done.2 found kind known),
+          rows_put_same (sym (rows-add _ _ _ _ (omega (arith, other.before.if2.false, other.if3.false)))) (done.2 found kind known),
     )
 
 pub put-move-spec : {M : Type 1} → statement M

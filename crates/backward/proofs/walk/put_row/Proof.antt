@@ -3,7 +3,7 @@ use Prim.Native.Nat.{ℕ, ◌*◌}
 use native.Mathlib.Omega.{arith}
 use mathlib.Core.Path.{ap, ◌∙◌}
 use mathlib.Core.List.{List}
-use Rattle.model.specs.Witness.{rowsBytes}
+use Rattle.model.specs.Witness.{rows_bytes}
 use Rattle.wire.specs.Placed.{placed}
 use borrow.Author.Rules.{rules}
 use Rattle.backward.proofs.walk.put_row.Statement.{statement}
@@ -28,7 +28,7 @@ same_length : tie.Need-same-length
 same_length c = search rules
 
 returns : tie.Need-returns
-unfolding rowsBytes
+unfolding rows_bytes
 returns c =
     let called = c.before.before in
     let made = called.before.before.before in

@@ -2,10 +2,10 @@
 use native.Mathlib.Omega.{arith}
 use mathlib.Core.Path.{refl, ◌∙◌}
 use borrow.Author.Rules.{rules}
-use Rattle.model.specs.Recording.{packetsAt}
+use Rattle.model.specs.Recording.{packets_at}
 use Rattle.model.specs.Validation.{preferred}
-use Rattle.measures.specs.Setting.{monitorBy}
-use Rattle.backward.proofs.WalkRoom.{part_room, framed-part}
+use Rattle.measures.specs.Setting.{monitor_by}
+use Rattle.backward.proofs.WalkRoom.{part_room, framed_part}
 use Rattle.backward.proofs.WalkSteps.{rows_fit}
 use Rattle.backward.proofs.walk.walk.Statement.{statement}
 use Rattle.backward.proofs.walk.walk.Tie as tie
@@ -74,7 +74,7 @@ returns-4 c =
           let (count, rows) = walked.walk_rows.ensures.2 ground some_left (part_room head.rows-place.result a.room.now _ (omega (arith, head.rows-place.ensures.0, long))) in (
             count,
             framed.put-frame.ensures
-                ∙ framed-part a.edition (preferred (monitorBy a.g a.table.now) (packetsAt a.recording.now)) head.rows-place.result _ a.room.now _ head.rows-place.ensures.0
+                ∙ framed_part a.edition (preferred (monitor_by a.g a.table.now) (packets_at a.recording.now)) head.rows-place.result _ a.room.now _ head.rows-place.ensures.0
                 count rows (omega (arith, long, rows_fit a.table.now a.offsets.now a.recording.now a.g ground.setting, head.rows-place.ensures.0)),
           ),
     )

@@ -2,17 +2,17 @@
 use Prim.Native.Nat.{ℕ, ◌+◌, ◌*◌, ◌<◌}
 use native.Mathlib.Omega.{arith}
 use mathlib.Core.Path.{◌≡◌, sym, subst, ◌∙◌}
-use Rattle.model.specs.Table.{monitorAt}
+use Rattle.model.specs.Table.{monitor_at}
 use Rattle.model.specs.Situation.{move_of}
-use Rattle.situation.specs.Rows.{heardOf, Cursor}
-use Rattle.situation.proofs.Cursors.{heard-recorded, passed_cursor}
-use Rattle.layers.specs.Into.{leastInto}
-use Rattle.steps.specs.Stepping.{stepAt}
-use Rattle.measures.specs.Setting.{monitorBy}
+use Rattle.situation.specs.Rows.{heard_of, Cursor}
+use Rattle.situation.proofs.Cursors.{heard_recorded, passed_cursor}
+use Rattle.layers.specs.Into.{least_into}
+use Rattle.steps.specs.Stepping.{step_at}
+use Rattle.measures.specs.Setting.{monitor_by}
 use Rattle.backward.specs.WalkRows.{Ground, Stands}
 use Rattle.measures.proofs.Rows.{row-start}
-use Rattle.backward.proofs.WalkRoom.{rows-put-same}
-use Rattle.backward.proofs.WalkMoves.{rows-plain, has-plain}
+use Rattle.backward.proofs.WalkRoom.{rows_put_same}
+use Rattle.backward.proofs.WalkMoves.{rows_plain, has_plain}
 use Rattle.backward.proofs.WalkSteps.{Leading, leading, onward}
 use borrow.Author.Rules.{rules}
 use Rattle.backward.proofs.walk.walk_on.Statement.{statement}
@@ -40,18 +40,18 @@ mul-start-2 c =
 -- the least move leads on
 on : (c : tie.After-heard-at) (k : ℕ)
     → let a = c.before.before.before.before.before.before.args in
-    let step = stepAt a.table.now a.offsets.now a.g.shape (heardOf c.heard-at.result) in
-    k ≡ leastInto step a.scratch.now (8 * a.g.row * (a.t + 1)) a.g.size a.at.number
+    let step = step_at a.table.now a.offsets.now a.g.shape (heard_of c.heard-at.result) in
+    k ≡ least_into step a.scratch.now (8 * a.g.row * (a.t + 1)) a.g.size a.at.number
     → Ground a.table.now a.offsets.now a.recording.now a.scratch.now a.g
     → a.t < a.g.last
-    → Stands (monitorBy a.g a.table.now) a.recording.now a.g.last a.t a.at.number a.at.cursor
-    → Leading (monitorBy a.g a.table.now) a.recording.now a.g.last a.t a.at.number k (heardOf c.heard-at.result) (step a.at.number k)
+    → Stands (monitor_by a.g a.table.now) a.recording.now a.g.last a.t a.at.number a.at.cursor
+    → Leading (monitor_by a.g a.table.now) a.recording.now a.g.last a.t a.at.number k (heard_of c.heard-at.result) (step a.at.number k)
 on c k e ground more stands =
     let a = c.before.before.before.before.before.before.args in
     let set = ground.setting in
     leading a.table.now a.offsets.now a.recording.now a.g set a.scratch.now ground.pruned a.t a.at.number a.at.cursor
-    (heardOf c.heard-at.result) k more
-    (c.heard-at.ensures ∙ heard-recorded (monitorBy a.g a.table.now) a.recording.now set.sound.trace stands.cursor) e stands
+    (heard_of c.heard-at.result) k more
+    (c.heard-at.ensures ∙ heard_recorded (monitor_by a.g a.table.now) a.recording.now set.sound.trace stands.cursor) e stands
 
 least-into-requires : tie.Need-least-into-requires
 least-into-requires c κs = search rules
@@ -81,11 +81,11 @@ returns c =
       omega (arith, wrote.1, start.requires.2),
       λ ground more stands.
           let led = on heard least.least-into.result.k least.least-into.ensures.0 ground more stands in
-          let has = has-plain a.g.shape.rule (monitorAt a.table.now) (heardOf heard.heard-at.result) (move_of least.least-into.result.k) led.fits in
+          let has = has_plain a.g.shape.rule (monitor_at a.table.now) (heard_of heard.heard-at.result) (move_of least.least-into.result.k) led.fits in
           onward led (least.least-into.ensures.1 led.few)
           (subst (λ (j : ℕ). Cursor a.recording.now j (a.t + 1 + 1)) (sym went.passed.ensures)
-          (passed_cursor (monitorBy a.g a.table.now) a.recording.now ground.setting.sound.trace stands.cursor))
-          (rows-put-same (sym (rows-plain a.g.shape.rule (monitorAt a.table.now) (heardOf heard.heard-at.result) (a.t + 1) (move_of least.least-into.result.k)))
+          (passed_cursor (monitor_by a.g a.table.now) a.recording.now ground.setting.sound.trace stands.cursor))
+          (rows_put_same (sym (rows_plain a.g.shape.rule (monitor_at a.table.now) (heard_of heard.heard-at.result) (a.t + 1) (move_of least.least-into.result.k)))
           (wrote.2 ground.triggers led.few has)),
     )
 

@@ -4,14 +4,14 @@ use native.Mathlib.Omega.{arith}
 use mathlib.Core.Path.{◌≡◌, refl, sym, subst, ◌∙◌}
 use lib.ListN.{length}
 use borrow.Author.Rules.{rules}
-use Rattle.model.specs.Recording.{packetsAt}
+use Rattle.model.specs.Recording.{packets_at}
 use Rattle.model.specs.Layers.{count}
-use Rattle.model.specs.Validation.{possibleAfter}
+use Rattle.model.specs.Validation.{possible_after}
 use Rattle.images.specs.Buffers.{Kept}
-use Rattle.measures.specs.Setting.{monitorBy}
+use Rattle.measures.specs.Setting.{monitor_by}
 use Rattle.backward.specs.WalkRows.{Ground, Stands}
-use Rattle.backward.proofs.WalkRoom.{rows-put-all}
-use Rattle.backward.proofs.WalkSteps.{Walked, walked_on, stands-first, walked-first, walked_all, rows-room}
+use Rattle.backward.proofs.WalkRoom.{rows_put_all}
+use Rattle.backward.proofs.WalkSteps.{Walked, walked_on, stands-first, walked_first, walked_all, rows-room}
 use Rattle.backward.proofs.walk.walk_rows.Statement.{statement}
 use Rattle.backward.proofs.walk.walk_rows.Tie as tie
 
@@ -19,10 +19,10 @@ abbrev invariant-loop : tie.invariant-loop
 invariant-loop table offsets recording g scratch room₀ at₀ t₀ room at t =
     (t ≤ g.last) × Kept room₀ room × (at.rows ≤ t)
     × (Ground table offsets recording scratch g
-    → 0 < count (possibleAfter (monitorBy g table) (packetsAt recording) g.last)
-    → 5 * (g.last + length (packetsAt recording)) ≤ length room₀
-    → Stands (monitorBy g table) recording g.last t at.number at.cursor
-    × Walked (monitorBy g table) recording g.last t at.number at.rows room₀ room)
+    → 0 < count (possible_after (monitor_by g table) (packets_at recording) g.last)
+    → 5 * (g.last + length (packets_at recording)) ≤ length room₀
+    → Stands (monitor_by g table) recording g.last t at.number at.cursor
+    × Walked (monitor_by g table) recording g.last t at.number at.rows room₀ room)
 
 abbrev decreases-loop : tie.decreases-loop
 decreases-loop table offsets recording g scratch room₀ at₀ t₀ room at t = g.last - t
@@ -38,10 +38,10 @@ loop-holds c =
       omega arith,
       λ ground some_left long.
           let set = ground.setting in (
-            subst (λ (n : ℕ). Stands (monitorBy a.g a.table.now) a.recording.now a.g.last 0 n 0) (sym set.start)
+            subst (λ (n : ℕ). Stands (monitor_by a.g a.table.now) a.recording.now a.g.last 0 n 0) (sym set.start)
                 (stands-first a.table.now a.offsets.now a.recording.now a.g set some_left),
-            subst (λ (n : ℕ). Walked (monitorBy a.g a.table.now) a.recording.now a.g.last 0 n 0 a.room.now a.room.now) (sym set.start)
-                (walked-first a.table.now a.offsets.now a.recording.now a.g set a.room.now),
+            subst (λ (n : ℕ). Walked (monitor_by a.g a.table.now) a.recording.now a.g.last 0 n 0 a.room.now a.room.now) (sym set.start)
+                (walked_first a.table.now a.offsets.now a.recording.now a.g set a.room.now),
           ),
     )
 
@@ -88,7 +88,7 @@ returns c =
       λ ground some_left long.
           let done : at-loop.loop.t ≡ a.g.last = omega (arith, inv.0, c.if1.false) in
           let all = walked_all a.table.now a.offsets.now a.recording.now a.g ground.setting (inv.3 ground some_left long).1 done in
-          (omega (arith, all.count), rows-put-all all (rows-room a.table.now a.offsets.now a.recording.now a.g ground.setting a.room.now long)),
+          (omega (arith, all.count), rows_put_all all (rows-room a.table.now a.offsets.now a.recording.now a.g ground.setting a.room.now long)),
     )
 
 pub walk-rows-spec : {M : Type 1} → statement M

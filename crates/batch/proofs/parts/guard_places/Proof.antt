@@ -1,5 +1,5 @@
 -- `batch::parts::guard_places` meets its contract. Assumes nothing.
-use Rattle.model.specs.Limits.{guardLimit, transitionLimit}
+use Rattle.model.specs.Limits.{guard_limit, transition_limit}
 use Rattle.model.specs.Bytes.{byte_at}
 use Prim.Native.Nat.{◌+◌, ◌*◌}
 use mathlib.Core.Path.{ap, ◌∙◌}
@@ -29,7 +29,7 @@ bytes-column-requires c κs = search rules
 returns : tie.Need-returns
 returns c =
     let a = c.before.before.before.before.before.before.before.args in
-    c.before.bytes-column.ensures ∙ same-filled (λ i. byte_at a.guards.now (0 + 1 * i)) (guardLimit * transitionLimit) _ _ _ _ (ap (λ n. 32 * n) c.before.before.before.byte2.ensures.0) c.before.before.before.before.byte.ensures.0
+    c.before.bytes-column.ensures ∙ same-filled (λ i. byte_at a.guards.now (0 + 1 * i)) (guard_limit * transition_limit) _ _ _ _ (ap (λ n. 32 * n) c.before.before.before.byte2.ensures.0) c.before.before.before.before.byte.ensures.0
 
 pub guard-places-spec : {M : Type 1} → statement M
 guard-places-spec =

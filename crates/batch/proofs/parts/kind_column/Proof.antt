@@ -1,5 +1,5 @@
 -- `batch::parts::kind_column` meets its contract. Assumes nothing.
-use Rattle.model.specs.Limits.{kindLimit}
+use Rattle.model.specs.Limits.{kind_limit}
 use Rattle.model.specs.Bytes.{byte_at}
 use Prim.Native.Nat.{◌+◌, ◌*◌}
 use mathlib.Core.Path.{◌∙◌}
@@ -29,7 +29,7 @@ bytes-column-requires c κs = search rules
 returns : tie.Need-returns
 returns c =
     let a = c.before.before.before.before.before.before.args in
-    c.before.bytes-column.ensures ∙ same-filled (λ i. byte_at a.b.now (9 + a.field + 3 * i)) kindLimit _ _ _ _ c.before.before.before.byte2.ensures.0 c.before.before.before.before.byte.ensures.0
+    c.before.bytes-column.ensures ∙ same-filled (λ i. byte_at a.b.now (9 + a.field + 3 * i)) kind_limit _ _ _ _ c.before.before.before.byte2.ensures.0 c.before.before.before.before.byte.ensures.0
 
 pub kind-column-spec : {M : Type 1} → statement M
 kind-column-spec =

@@ -1,5 +1,5 @@
 -- `batch::parts::recorded_kinds` meets its contract. Assumes nothing.
-use Rattle.model.specs.Limits.{rowLimit}
+use Rattle.model.specs.Limits.{row_limit}
 use Rattle.model.specs.Bytes.{byte_at}
 use Prim.Native.Nat.{◌+◌, ◌*◌}
 use mathlib.Core.Path.{◌∙◌}
@@ -26,7 +26,7 @@ bytes-column-requires c κs = search rules
 returns : tie.Need-returns
 returns c =
     let a = c.before.before.before.before.before.before.args in
-    c.before.bytes-column.ensures ∙ same-filled (λ i. byte_at a.b.now (7 + 3 * i)) rowLimit _ _ _ _ c.before.before.before.word.ensures.0 c.before.before.before.before.byte.ensures.0
+    c.before.bytes-column.ensures ∙ same-filled (λ i. byte_at a.b.now (7 + 3 * i)) row_limit _ _ _ _ c.before.before.before.word.ensures.0 c.before.before.before.before.byte.ensures.0
 
 pub recorded-kinds-spec : {M : Type 1} → statement M
 recorded-kinds-spec =

@@ -1,5 +1,5 @@
 -- `batch::parts::recorded_times` meets its contract. Assumes nothing.
-use Rattle.model.specs.Limits.{rowLimit}
+use Rattle.model.specs.Limits.{row_limit}
 use Rattle.model.specs.Bytes.{word_at}
 use Prim.Native.Nat.{◌+◌, ◌*◌}
 use mathlib.Core.Path.{◌∙◌}
@@ -26,7 +26,7 @@ words-column-requires c κs = search rules
 returns : tie.Need-returns
 returns c =
     let a = c.before.before.before.before.before.before.args in
-    c.before.words-column.ensures ∙ same-filled (λ i. word_at a.b.now (5 + 3 * i)) rowLimit _ _ _ _ c.before.before.before.word.ensures.0 c.before.before.before.before.filler-time.ensures
+    c.before.words-column.ensures ∙ same-filled (λ i. word_at a.b.now (5 + 3 * i)) row_limit _ _ _ _ c.before.before.before.word.ensures.0 c.before.before.before.before.filler-time.ensures
 
 pub recorded-times-spec : {M : Type 1} → statement M
 recorded-times-spec =

@@ -1,5 +1,5 @@
 -- `batch::parts::recording_parts` meets its contract. Assumes nothing.
-use Rattle.batch.specs.Parts.{recordingGiven}
+use Rattle.batch.specs.Parts.{recording_given}
 use borrow.Author.Rules.{rules}
 use Rattle.batch.proofs.parts.recording_parts.Statement.{statement}
 use Rattle.batch.proofs.parts.recording_parts.Tie as tie
@@ -14,7 +14,7 @@ word-requires : tie.Need-word-requires
 word-requires c κs = search rules
 
 returns : tie.Need-returns
-unfolding recordingGiven
+unfolding recording_given
 returns c = λ i.
     record {
       count = c.word.ensures.0 i;

@@ -1,5 +1,5 @@
 -- `batch::parts::row_column` meets its contract. Assumes nothing.
-use Rattle.model.specs.Limits.{witnessPlaces}
+use Rattle.model.specs.Limits.{witness_places}
 use Rattle.model.specs.Bytes.{byte_at}
 use Prim.Native.Nat.{◌+◌, ◌*◌}
 use mathlib.Core.Path.{◌∙◌}
@@ -26,7 +26,7 @@ bytes-column-requires c κs = search rules
 returns : tie.Need-returns
 returns c =
     let a = c.before.before.before.before.before.before.args in
-    c.before.bytes-column.ensures ∙ same-filled (λ i. byte_at a.b.now (a.start + 5 * i)) witnessPlaces _ _ _ _ c.before.before.before.word.ensures.0 c.before.before.before.before.byte.ensures.0
+    c.before.bytes-column.ensures ∙ same-filled (λ i. byte_at a.b.now (a.start + 5 * i)) witness_places _ _ _ _ c.before.before.before.word.ensures.0 c.before.before.before.before.byte.ensures.0
 
 pub row-column-spec : {M : Type 1} → statement M
 row-column-spec =

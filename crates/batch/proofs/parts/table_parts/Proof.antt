@@ -1,5 +1,5 @@
 -- `batch::parts::table_parts` meets its contract. Assumes nothing.
-use Rattle.batch.specs.Parts.{tableGiven}
+use Rattle.batch.specs.Parts.{table_given}
 use borrow.Author.Rules.{rules}
 use Rattle.batch.proofs.parts.table_parts.Statement.{statement}
 use Rattle.batch.proofs.parts.table_parts.Tie as tie
@@ -56,7 +56,7 @@ byte-requires-6 : tie.Need-byte-requires-6
 byte-requires-6 c κs = search rules
 
 returns : tie.Need-returns
-unfolding tableGiven
+unfolding table_given
 returns c = λ i.
     record {
       version = c.before.before.before.before.before.byte.ensures.0 i;

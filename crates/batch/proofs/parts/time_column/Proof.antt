@@ -1,5 +1,5 @@
 -- `batch::parts::time_column` meets its contract. Assumes nothing.
-use Rattle.model.specs.Limits.{witnessPlaces}
+use Rattle.model.specs.Limits.{witness_places}
 use Rattle.model.specs.Bytes.{word_at}
 use Prim.Native.Nat.{◌+◌, ◌*◌}
 use mathlib.Core.Path.{◌∙◌}
@@ -26,7 +26,7 @@ words-column-requires c κs = search rules
 returns : tie.Need-returns
 returns c =
     let a = c.before.before.before.before.before.before.args in
-    c.before.words-column.ensures ∙ same-filled (λ i. word_at a.b.now (8 + 5 * i)) witnessPlaces _ _ _ _ c.before.before.before.word.ensures.0 c.before.before.before.before.filler-time.ensures
+    c.before.words-column.ensures ∙ same-filled (λ i. word_at a.b.now (8 + 5 * i)) witness_places _ _ _ _ c.before.before.before.word.ensures.0 c.before.before.before.before.filler-time.ensures
 
 pub time-column-spec : {M : Type 1} → statement M
 time-column-spec =

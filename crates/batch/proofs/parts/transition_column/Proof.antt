@@ -1,5 +1,5 @@
 -- `batch::parts::transition_column` meets its contract. Assumes nothing.
-use Rattle.model.specs.Limits.{transitionLimit}
+use Rattle.model.specs.Limits.{transition_limit}
 use Rattle.model.specs.Bytes.{byte_at}
 use Prim.Native.Nat.{◌+◌, ◌*◌}
 use mathlib.Core.Path.{◌∙◌}
@@ -26,7 +26,7 @@ bytes-column-requires c κs = search rules
 returns : tie.Need-returns
 returns c =
     let a = c.before.before.before.before.before.before.before.args in
-    c.before.bytes-column.ensures ∙ same-filled (λ i. byte_at a.fields.now (a.field + 7 * i)) transitionLimit _ _ _ _ c.before.before.before.byte2.ensures.0 c.before.before.before.before.byte.ensures.0
+    c.before.bytes-column.ensures ∙ same-filled (λ i. byte_at a.fields.now (a.field + 7 * i)) transition_limit _ _ _ _ c.before.before.before.byte2.ensures.0 c.before.before.before.before.byte.ensures.0
 
 pub transition-column-spec : {M : Type 1} → statement M
 transition-column-spec =

@@ -1,5 +1,5 @@
 -- `batch::parts::witness_parts` meets its contract. Assumes nothing.
-use Rattle.batch.specs.Parts.{witnessGiven}
+use Rattle.batch.specs.Parts.{witness_given}
 use borrow.Author.Rules.{rules}
 use Rattle.batch.proofs.parts.witness_parts.Statement.{statement}
 use Rattle.batch.proofs.parts.witness_parts.Tie as tie
@@ -20,7 +20,7 @@ long-requires : tie.Need-long-requires
 long-requires c κs = search rules
 
 returns : tie.Need-returns
-unfolding witnessGiven
+unfolding witness_given
 returns c = λ i.
     record {
       count = c.long.ensures.0 i;

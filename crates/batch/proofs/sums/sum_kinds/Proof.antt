@@ -1,5 +1,5 @@
 -- `batch::sums::sum_kinds` meets its contract. Assumes nothing.
-use Rattle.batch.proofs.Summing.{sum-behind}
+use Rattle.batch.proofs.Summing.{sum_behind}
 use borrow.Author.Rules.{rules}
 use Rattle.batch.proofs.sums.sum_kinds.Statement.{statement}
 use Rattle.batch.proofs.sums.sum_kinds.Tie as tie
@@ -21,7 +21,7 @@ sum-on-requires-4 c κs = search rules
 
 returns : tie.Need-returns
 returns c = (
-  sum-behind _ _ _ _ _ (sum-behind _ _ _ _ _ (sum-behind _ _ _ _ _ c.before.before.before.before.before.before.before.before.before.before.before.before.sum-on.ensures.0 c.before.before.before.before.before.before.before.before.sum-on2.ensures.0) c.before.before.before.before.sum-on3.ensures.0) c.sum-on4.ensures.0,
+  sum_behind _ _ _ _ _ (sum_behind _ _ _ _ _ (sum_behind _ _ _ _ _ c.before.before.before.before.before.before.before.before.before.before.before.before.sum-on.ensures.0 c.before.before.before.before.before.before.before.before.sum-on2.ensures.0) c.before.before.before.before.sum-on3.ensures.0) c.sum-on4.ensures.0,
   c.sum-on4.ensures.1,
 )
 

@@ -5,13 +5,13 @@ use native.Mathlib.Omega.{arith}
 use mathlib.Core.Path.{◌≡◌, refl, sym, ap, ◌∙◌}
 use lib.ListN.{length, drop}
 use lib.Seq.{drop-length}
-use Rattle.batch.specs.Batch.{sumFrom}
+use Rattle.batch.specs.Batch.{sum_from}
 use Rattle.batch.proofs.Summing.{sum_more}
 use Rattle.batch.proofs.sums.sum_on.Statement.{statement}
 use Rattle.batch.proofs.sums.sum_on.Tie as tie
 
 abbrev invariant-loop : tie.invariant-loop
-invariant-loop from bytes total₀ i₀ total i = (i ≤ length bytes) × (total < 1000003) × (sumFrom total (drop i bytes) ≡ sumFrom from bytes)
+invariant-loop from bytes total₀ i₀ total i = (i ≤ length bytes) × (total < 1000003) × (sum_from total (drop i bytes) ≡ sum_from from bytes)
 
 abbrev decreases-loop : tie.decreases-loop
 decreases-loop from bytes total₀ i₀ total i = length bytes - i
@@ -49,12 +49,12 @@ loop-again c =
     (omega arith, omega arith, sum_more at-loop.loop.total bytes i within ∙ at-loop.loop.invariant.2)
 
 returns : tie.Need-returns invariant-loop decreases-loop
-unfolding sumFrom
+unfolding sum_from
 returns c =
     let at-loop = c.before in
     let bytes = at-loop.before.args.bytes.now in
     let done : at-loop.loop.i ≡ length bytes = omega arith in
-    (sym (ap (sumFrom at-loop.loop.total) (ap (λ (n : ℕ). drop n bytes) done ∙ drop-length bytes)) ∙ at-loop.loop.invariant.2, at-loop.loop.invariant.1)
+    (sym (ap (sum_from at-loop.loop.total) (ap (λ (n : ℕ). drop n bytes) done ∙ drop-length bytes)) ∙ at-loop.loop.invariant.2, at-loop.loop.invariant.1)
 
 pub sum-on-spec : {M : Type 1} → statement M
 sum-on-spec =

@@ -1,6 +1,6 @@
 -- `batch::sums::sum_recording` meets its contract. Assumes nothing.
-use Rattle.batch.specs.Parts.{recordingNumbers}
-use Rattle.batch.proofs.Summing.{sum-behind}
+use Rattle.batch.specs.Parts.{recording_numbers}
+use Rattle.batch.proofs.Summing.{sum_behind}
 use borrow.Author.Rules.{rules}
 use Rattle.batch.proofs.sums.sum_recording.Statement.{statement}
 use Rattle.batch.proofs.sums.sum_recording.Tie as tie
@@ -15,8 +15,8 @@ sum-on-requires : tie.Need-sum-on-requires
 sum-on-requires c κs = search rules
 
 returns : tie.Need-returns
-unfolding recordingNumbers
-returns c = (sum-behind _ _ _ _ _ (sum-behind _ _ _ _ _ c.before.before.before.before.before.before.before.before.sum-word.ensures.0 c.before.before.before.before.sum-words.ensures.0) c.sum-on.ensures.0, c.sum-on.ensures.1)
+unfolding recording_numbers
+returns c = (sum_behind _ _ _ _ _ (sum_behind _ _ _ _ _ c.before.before.before.before.before.before.before.before.sum-word.ensures.0 c.before.before.before.before.sum-words.ensures.0) c.sum-on.ensures.0, c.sum-on.ensures.1)
 
 pub sum-recording-spec : {M : Type 1} → statement M
 sum-recording-spec = tie.close (tie.spec sum-word-requires sum-words-requires sum-on-requires returns)

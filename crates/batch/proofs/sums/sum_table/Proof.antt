@@ -1,6 +1,6 @@
 -- `batch::sums::sum_table` meets its contract. Assumes nothing.
-use Rattle.batch.specs.Parts.{tableNumbers}
-use Rattle.batch.proofs.Summing.{sum-behind}
+use Rattle.batch.specs.Parts.{table_numbers}
+use Rattle.batch.proofs.Summing.{sum_behind}
 use borrow.Author.Rules.{rules}
 use Rattle.batch.proofs.sums.sum_table.Statement.{statement}
 use Rattle.batch.proofs.sums.sum_table.Tie as tie
@@ -12,8 +12,8 @@ sum-transitions-requires : tie.Need-sum-transitions-requires
 sum-transitions-requires c κs = search rules
 
 returns : tie.Need-returns
-unfolding tableNumbers
-returns c = (sum-behind _ _ _ _ _ c.before.sum-kinds.ensures.0 c.sum-transitions.ensures.0, c.sum-transitions.ensures.1)
+unfolding table_numbers
+returns c = (sum_behind _ _ _ _ _ c.before.sum-kinds.ensures.0 c.sum-transitions.ensures.0, c.sum-transitions.ensures.1)
 
 pub sum-table-spec : {M : Type 1} → statement M
 sum-table-spec = tie.close (tie.spec sum-kinds-requires sum-transitions-requires returns)

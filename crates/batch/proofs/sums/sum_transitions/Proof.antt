@@ -1,5 +1,5 @@
 -- `batch::sums::sum_transitions` meets its contract. Assumes nothing.
-use Rattle.batch.proofs.Summing.{sum-behind}
+use Rattle.batch.proofs.Summing.{sum_behind}
 use borrow.Author.Rules.{rules}
 use Rattle.batch.proofs.sums.sum_transitions.Statement.{statement}
 use Rattle.batch.proofs.sums.sum_transitions.Tie as tie
@@ -38,7 +38,7 @@ returns c =
     let e6 = c.before.before.before.before.before.before.before.before.sum-on6.ensures.0 in
     let e7 = c.before.before.before.before.sum-on7.ensures.0 in
     let e8 = c.sum-on8.ensures.0 in
-    (sum-behind _ _ _ _ _ (sum-behind _ _ _ _ _ (sum-behind _ _ _ _ _ (sum-behind _ _ _ _ _ (sum-behind _ _ _ _ _ (sum-behind _ _ _ _ _ (sum-behind _ _ _ _ _ e1 e2) e3) e4) e5) e6) e7) e8, c.sum-on8.ensures.1)
+    (sum_behind _ _ _ _ _ (sum_behind _ _ _ _ _ (sum_behind _ _ _ _ _ (sum_behind _ _ _ _ _ (sum_behind _ _ _ _ _ (sum_behind _ _ _ _ _ (sum_behind _ _ _ _ _ e1 e2) e3) e4) e5) e6) e7) e8, c.sum-on8.ensures.1)
 
 pub sum-transitions-spec : {M : Type 1} → statement M
 sum-transitions-spec =

@@ -1,6 +1,6 @@
 -- `batch::sums::sum_witness` meets its contract. Assumes nothing.
-use Rattle.batch.specs.Parts.{witnessNumbers}
-use Rattle.batch.proofs.Summing.{sum-behind}
+use Rattle.batch.specs.Parts.{witness_numbers}
+use Rattle.batch.proofs.Summing.{sum_behind}
 use borrow.Author.Rules.{rules}
 use Rattle.batch.proofs.sums.sum_witness.Statement.{statement}
 use Rattle.batch.proofs.sums.sum_witness.Tie as tie
@@ -21,14 +21,14 @@ sum-on-requires-3 : tie.Need-sum-on-requires-3
 sum-on-requires-3 c κs = search rules
 
 returns : tie.Need-returns
-unfolding witnessNumbers
+unfolding witness_numbers
 returns c =
     let e1 = c.before.before.before.before.before.before.before.before.before.before.before.before.before.before.before.before.sum-long.ensures.0 in
     let e2 = c.before.before.before.before.before.before.before.before.before.before.before.before.sum-on.ensures.0 in
     let e3 = c.before.before.before.before.before.before.before.before.sum-words.ensures.0 in
     let e4 = c.before.before.before.before.sum-on2.ensures.0 in
     let e5 = c.sum-on3.ensures.0 in
-    (sum-behind _ _ _ _ _ (sum-behind _ _ _ _ _ (sum-behind _ _ _ _ _ (sum-behind _ _ _ _ _ e1 e2) e3) e4) e5, c.sum-on3.ensures.1)
+    (sum_behind _ _ _ _ _ (sum_behind _ _ _ _ _ (sum_behind _ _ _ _ _ (sum_behind _ _ _ _ _ e1 e2) e3) e4) e5, c.sum-on3.ensures.1)
 
 pub sum-witness-spec : {M : Type 1} → statement M
 sum-witness-spec =

@@ -1,6 +1,6 @@
 -- `batch::sums::sum_word` meets its contract. Assumes nothing.
-use Rattle.batch.proofs.Summing.{word-bytes}
-use Rattle.batch.specs.Batch.{sumFrom}
+use Rattle.batch.proofs.Summing.{word_bytes_lem}
+use Rattle.batch.specs.Batch.{sum_from}
 use mathlib.Core.Path.{ap, ◌∙◌}
 use borrow.Author.Rules.{rules}
 use Rattle.batch.proofs.sums.sum_word.Statement.{statement}
@@ -21,7 +21,7 @@ sum-on-requires c κs = search rules
 returns : tie.Need-returns
 returns c =
     let start = c.before.before in
-    (c.sum-on.ensures.0 ∙ ap (sumFrom start.args.from) (word-bytes start.args.word start.ranges.word.fits), c.sum-on.ensures.1)
+    (c.sum-on.ensures.0 ∙ ap (sum_from start.args.from) (word_bytes_lem start.args.word start.ranges.word.fits), c.sum-on.ensures.1)
 
 pub sum-word-spec : {M : Type 1} → statement M
 sum-word-spec = tie.close (tie.spec cast-t5 cast-t7 slice-aggregate-sum-on sum-on-requires returns)

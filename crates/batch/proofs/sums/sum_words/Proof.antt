@@ -5,14 +5,14 @@ use native.Mathlib.Omega.{arith}
 use mathlib.Core.Path.{◌≡◌, refl, sym, ap, ◌∙◌}
 use lib.ListN.{length, drop}
 use lib.Seq.{drop-length}
-use Rattle.batch.specs.Batch.{sumFrom}
-use Rattle.batch.specs.Parts.{wordsBytes}
+use Rattle.batch.specs.Batch.{sum_from}
+use Rattle.batch.specs.Parts.{words_bytes}
 use Rattle.batch.proofs.Summing.{words_more}
 use Rattle.batch.proofs.sums.sum_words.Statement.{statement}
 use Rattle.batch.proofs.sums.sum_words.Tie as tie
 
 abbrev invariant-loop : tie.invariant-loop
-invariant-loop from words total₀ i₀ total i = (i ≤ length words) × (total < 1000003) × (sumFrom total (wordsBytes (drop i words)) ≡ sumFrom from (wordsBytes words))
+invariant-loop from words total₀ i₀ total i = (i ≤ length words) × (total < 1000003) × (sum_from total (words_bytes (drop i words)) ≡ sum_from from (words_bytes words))
 
 abbrev decreases-loop : tie.decreases-loop
 decreases-loop from words total₀ i₀ total i = length words - i
@@ -44,12 +44,12 @@ loop-again c =
     (omega arith, c.sum-word.ensures.1, words_more at-loop.loop.total c.sum-word.result words i within c.sum-word.ensures.0 ∙ at-loop.loop.invariant.2)
 
 returns : tie.Need-returns invariant-loop decreases-loop
-unfolding sumFrom wordsBytes
+unfolding sum_from words_bytes
 returns c =
     let at-loop = c.before in
     let words = at-loop.before.before.args.words.now in
     let done : at-loop.loop.i ≡ length words = omega arith in
-    (sym (ap (λ l. sumFrom at-loop.loop.total (wordsBytes l)) (ap (λ (n : ℕ). drop n words) done ∙ drop-length words)) ∙ at-loop.loop.invariant.2, at-loop.loop.invariant.1)
+    (sym (ap (λ l. sum_from at-loop.loop.total (words_bytes l)) (ap (λ (n : ℕ). drop n words) done ∙ drop-length words)) ∙ at-loop.loop.invariant.2, at-loop.loop.invariant.1)
 
 pub sum-words-spec : {M : Type 1} → statement M
 sum-words-spec =

@@ -2,7 +2,7 @@
 use Prim.Native.Nat.{ℕ, ◌+◌, ◌*◌, ◌≤◌}
 use mathlib.Core.Path.{sym, subst, ◌∙◌}
 use borrow.Author.Rules.{rules}
-use Rattle.engine.proofs.JudgeLaws.{forwarding, ending, concluded-from}
+use Rattle.engine.proofs.JudgeLaws.{forwarding, ending, concluded_from}
 use Rattle.engine.proofs.judge.pass.Statement.{statement}
 use Rattle.engine.proofs.judge.pass.Tie as tie
 
@@ -58,7 +58,7 @@ returns : tie.Need-returns
 returns c =
     let concluded = c.before.before.before.before.before.before.before.before.before.before.before.before.before.before.before.before in
     let forwarded = concluded.before.before.before.before.before.before.before.before.before.before.before.before.before.before.before.before.before.before.before.before.before in
-    concluded-from _ _ _ _ _ _ _ _ _ _ forwarded.forward.ensures.0 concluded.conclude.ensures
+    concluded_from _ _ _ _ _ _ _ _ _ _ forwarded.forward.ensures.0 concluded.conclude.ensures
 
 pub pass_spec : {M : Type 1} → statement M
 pass_spec =

@@ -1,9 +1,9 @@
-use Rattle.monitor.specs.From.{transitionCount}
-use Rattle.situation.specs.Rows.{heardOf}
-use Rattle.situation.specs.Ruled.{ruledFrom}
+use Rattle.monitor.specs.From.{transition_count}
+use Rattle.situation.specs.Rows.{heard_of}
+use Rattle.situation.specs.Ruled.{ruled_from}
 use Rattle.firings.specs.Fired.{fired}
-use Rattle.firings.specs.Rested.{restedBack}
-use Rattle.images.proofs.SetLaws.{filled-two}
+use Rattle.firings.specs.Rested.{rested_back}
+use Rattle.images.proofs.SetLaws.{filled_two}
 use borrow.Author.Rules.{rules}
 use Rattle.images.proofs.back.lead.Statement.{statement}
 use Rattle.images.proofs.back.lead.Tie as tie
@@ -27,8 +27,8 @@ returns c =
     let clear = rest.before.before.before.before in
     let a = clear.before.before.before.before.before.before.before.args in
     let p = a.p in
-    filled-two (restedBack p (ruledFrom p.shape a.table.now a.offsets.now) (heardOf p.heard) a.size a.sets.now)
-    (fired p a.table.now a.offsets.now a.sets.now a.planes.now (transitionCount a.table.now)) a.out.now clear.clear.new.0 rest.rest_back.new.1.1.1.1.0 fire.fire.new.1.1.1.1.1.0 clear.clear.ensures (rest.rest_back.ensures a.offsets.now) fire.fire.ensures
+    filled_two (rested_back p (ruled_from p.shape a.table.now a.offsets.now) (heard_of p.heard) a.size a.sets.now)
+    (fired p a.table.now a.offsets.now a.sets.now a.planes.now (transition_count a.table.now)) a.out.now clear.clear.new.0 rest.rest_back.new.1.1.1.1.0 fire.fire.new.1.1.1.1.1.0 clear.clear.ensures (rest.rest_back.ensures a.offsets.now) fire.fire.ensures
 
 pub lead-spec : {M : Type 1} → statement M
 lead-spec =

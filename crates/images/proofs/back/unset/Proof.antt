@@ -1,5 +1,5 @@
 use mathlib.Core.Path.{◌∙◌}
-use Rattle.images.proofs.UnsetLaws.{unset-all}
+use Rattle.images.proofs.UnsetLaws.{unset_all}
 use borrow.Author.Rules.{rules}
 use Rattle.images.proofs.back.unset.Statement.{statement}
 use Rattle.images.proofs.back.unset.Tie as tie
@@ -50,7 +50,7 @@ returns c =
     let one = two.before.before.before.before.before.before.before.before.before.before.before in
     let s = one.before.before.before.before.before.before.before.before.before.before in
     let a = s.args in (
-      unset-all a.n a.first.weight a.first.values a.second.weight a.second.values a.low_first.now a.low_second.now
+      unset_all a.n a.first.weight a.first.values a.second.weight a.second.values a.low_first.now a.low_second.now
           a.sets.now one.unset-one.new.1.0 two.unset-one2.new.1.0 three.unset-both.new.1.0
           one.before.before.before.before.has.result two.before.before.before.before.has2.result three.before.before.before.before.has3.result s.requires.0.four
           one.unset-one.ensures.0 two.unset-one2.ensures.0 three.unset-both.ensures.0

@@ -1,8 +1,8 @@
 use mathlib.Core.Path.{refl}
 use Prim.Native.Nat.{◌*◌}
 use Rattle.words.specs.Words.{up, below}
-use Rattle.firings.specs.Folded.{set_at, spreadBy}
-use Rattle.images.proofs.UnsetLaws.{worth-some, worth-none}
+use Rattle.firings.specs.Folded.{set_at, spread_by}
+use Rattle.images.proofs.UnsetLaws.{worth_some, worth_none}
 use borrow.Author.Rules.{rules}
 use Rattle.images.proofs.back.unset_both.Statement.{statement}
 use Rattle.images.proofs.back.unset_both.Tie as tie
@@ -23,8 +23,8 @@ returns : tie.Need-returns
 returns c =
     let put = c.before.before.before.before.before.before in
     let a = put.before.before.before.before.before.before.before.before.before.before.args in (
-      worth-some a.worth (up (64 * a.n * 3) (below (64 * a.n)
-          (spreadBy a.first.weight a.first.values a.n a.low_first.now (spreadBy a.second.weight a.second.values a.n a.low_second.now (set_at a.sets.now a.n 0)))))
+      worth_some a.worth (up (64 * a.n * 3) (below (64 * a.n)
+          (spread_by a.first.weight a.first.values a.n a.low_first.now (spread_by a.second.weight a.second.values a.n a.low_second.now (set_at a.sets.now a.n 0)))))
           a.sets.now put.unreset-both.new.0 put.before.before.before.before.if1.true put.unreset-both.ensures.0,
       put.unreset-both.ensures.1,
       put.unreset-both.ensures.2,
@@ -33,8 +33,8 @@ returns c =
 returns-2 : tie.Need-returns-2
 returns-2 c =
     let a = c.before.before.before.before.before.before.args in (
-      worth-none a.worth (up (64 * a.n * 3) (below (64 * a.n)
-          (spreadBy a.first.weight a.first.values a.n a.low_first.now (spreadBy a.second.weight a.second.values a.n a.low_second.now (set_at a.sets.now a.n 0)))))
+      worth_none a.worth (up (64 * a.n * 3) (below (64 * a.n)
+          (spread_by a.first.weight a.first.values a.n a.low_first.now (spread_by a.second.weight a.second.values a.n a.low_second.now (set_at a.sets.now a.n 0)))))
           a.sets.now c.if1.false,
       refl,
       refl,

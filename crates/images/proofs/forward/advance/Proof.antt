@@ -2,7 +2,7 @@ use native.Mathlib.Omega.{arith}
 use mathlib.Core.Path.{refl, sym, ◌∙◌}
 use lib.ListN.{length}
 use Rattle.images.specs.Buffers.{Lengths}
-use Rattle.images.proofs.Advancing.{passed, failed, lengths-fit, advanced}
+use Rattle.images.proofs.Advancing.{passed, failed, lengths_fit, advanced}
 use borrow.Author.Rules.{rules}
 use Rattle.images.proofs.forward.advance.Statement.{statement}
 use Rattle.images.proofs.forward.advance.Tie as tie
@@ -12,7 +12,7 @@ is-sized-requires c κs = search rules
 
 returns : tie.Need-returns
 returns c =
-    (refl, refl, refl, refl, λ m n given within sized. absurd (failed c.before.is-sized.result c.if1.true c.before.is-sized.ensures.1 (lengths-fit given within sized)))
+    (refl, refl, refl, refl, λ m n given within sized. absurd (failed c.before.is-sized.result c.if1.true c.before.is-sized.ensures.1 (lengths_fit given within sized)))
 
 sub-low-first : tie.Need-overflow-sub-low-first
 sub-low-first c = search rules

@@ -5,13 +5,13 @@ use mathlib.Core.Bool.{false}
 use borrow.Author.Rules.{rules}
 use Rattle.situation.specs.declared.Shape.{Shape}
 use Rattle.situation.proofs.Digits.{below}
-use Rattle.images.specs.Living.{numbersOf}
-use Rattle.images.proofs.LiveLaws.{plane-near, numbers-near, place-near, inWindow, liveUpTo, live-none, live-over, live-found, live_all}
+use Rattle.images.specs.Living.{numbers_of}
+use Rattle.images.proofs.LiveLaws.{plane_near, numbers_near, place_near, in_window, live_up_to, live_none, live-over, live_found, live_all}
 use Rattle.images.proofs.live.is_live.Statement.{statement}
 use Rattle.images.proofs.live.is_live.Tie as tie
 
 abbrev invariant-loop : tie.invariant-loop
-invariant-loop s h state numbers w₀ w = (w ≤ h.windows) × (liveUpTo h s state w ≡ false)
+invariant-loop s h state numbers w₀ w = (w ≤ h.windows) × (live_up_to h s state w ≡ false)
 
 abbrev decreases-loop : tie.decreases-loop
 decreases-loop s h state numbers w₀ w = h.windows - w
@@ -22,8 +22,8 @@ entry c = c.before.before.before.before.before.before.before.before
 abbrev w : tie.After-struct-known5 invariant-loop decreases-loop → ℕ
 w c = c.before.before.before.loop.w
 
-w-near : (c : tie.After-struct-known5 invariant-loop decreases-loop) → w c < 256
-w-near c = omega (arith, (entry c).well-formed, c.before.if1.true)
+w_near : (c : tie.After-struct-known5 invariant-loop decreases-loop) → w c < 256
+w_near c = omega (arith, (entry c).well-formed, c.before.if1.true)
 
 -- what the products stay below
 module _ (s : tie.Start invariant-loop decreases-loop) where
@@ -31,22 +31,22 @@ module _ (s : tie.Start invariant-loop decreases-loop) where
   h = s.args.h
 
   plane : h.first * h.second < 4294967296
-  plane = plane-near h (omega (arith, s.good)) (omega (arith, s.good)) (omega (arith, s.good))
+  plane = plane_near h (omega (arith, s.good)) (omega (arith, s.good)) (omega (arith, s.good))
 
-  numbers : numbersOf h < 1099511627776
-  numbers = numbers-near h (omega (arith, s.good)) (omega (arith, s.good)) (omega (arith, s.good))
+  numbers : numbers_of h < 1099511627776
+  numbers = numbers_near h (omega (arith, s.good)) (omega (arith, s.good)) (omega (arith, s.good))
 
   row : (w : ℕ) → w < 256 → s.args.state + h.states * w < 65536
   row w l = below 256 256 s.args.state h.states w (omega (arith, s.good)) (omega (arith, s.good)) l
 
-  place : (w : ℕ) → w < 256 → numbersOf h * (s.args.state + h.states * w) < 72057594037927936
-  place w l = place-near h (omega (arith, s.good)) (omega (arith, s.good)) (omega (arith, s.good)) (s.args.state + h.states * w) (row w l)
+  place : (w : ℕ) → w < 256 → numbers_of h * (s.args.state + h.states * w) < 72057594037927936
+  place w l = place_near h (omega (arith, s.good)) (omega (arith, s.good)) (omega (arith, s.good)) (s.args.state + h.states * w) (row w l)
 
 -- what is found in one window
-told : (c : tie.After-any-in invariant-loop decreases-loop) → let a = (entry c.before).args in c.any-in.result ≡ inWindow a.h a.s.now a.state (w c.before)
+told : (c : tie.After-any-in invariant-loop decreases-loop) → let a = (entry c.before).args in c.any-in.result ≡ in_window a.h a.s.now a.state (w c.before)
 told c =
     let s = entry c.before in
-    c.any-in.ensures (omega (arith, place s (w c.before) (w-near c.before))) (omega (arith, numbers s))
+    c.any-in.ensures (omega (arith, place s (w c.before) (w_near c.before))) (omega (arith, numbers s))
 
 cast-numbers : tie.Need-overflow-cast-numbers invariant-loop decreases-loop
 cast-numbers c = search rules
@@ -66,7 +66,7 @@ mul-numbers-2 c = omega (arith, numbers c.before.before.before.before)
 loop-holds : tie.Need-loop-init invariant-loop decreases-loop
 loop-holds c =
     let a = c.before.before.before.before.args in
-    (omega arith, live-none a.h a.s.now a.state)
+    (omega arith, live_none a.h a.s.now a.state)
 
 cast-at : tie.Need-overflow-cast-at invariant-loop decreases-loop
 cast-at c = search rules
@@ -75,13 +75,13 @@ cast-at-2 : tie.Need-overflow-cast-at-2 invariant-loop decreases-loop
 cast-at-2 c = search rules
 
 mul_at : tie.Need-overflow-mul-at invariant-loop decreases-loop
-mul_at c = omega (arith, row (entry c) (w c) (w-near c))
+mul_at c = omega (arith, row (entry c) (w c) (w_near c))
 
 add_at : tie.Need-overflow-add-at invariant-loop decreases-loop
-add_at c = omega (arith, row (entry c) (w c) (w-near c))
+add_at c = omega (arith, row (entry c) (w c) (w_near c))
 
 mul-at-2 : tie.Need-overflow-mul-at-2 invariant-loop decreases-loop
-mul-at-2 c = omega (arith, place (entry c) (w c) (w-near c))
+mul-at-2 c = omega (arith, place (entry c) (w c) (w_near c))
 
 any-in-requires : tie.Need-any-in-requires invariant-loop decreases-loop
 any-in-requires c κs = search rules
@@ -90,7 +90,7 @@ returns : tie.Need-returns invariant-loop decreases-loop
 returns c =
     let a = (entry c.before.before).args in
     let l = c.before.before.before in
-    sym (live-found a.h a.s.now a.state (w c.before.before) l.if1.true (sym (told c.before) ∙ c.if2.true))
+    sym (live_found a.h a.s.now a.state (w c.before.before) l.if1.true (sym (told c.before) ∙ c.if2.true))
 
 add-w : tie.Need-overflow-add-w invariant-loop decreases-loop
 add-w c = search rules

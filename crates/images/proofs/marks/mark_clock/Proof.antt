@@ -4,7 +4,7 @@ use mathlib.Core.Path.{◌∙◌, ap}
 use mathlib.Core.Bool.{Bool, ◌||◌}
 use borrow.Author.Rules.{rules}
 use Rattle.words.specs.Words.{up, below}
-use Rattle.instants.specs.Digit.{isHighest}
+use Rattle.instants.specs.Digit.{is_highest}
 use Rattle.images.proofs.marks.mark_clock.Statement.{statement}
 use Rattle.images.proofs.marks.mark_clock.Tie as tie
 
@@ -33,7 +33,7 @@ returns c =
     let a = low.before.before.before.before.before.before.before.args in
     let x = low.mark-lowest.ensures.0 in
     let y = high.mark-highest.ensures.0 in (
-      λ i l. y.all i (omega (arith, x.size)) ∙ ap (λ (b : Bool). b || up (64 * a.n * (a.r + 1)) (below (64 * a.n) (isHighest a.clock.weight a.clock.values)) i) (x.all i l),
+      λ i l. y.all i (omega (arith, x.size)) ∙ ap (λ (b : Bool). b || up (64 * a.n * (a.r + 1)) (below (64 * a.n) (is_highest a.clock.weight a.clock.values)) i) (x.all i l),
       y.size ∙ x.size,
       high.mark-highest.ensures.1 ∙ low.mark-lowest.ensures.1,
       high.mark-highest.ensures.2 ∙ low.mark-lowest.ensures.2,

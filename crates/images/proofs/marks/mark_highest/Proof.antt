@@ -2,8 +2,8 @@ use Prim.Native.Nat.{◌*◌}
 use native.Mathlib.Omega.{arith}
 use mathlib.Core.Path.{◌∙◌}
 use borrow.Author.Rules.{rules}
-use Rattle.images.proofs.SetLaws.{set-near}
-use Rattle.images.proofs.MarkLaws.{highest-moved}
+use Rattle.images.proofs.SetLaws.{set_near}
+use Rattle.images.proofs.MarkLaws.{highest_moved}
 use Rattle.images.proofs.marks.mark_highest.Statement.{statement}
 use Rattle.images.proofs.marks.mark_highest.Tie as tie
 
@@ -25,7 +25,7 @@ mul-or-range c = search rules
 mul-or-range-2 : tie.Need-overflow-mul-or-range-2
 mul-or-range-2 c =
     let s = start c.before.before.before.before.before.before.before.before.before in
-    omega (arith, set-near s.args.n s.args.r s.pre.0.few s.pre.1)
+    omega (arith, set_near s.args.n s.args.r s.pre.0.few s.pre.1)
 
 mul-or-range-3 : tie.Need-overflow-mul-or-range-3
 mul-or-range-3 c = search rules
@@ -49,13 +49,13 @@ returns c =
     let most = flip.before.before.before.before.before.before in
     let s = start most in
     let a = s.args in (
-      highest-moved (64 * a.n * a.r) a.n a.clock.weight a.clock.values a.one.now flip.complement.new.0 a.marks.now range.or-range.new.0
+      highest_moved (64 * a.n * a.r) a.n a.clock.weight a.clock.values a.one.now flip.complement.new.0 a.marks.now range.or-range.new.0
           s.pre.0.first
           most.at_most.new.0
           s.pre.3
           (most.at_most.ensures.2 (omega arith) (omega arith) s.pre.2 s.pre.3)
           flip.complement.ensures
-          (range.or-range.ensures.1 (omega (arith, set-near a.n a.r s.pre.0.few s.pre.1)) (omega arith) (omega arith) (omega arith)),
+          (range.or-range.ensures.1 (omega (arith, set_near a.n a.r s.pre.0.few s.pre.1)) (omega arith) (omega arith) (omega arith)),
       flip.complement.ensures.size ∙ most.at_most.ensures.0,
       most.at_most.ensures.1,
     )

@@ -1,8 +1,8 @@
 use Prim.Native.Nat.{◌*◌}
 use native.Mathlib.Omega.{arith}
 use borrow.Author.Rules.{rules}
-use Rattle.images.proofs.SetLaws.{set-near}
-use Rattle.images.proofs.MarkLaws.{lowest-moved}
+use Rattle.images.proofs.SetLaws.{set_near}
+use Rattle.images.proofs.MarkLaws.{lowest_moved}
 use Rattle.images.proofs.marks.mark_lowest.Statement.{statement}
 use Rattle.images.proofs.marks.mark_lowest.Tie as tie
 
@@ -18,7 +18,7 @@ mul-or-range c = search rules
 mul-or-range-2 : tie.Need-overflow-mul-or-range-2
 mul-or-range-2 c =
     let s = start c.before.before.before.before.before in
-    omega (arith, set-near s.args.n s.args.r s.pre.0.few s.pre.1)
+    omega (arith, set_near s.args.n s.args.r s.pre.0.few s.pre.1)
 
 mul-or-range-3 : tie.Need-overflow-mul-or-range-3
 mul-or-range-3 c = search rules
@@ -41,10 +41,10 @@ returns c =
     let most = range.before.before.before.before.before.before.before in
     let s = start most in
     let a = s.args in (
-      lowest-moved (64 * a.n * a.r) a.n a.clock.weight a.clock.values a.one.now most.at_most.new.0 a.marks.now range.or-range.new.0
+      lowest_moved (64 * a.n * a.r) a.n a.clock.weight a.clock.values a.one.now most.at_most.new.0 a.marks.now range.or-range.new.0
           s.pre.0.first
           (most.at_most.ensures.2 (omega arith) (omega arith) s.pre.2 s.pre.3)
-          (range.or-range.ensures.1 (omega (arith, set-near a.n a.r s.pre.0.few s.pre.1)) (omega arith) (omega arith) (omega arith)),
+          (range.or-range.ensures.1 (omega (arith, set_near a.n a.r s.pre.0.few s.pre.1)) (omega arith) (omega arith) (omega arith)),
       most.at_most.ensures.0,
       most.at_most.ensures.1,
     )

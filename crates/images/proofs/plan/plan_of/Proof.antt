@@ -3,8 +3,8 @@ use Prim.Native.Nat.{◌*◌, ◌<◌}
 use borrow.Author.Rules.{rules}
 use Rattle.situation.specs.declared.Shape.{Shape}
 use Rattle.firings.proofs.Bounds.{product}
-use Rattle.images.specs.Living.{numbersOf}
-use Rattle.images.proofs.LiveLaws.{plane-near, numbers-near, place-near}
+use Rattle.images.specs.Living.{numbers_of}
+use Rattle.images.proofs.LiveLaws.{plane_near, numbers_near, place_near}
 use Rattle.images.proofs.plan.plan_of.Statement.{statement}
 use Rattle.images.proofs.plan.plan_of.Tie as tie
 
@@ -14,16 +14,16 @@ module _ (s : tie.Start) where
   h = s.args.h
 
   plane : h.first * h.second < 4294967296
-  plane = plane-near h (omega (arith, s.good)) (omega (arith, s.good)) (omega (arith, s.good))
+  plane = plane_near h (omega (arith, s.good)) (omega (arith, s.good)) (omega (arith, s.good))
 
-  numbers : numbersOf h < 1099511627776
-  numbers = numbers-near h (omega (arith, s.good)) (omega (arith, s.good)) (omega (arith, s.good))
+  numbers : numbers_of h < 1099511627776
+  numbers = numbers_near h (omega (arith, s.good)) (omega (arith, s.good)) (omega (arith, s.good))
 
   rows : h.states * h.windows < 65536
   rows = product 256 256 h.states h.windows (omega (arith, s.good)) (omega (arith, s.good))
 
-  whole : numbersOf h * (h.states * h.windows) < 72057594037927936
-  whole = place-near h (omega (arith, s.good)) (omega (arith, s.good)) (omega (arith, s.good)) (h.states * h.windows) rows
+  whole : numbers_of h * (h.states * h.windows) < 72057594037927936
+  whole = place_near h (omega (arith, s.good)) (omega (arith, s.good)) (omega (arith, s.good)) (h.states * h.windows) rows
 
 cast-plane : tie.Need-overflow-cast-plane
 cast-plane c = search rules

@@ -3,11 +3,11 @@ use native.Mathlib.Omega.{arith}
 use mathlib.Core.Path.{◌≡◌, ap, sym, ◌∙◌}
 use mathlib.Core.Option.{some}
 use borrow.Author.Rules.{rules}
-use Rattle.situation.specs.Rows.{heardOf}
-use Rattle.situation.specs.Ruled.{ruledFrom}
+use Rattle.situation.specs.Rows.{heard_of}
+use Rattle.situation.specs.Ruled.{ruled_from}
 use Rattle.situation.specs.declared.Heard.TheVariants.{Kind}
 use Rattle.firings.proofs.Bounds.{product}
-use Rattle.images.proofs.RangeLaws.{rest-free-back, rest-kind-back, rest-other-back}
+use Rattle.images.proofs.RangeLaws.{rest_free_back, rest_kind_back, rest_other_back}
 use Rattle.images.proofs.rests.rest_back.Statement.{statement}
 use Rattle.images.proofs.rests.rest_back.Tie as tie
 
@@ -20,8 +20,8 @@ entry c = start c.before.before.before
 abbrev kind : tie.After-to-unit → ℕ
 kind u = u.before.before.heard.given.0.0
 
-is-kind : (u : tie.After-to-unit) → heardOf (start u).args.p.heard ≡ some (kind u)
-is-kind u = let e : (start u).args.p.heard ≡ Kind (kind u) = cc in ap heardOf e
+is-kind : (u : tie.After-to-unit) → heard_of (start u).args.p.heard ≡ some (kind u)
+is-kind u = let e : (start u).args.p.heard ≡ Kind (kind u) = cc in ap heard_of e
 
 near : (c : tie.After-airtime-of) → (entry c).args.p.free < 4294967296
 near c = omega (arith, (entry c).well-formed)
@@ -72,8 +72,8 @@ returns c =
     let told = one.before.before in
     let a = told.before.before.before.before.before.before.args in
     λ offsets.
-    rest-free-back a.p (ruledFrom a.p.shape a.table.now offsets) (heardOf a.p.heard) a.size a.src.now a.dst.now
-    (ap heardOf told.enum_told.given.1)
+    rest_free_back a.p (ruled_from a.p.shape a.table.now offsets) (heard_of a.p.heard) a.size a.src.now a.dst.now
+    (ap heard_of told.enum_told.given.1)
     last.before.past.result
     last.before.past.ensures
     one.range.new.0
@@ -92,7 +92,7 @@ returns-2 c =
     let s = entry air in
     let a = s.args in
     λ offsets.
-    rest-kind-back a.p (ruledFrom a.p.shape a.table.now offsets) (heardOf a.p.heard) a.size a.src.now a.dst.now
+    rest_kind_back a.p (ruled_from a.p.shape a.table.now offsets) (heard_of a.p.heard) a.size a.src.now a.dst.now
     (kind u)
     (is-kind u)
     air.airtime-of.result
@@ -106,7 +106,7 @@ returns-3 c =
     let u = c.before in
     let a = (start u).args in
     λ offsets.
-    rest-other-back a.p (ruledFrom a.p.shape a.table.now offsets) (heardOf a.p.heard) a.size a.src.now a.dst.now
+    rest_other_back a.p (ruled_from a.p.shape a.table.now offsets) (heard_of a.p.heard) a.size a.src.now a.dst.now
     (kind u)
     (is-kind u)
     (sym (u.to-unit.ensures offsets) ∙ c.if1.false)

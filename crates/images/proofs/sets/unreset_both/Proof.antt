@@ -1,7 +1,7 @@
 use native.Mathlib.Omega.{arith}
 use mathlib.Core.Path.{◌∙◌}
-use Rattle.firings.specs.Folded.{set_at, spreadBy}
-use Rattle.images.proofs.SetLaws.{put-set, spread-both}
+use Rattle.firings.specs.Folded.{set_at, spread_by}
+use Rattle.images.proofs.SetLaws.{put_set, spread-both}
 use borrow.Author.Rules.{rules}
 use Rattle.images.proofs.sets.unreset_both.Statement.{statement}
 use Rattle.images.proofs.sets.unreset_both.Tie as tie
@@ -40,8 +40,8 @@ returns c =
     let first = again.before.before.before.before.before.before.before in
     let s = first.before.before.before.before.before.before.before.before.before in
     let a = s.args in (
-      put-set a.n 3
-          (spreadBy a.first.weight a.first.values a.n a.low_first.now (spreadBy a.second.weight a.second.values a.n a.low_second.now (set_at a.b.now a.n 0)))
+      put_set a.n 3
+          (spread_by a.first.weight a.first.values a.n a.low_first.now (spread_by a.second.weight a.second.values a.n a.low_second.now (set_at a.b.now a.n 0)))
           a.one.now again.spread-again.new.0 a.b.now put.or-range.new.0 s.requires.0.first
           (spread-both a.first.weight a.first.values a.second.weight a.second.values a.n a.low_first.now a.low_second.now a.b.now a.one.now first.spread-first.new.1.1.1.1.0 again.spread-again.new.0 s.requires.0.first first.spread-first.ensures.0 again.spread-again.ensures.0)
           (put.or-range.ensures.1 (omega arith) (omega arith) (omega arith) (omega arith)),

@@ -2,7 +2,7 @@ use native.Mathlib.Omega.{arith}
 use mathlib.Core.Path.{◌∙◌}
 use lib.ListN.{length-set}
 use lib.Seq.{get_or-set_same}
-use Rattle.memo.proofs.Entries.{changed-set, changed-more, changed-wider}
+use Rattle.memo.proofs.Entries.{changed-set, changed-more, changed_wider}
 use borrow.Author.Rules.{rules}
 use Rattle.memo.proofs.entry.begin.Statement.{statement}
 use Rattle.memo.proofs.entry.begin.Tie as tie
@@ -27,7 +27,7 @@ returns c =
     let put = c.before.before in
     let a = put.before.before.before.before.args in
     let begun = changed-set a.memo.now a.at a.tag in (
-      changed-more (changed-wider begun (omega arith) (omega arith)) put.put.ensures.0 (omega arith) (omega arith),
+      changed-more (changed_wider begun (omega arith) (omega arith)) put.put.ensures.0 (omega arith) (omega arith),
       put.put.ensures.0.under a.at (omega arith) ∙ get_or-set_same a.memo.now a.at a.tag 0 (omega arith),
       put.put.ensures.1,
     )

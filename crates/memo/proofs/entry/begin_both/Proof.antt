@@ -1,7 +1,7 @@
 use Prim.Native.Nat.{◌+◌}
 use native.Mathlib.Omega.{arith}
 use mathlib.Core.Path.{◌∙◌}
-use Rattle.memo.proofs.Entries.{changed-more, changed-wider, held-under}
+use Rattle.memo.proofs.Entries.{changed-more, changed_wider, held_under}
 use borrow.Author.Rules.{rules}
 use Rattle.memo.proofs.entry.begin_both.Statement.{statement}
 use Rattle.memo.proofs.entry.begin_both.Tie as tie
@@ -26,9 +26,9 @@ returns c =
     let put = c.before.before in
     let begun = put.before.before.before.before in
     let a = begun.before.before.before.before.before.args in (
-      changed-more (changed-wider begun.begin.ensures.0 (omega arith) (omega arith)) put.put.ensures.0 (omega arith) (omega arith),
+      changed-more (changed_wider begun.begin.ensures.0 (omega arith) (omega arith)) put.put.ensures.0 (omega arith) (omega arith),
       put.put.ensures.0.under a.at (omega arith) ∙ begun.begin.ensures.1,
-      held-under (a.at + 1) a.a.now put.put.ensures.0 (omega arith) begun.begin.ensures.2,
+      held_under (a.at + 1) a.a.now put.put.ensures.0 (omega arith) begun.begin.ensures.2,
       put.put.ensures.1,
     )
 

@@ -2,7 +2,7 @@ use Prim.Native.Nat.{ℕ, ◌+◌, ◌-◌, ◌≤◌, ◌<◌}
 use native.Mathlib.Omega.{arith}
 use mathlib.Core.Path.{◌≡◌, refl, ◌∙◌}
 use lib.ListN.{length, get_or, length-set}
-use Rattle.memo.proofs.Entries.{got-more}
+use Rattle.memo.proofs.Entries.{got_more}
 use borrow.Author.Rules.{rules}
 use Rattle.memo.proofs.entry.get.Statement.{statement}
 use Rattle.memo.proofs.entry.get.Tie as tie
@@ -42,7 +42,7 @@ loop-again c =
     let at-loop = c.before.before in
     let a = at-loop.before.args in
     let s = at-loop.loop.s in
-    (omega arith, length-set s _ _ ∙ at-loop.loop.invariant.1, got-more a.memo.now a.at at-loop.loop.k s (omega arith) at-loop.loop.invariant.2)
+    (omega arith, length-set s _ _ ∙ at-loop.loop.invariant.1, got_more a.memo.now a.at at-loop.loop.k s (omega arith) at-loop.loop.invariant.2)
 
 same_length : tie.Need-same-length invariant-loop decreases-loop
 same_length c = search rules

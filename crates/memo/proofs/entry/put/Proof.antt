@@ -3,7 +3,7 @@ use native.Mathlib.Omega.{arith}
 use mathlib.Core.Path.{◌≡◌}
 use lib.ListN.{length, get_or}
 use Rattle.memo.specs.Changed.{Changed}
-use Rattle.memo.proofs.Entries.{unchanged, changed-wider, put-more, held_more}
+use Rattle.memo.proofs.Entries.{unchanged, changed_wider, put_more, held_more}
 use borrow.Author.Rules.{rules}
 use Rattle.memo.proofs.entry.put.Statement.{statement}
 use Rattle.memo.proofs.entry.put.Tie as tie
@@ -45,7 +45,7 @@ loop-again c =
     let memo = at-loop.loop.memo in
     let l : a.at + at-loop.loop.k < length memo = omega (arith, at-loop.loop.invariant.1.size) in (
       omega arith,
-      put-more a.s.now a.at at-loop.loop.k a.memo.now memo l at-loop.loop.invariant.1,
+      put_more a.s.now a.at at-loop.loop.k a.memo.now memo l at-loop.loop.invariant.1,
       held_more a.s.now a.at at-loop.loop.k a.memo.now memo l at-loop.loop.invariant.2,
     )
 
@@ -55,7 +55,7 @@ same_length c = search rules
 returns : tie.Need-returns invariant-loop decreases-loop
 returns c =
     let at-loop = c.before in
-    (changed-wider at-loop.loop.invariant.1 (omega arith) (omega arith), record { same = λ i l. at-loop.loop.invariant.2 i (omega arith) })
+    (changed_wider at-loop.loop.invariant.1 (omega arith) (omega arith), record { same = λ i l. at-loop.loop.invariant.2 i (omega arith) })
 
 pub put_spec : {M : Type 1} → statement M
 put_spec =

@@ -1,5 +1,5 @@
 use native.Mathlib.Omega.{arith}
-use Rattle.memo.proofs.Entries.{before-next, starts-at, starts_first}
+use Rattle.memo.proofs.Entries.{before_next, starts_at, starts_first}
 use borrow.Author.Rules.{rules}
 use Rattle.memo.proofs.slot.place.Statement.{statement}
 use Rattle.memo.proofs.slot.place.Tie as tie
@@ -26,13 +26,13 @@ mul-result : tie.Need-overflow-mul-result
 mul-result c =
     let found = c.before.before.before.before in
     let a = found.before.before.args in
-    record { fits = omega (arith, before-next a.w c.spread.result found.entries.result c.spread.ensures, found.entries.ensures.1) }
+    record { fits = omega (arith, before_next a.w c.spread.result found.entries.result c.spread.ensures, found.entries.ensures.1) }
 
 returns-3 : tie.Need-returns-3
 returns-3 c =
     let found = c.before.before.before.before in
     let a = found.before.before.args in
-    λ h. starts-at a.w c.spread.result found.entries.result a.long c.spread.ensures found.entries.ensures.1
+    λ h. starts_at a.w c.spread.result found.entries.result a.long c.spread.ensures found.entries.ensures.1
 
 pub place-spec : {M : Type 1} → statement M
 place-spec =

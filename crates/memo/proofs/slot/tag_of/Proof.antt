@@ -1,7 +1,7 @@
 use Rattle.memo.specs.Known.{tag_of}
 use mathlib.Core.Path.{ap, sym}
 use Rattle.situation.specs.declared.Heard.{Heard}
-use Rattle.situation.specs.Rows.{heardOf}
+use Rattle.situation.specs.Rows.{heard_of}
 use borrow.Author.Rules.{rules}
 use Rattle.memo.proofs.slot.tag_of.Statement.{statement}
 use Rattle.memo.proofs.slot.tag_of.Tie as tie
@@ -24,7 +24,7 @@ returns c = search rules
 
 returns-2 : tie.Need-returns-2
 unfolding tag_of
-returns-2 c = ap (λ (h : Heard). tag_of (heardOf h)) (sym c.before.heard.given.1)
+returns-2 c = ap (λ (h : Heard). tag_of (heard_of h)) (sym c.before.heard.given.1)
 
 pub tag-of-spec : {M : Type 1} → statement M
 tag-of-spec =

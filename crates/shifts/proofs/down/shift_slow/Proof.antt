@@ -1,6 +1,6 @@
-use Rattle.words.proofs.Sets.{fill-word}
+use Rattle.words.proofs.Sets.{fill_word}
 use Rattle.words.specs.Words.{Upto}
-use Rattle.shifts.specs.Shifted.{shiftedDown}
+use Rattle.shifts.specs.Shifted.{shifted_down}
 use lib.ListN.{length, length-set}
 use native.Mathlib.Omega.{arith}
 use Prim.Native.Nat.{◌-◌, ◌≤◌}
@@ -10,7 +10,7 @@ use Rattle.shifts.proofs.down.shift_slow.Statement.{statement}
 use Rattle.shifts.proofs.down.shift_slow.Tie as tie
 
 abbrev invariant-loop : tie.invariant-loop
-invariant-loop dst₀ src k keep cut v w₀ dst w = (w ≤ length dst₀) × (length dst ≡ length dst₀) × Upto (shiftedDown src k keep cut) w dst
+invariant-loop dst₀ src k keep cut v w₀ dst w = (w ≤ length dst₀) × (length dst ≡ length dst₀) × Upto (shifted_down src k keep cut) w dst
 
 abbrev decreases-loop : tie.decreases-loop
 decreases-loop dst₀ src k keep cut v w₀ dst w = length dst₀ - w
@@ -43,7 +43,7 @@ loop-again c =
     let dst = at-loop.loop.dst in (
       omega arith,
       length-set dst w x ∙ at-loop.loop.invariant.1,
-      record { all = fill-word (shiftedDown a.src.now a.k a.keep.now a.cut.now) dst w x (omega arith) c.word-shifted.ensures at-loop.loop.invariant.2.all },
+      record { all = fill_word (shifted_down a.src.now a.k a.keep.now a.cut.now) dst w x (omega arith) c.word-shifted.ensures at-loop.loop.invariant.2.all },
     )
 
 same_length : tie.Need-same-length invariant-loop decreases-loop

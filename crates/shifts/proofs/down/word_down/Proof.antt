@@ -1,4 +1,4 @@
-use Rattle.shifts.proofs.Moved.{down-bits}
+use Rattle.shifts.proofs.Moved.{down_bits}
 use borrow.Author.Rules.{rules}
 use Rattle.shifts.proofs.down.word_down.Statement.{statement}
 use Rattle.shifts.proofs.down.word_down.Tie as tie
@@ -29,7 +29,7 @@ returns c =
     let x = c.before.word in
     let y = c.word2 in
     let a = c.before.before.before.args in
-    down-bits a.a.now a.w a.k x.result y.result x.ensures.0 y.ensures.0 x.ensures.1
+    down_bits a.a.now a.w a.k x.result y.result x.ensures.0 y.ensures.0 x.ensures.1
 
 pub word-down-spec : {M : Type 1} → statement M
 word-down-spec =

@@ -1,4 +1,4 @@
-use Rattle.shifts.proofs.Moved.{down-bits, shifted-down-bits}
+use Rattle.shifts.proofs.Moved.{down_bits, shifted_down_bits}
 use Prim.Native.Nat.{◌+◌, ◌/◌}
 use mathlib.Core.Path.{refl}
 use borrow.Author.Rules.{rules}
@@ -58,8 +58,8 @@ returns c =
     let a = x-of.before.args in
     let src = a.src.now in
     let w = a.w in
-    shifted-down-bits src a.keep.now a.cut.now w a.k _ _ _ _
-    (down-bits src w a.k _ _ refl refl (x-of.shared-slice-known.given (w + a.k / 64)).fits)
+    shifted_down_bits src a.keep.now a.cut.now w a.k _ _ _ _
+    (down_bits src w a.k _ _ refl refl (x-of.shared-slice-known.given (w + a.k / 64)).fits)
     refl refl refl (cut_of.shared-slice-known3.given w).fits (src-of.shared-slice-known4.given w).fits
 
 pub word-inner-spec : {M : Type 1} → statement M

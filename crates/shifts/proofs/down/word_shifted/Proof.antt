@@ -1,4 +1,4 @@
-use Rattle.shifts.proofs.Moved.{shifted-down-bits}
+use Rattle.shifts.proofs.Moved.{shifted_down_bits}
 use borrow.Author.Rules.{rules}
 use Rattle.shifts.proofs.down.word_shifted.Statement.{statement}
 use Rattle.shifts.proofs.down.word_shifted.Tie as tie
@@ -22,7 +22,7 @@ returns c =
     let z = c.before.before.word in
     let u = c.before.before.before.word-down in
     let a = c.before.before.before.before.before.before.before.args in
-    shifted-down-bits a.src.now a.keep.now a.cut.now a.w a.k u.result x.result y.result z.result u.ensures z.ensures.0 x.ensures.0 y.ensures.0 z.ensures.1 x.ensures.1
+    shifted_down_bits a.src.now a.keep.now a.cut.now a.w a.k u.result x.result y.result z.result u.ensures z.ensures.0 x.ensures.0 y.ensures.0 z.ensures.1 x.ensures.1
 
 pub word-shifted-spec : {M : Type 1} → statement M
 word-shifted-spec =

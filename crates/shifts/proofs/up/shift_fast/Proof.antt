@@ -1,4 +1,4 @@
-use Rattle.words.proofs.Sets.{fill-word}
+use Rattle.words.proofs.Sets.{fill_word}
 use Rattle.words.specs.Words.{Upto}
 use Rattle.shifts.specs.Shifted.{shifted}
 use lib.ListN.{length, length-set}
@@ -46,7 +46,7 @@ loop-again c =
       omega arith,
       omega arith,
       length-set dst w x ∙ at-loop.loop.invariant.2,
-      record { all = fill-word (shifted a.src.now a.k a.keep.now a.cut.now) dst w x (omega (arith, at-loop.before.before.before.before.before.requires.1)) c.word-inner.ensures at-loop.loop.invariant.3.all },
+      record { all = fill_word (shifted a.src.now a.k a.keep.now a.cut.now) dst w x (omega (arith, at-loop.before.before.before.before.before.requires.1)) c.word-inner.ensures at-loop.loop.invariant.3.all },
     )
 
 same_length : tie.Need-same-length invariant-loop decreases-loop

@@ -1,4 +1,4 @@
-use Rattle.shifts.proofs.Moved.{before-bits, before-none}
+use Rattle.shifts.proofs.Moved.{before-bits, before_none}
 use borrow.Author.Rules.{rules}
 use Rattle.shifts.proofs.up.word_before.Statement.{statement}
 use Rattle.shifts.proofs.up.word_before.Tie as tie
@@ -14,7 +14,7 @@ returns c =
 returns-2 : tie.Need-returns-2
 returns-2 c =
     let a = c.before.before.args in
-    before-none a.a.now a.k a.by c.if1.false
+    before_none a.a.now a.k a.by c.if1.false
 
 pub word-before-spec : {M : Type 1} → statement M
 word-before-spec = tie.close (tie.spec word-requires returns returns-2)

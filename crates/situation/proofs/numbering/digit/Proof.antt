@@ -2,7 +2,7 @@ use native.Mathlib.Omega.{arith}
 use native.Mathlib.Nat.{mod-lt}
 use borrow.Author.Rules.{rules}
 use borrow.Author.Tests.{eq-eqb, ne_eqb}
-use Rattle.situation.specs.Numbering.{digitBy}
+use Rattle.situation.specs.Numbering.{digit_by}
 use Rattle.situation.proofs.numbering.digit.Statement.{statement}
 use Rattle.situation.proofs.numbering.digit.Tie as tie
 
@@ -10,11 +10,11 @@ rem-result : tie.Need-nonzero-rem-result
 rem-result c = search rules
 
 returns : tie.Need-returns
-unfolding digitBy
+unfolding digit_by
 returns c = (simp (eq-eqb _ _ c.if1.true), omega arith)
 
 returns-2 : tie.Need-returns-2
-unfolding digitBy
+unfolding digit_by
 returns-2 c = (simp (ne_eqb _ _ c.if1.false), omega (arith, mod-lt c.before.args.n {m = c.before.args.radix} (search rules)))
 
 pub digit-spec : {M : Type 1} → statement M

@@ -1,7 +1,7 @@
 use Prim.Native.Nat.{◌<◌}
 use native.Mathlib.Omega.{arith}
 use borrow.Author.Rules.{rules}
-use Rattle.situation.specs.Numbering.{numberBy}
+use Rattle.situation.specs.Numbering.{number_by}
 use Rattle.situation.proofs.Digits.{below}
 use Rattle.situation.proofs.numbering.number.Statement.{statement}
 use Rattle.situation.proofs.numbering.number.Tie as tie
@@ -80,7 +80,7 @@ over-requires-5 : tie.Need-over-requires-5
 over-requires-5 c κs = second_below c
 
 returns : tie.Need-returns
-unfolding numberBy
+unfolding number_by
 returns c = cc
 
 pub number-spec : {M : Type 1} → statement M

@@ -1,6 +1,6 @@
 use borrow.Author.Rules.{rules}
 use borrow.Author.Tests.{eq-eqb, ne_eqb}
-use Rattle.situation.specs.Numbering.{restBy}
+use Rattle.situation.specs.Numbering.{rest_by}
 use Rattle.situation.proofs.numbering.rest.Statement.{statement}
 use Rattle.situation.proofs.numbering.rest.Tie as tie
 
@@ -8,11 +8,11 @@ div-result : tie.Need-nonzero-div-result
 div-result c = search rules
 
 returns : tie.Need-returns
-unfolding restBy
+unfolding rest_by
 returns c = simp (eq-eqb _ _ c.if1.true)
 
 returns-2 : tie.Need-returns-2
-unfolding restBy
+unfolding rest_by
 returns-2 c = simp (ne_eqb _ _ c.if1.false)
 
 pub rest-spec : {M : Type 1} → statement M

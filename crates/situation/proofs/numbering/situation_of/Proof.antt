@@ -1,5 +1,5 @@
 use borrow.Author.Rules.{rules}
-use Rattle.situation.specs.Numbering.{situationBy}
+use Rattle.situation.specs.Numbering.{situation_by}
 use Rattle.situation.proofs.numbering.situation_of.Statement.{statement}
 use Rattle.situation.proofs.numbering.situation_of.Tie as tie
 
@@ -49,7 +49,7 @@ cast-t18 : tie.Need-overflow-cast-t18
 cast-t18 c = search rules
 
 returns : tie.Need-returns
-unfolding situationBy
+unfolding situation_by
 returns c = cc
 
 pub situation-of-spec : {M : Type 1} → statement M

@@ -9,15 +9,15 @@ is-at-requires : tie.Need-is-at-requires
 is-at-requires c κs = search rules
 
 add-result : tie.Need-overflow-add-result
-add-result c = omega (arith, c.before.is-at.ensures.1 c.if1.true)
+add-result c = omega (arith, c.before.is_at_lem.ensures.1 c.if1.true)
 
 returns : tie.Need-returns
 unfolding passed_by
-returns c = simp (sym c.before.is-at.ensures.0 ∙ c.if1.true)
+returns c = simp (sym c.before.is_at_lem.ensures.0 ∙ c.if1.true)
 
 returns-2 : tie.Need-returns-2
 unfolding passed_by
-returns-2 c = simp (sym c.before.is-at.ensures.0 ∙ c.if1.false)
+returns-2 c = simp (sym c.before.is_at_lem.ensures.0 ∙ c.if1.false)
 
 pub passed-spec : {M : Type 1} → statement M
 passed-spec = tie.close (tie.spec is-at-requires add-result returns returns-2)

@@ -1,5 +1,5 @@
-use Rattle.words.proofs.AnyBelow.{any_none, any_next, any-hit, any-end}
-use Rattle.words.specs.Words.{mem, anyBelow}
+use Rattle.words.proofs.AnyBelow.{any_none, any_next, any_hit, any_end}
+use Rattle.words.specs.Words.{mem, any_below}
 use mathlib.Core.Bool.{false}
 use mathlib.Core.Path.{◌≡◌, sym}
 use Prim.Native.Nat.{◌+◌, ◌-◌, ◌*◌, ◌≤◌}
@@ -9,7 +9,7 @@ use Rattle.words.proofs.whole.any_words.Statement.{statement}
 use Rattle.words.proofs.whole.any_words.Tie as tie
 
 abbrev invariant-loop : tie.invariant-loop
-invariant-loop a k n e j₀ j = (k ≤ j) × (j ≤ e) × (anyBelow (λ i. mem a (64 * k + i)) (64 * (j - k)) ≡ false)
+invariant-loop a k n e j₀ j = (k ≤ j) × (j ≤ e) × (any_below (λ i. mem a (64 * k + i)) (64 * (j - k)) ≡ false)
 
 abbrev decreases-loop : tie.decreases-loop
 decreases-loop a k n e j₀ j = e - j
@@ -27,7 +27,7 @@ returns : tie.Need-returns invariant-loop decreases-loop
 returns c =
     let a = c.before.before.before.before.args in
     let s = a.a.now in
-    sym (any-end s a.k a.n a.k (omega arith) (omega arith) (omega (arith, c.before.before.past.ensures, c.before.lesser.ensures, c.if1.true)) (any_none (λ i. mem s (64 * a.k + i)) (64 * (a.k - a.k)) (λ i l. absurd (omega arith))))
+    sym (any_end s a.k a.n a.k (omega arith) (omega arith) (omega (arith, c.before.before.past.ensures, c.before.lesser.ensures, c.if1.true)) (any_none (λ i. mem s (64 * a.k + i)) (64 * (a.k - a.k)) (λ i l. absurd (omega arith))))
 
 empty-to-requires : tie.Need-empty-to-requires invariant-loop decreases-loop
 empty-to-requires c κs = (omega (arith, c.if1.false), omega (arith, c.before.before.past.ensures, c.before.lesser.ensures))
@@ -47,7 +47,7 @@ returns-2 c =
     let at-loop = known.before.before in
     let a = at-loop.before.before.before.before.before.before.args in
     let j = at-loop.loop.j in
-    sym (any-hit a.a.now a.k a.n j at-loop.loop.invariant.0 (known.shared-slice-known2.given j).fits c.if2.true (omega (arith, at-loop.before.before.before.before.past.ensures, at-loop.before.before.before.lesser.ensures)))
+    sym (any_hit a.a.now a.k a.n j at-loop.loop.invariant.0 (known.shared-slice-known2.given j).fits c.if2.true (omega (arith, at-loop.before.before.before.before.past.ensures, at-loop.before.before.before.lesser.ensures)))
 
 add-j : tie.Need-overflow-add-j invariant-loop decreases-loop
 add-j c = search rules
@@ -68,7 +68,7 @@ returns-3 c =
     let at-loop = c.before in
     let a = at-loop.before.before.before.before.before.before.args in
     let j = at-loop.loop.j in
-    sym (any-end a.a.now a.k a.n j at-loop.loop.invariant.0 (omega (arith, at-loop.before.before.before.before.past.ensures, at-loop.before.before.before.lesser.ensures)) (omega (arith, at-loop.before.before.before.before.past.ensures, at-loop.before.before.before.lesser.ensures)) at-loop.loop.invariant.2)
+    sym (any_end a.a.now a.k a.n j at-loop.loop.invariant.0 (omega (arith, at-loop.before.before.before.before.past.ensures, at-loop.before.before.before.lesser.ensures)) (omega (arith, at-loop.before.before.before.before.past.ensures, at-loop.before.before.before.lesser.ensures)) at-loop.loop.invariant.2)
 
 pub any-words-spec : {M : Type 1} → statement M
 any-words-spec =

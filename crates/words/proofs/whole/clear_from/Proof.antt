@@ -1,4 +1,4 @@
-use Rattle.words.proofs.Parts.{part-from, part-more, part-is, zero_bits}
+use Rattle.words.proofs.Parts.{part_from, part_more, part_is, zero_bits}
 use Rattle.words.specs.Words.{mem, below, Part}
 use borrow.Author.Tests.{le-ltb}
 use lib.ListN.{length}
@@ -15,7 +15,7 @@ abbrev decreases-loop : tie.decreases-loop
 decreases-loop a₀ k j₀ a j = length a₀ - j
 
 loop-holds : tie.Need-loop-init invariant-loop decreases-loop
-loop-holds c = (omega arith, part-from c.args.a.now c.args.k)
+loop-holds c = (omega arith, part_from c.args.a.now c.args.k)
 
 mul-a : tie.Need-overflow-mul-a invariant-loop decreases-loop
 mul-a c = search rules
@@ -37,7 +37,7 @@ loop-again c =
     let j = at-loop.loop.j in
     let from = at-loop.loop.invariant.0 in (
       omega arith,
-      part-more (below (64 * a.k) (mem a.a.now)) a.a.now at-loop.loop.a j at-loop.loop.invariant.1 0 (omega arith)
+      part_more (below (64 * a.k) (mem a.a.now)) a.a.now at-loop.loop.a j at-loop.loop.invariant.1 0 (omega arith)
           (zero_bits 64 (λ i. below (64 * a.k) (mem a.a.now) (64 * j + i)) (λ i l. simp (le-ltb (64 * j + i) (64 * a.k) (omega arith)))),
     )
 
@@ -48,7 +48,7 @@ returns : tie.Need-returns invariant-loop decreases-loop
 returns c =
     let at-loop = c.before in
     let a = at-loop.before.args in
-    part-is (below (64 * a.k) (mem a.a.now)) a.a.now at-loop.loop.a at-loop.loop.j at-loop.loop.invariant.1 (omega arith)
+    part_is (below (64 * a.k) (mem a.a.now)) a.a.now at-loop.loop.a at-loop.loop.j at-loop.loop.invariant.1 (omega arith)
 
 pub clear-from-spec : {M : Type 1} → statement M
 clear-from-spec =

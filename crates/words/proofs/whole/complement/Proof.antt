@@ -1,4 +1,4 @@
-use Rattle.words.proofs.Parts.{part_none, part-more, part-word, part-is, not-bits}
+use Rattle.words.proofs.Parts.{part_none, part_more, part_word, part_is, not_bits}
 use Rattle.words.specs.Words.{mem, Part}
 use mathlib.Core.Bool.{not}
 use lib.ListN.{length, get_or}
@@ -41,8 +41,8 @@ loop-again c =
     let a₀ = at-loop.before.args.a.now in
     let a = at-loop.loop.a in
     let k = at-loop.loop.k in
-    part-more (λ i. not (mem a₀ i)) a₀ a k at-loop.loop.invariant _ (omega arith)
-    (not-bits (λ j. mem a₀ (64 * k + j)) (get_or a k 0) (c.slice-known.given k).fits (part-word (λ i. not (mem a₀ i)) a₀ a k at-loop.loop.invariant (c.slice-known.given k).fits))
+    part_more (λ i. not (mem a₀ i)) a₀ a k at-loop.loop.invariant _ (omega arith)
+    (not_bits (λ j. mem a₀ (64 * k + j)) (get_or a k 0) (c.slice-known.given k).fits (part_word (λ i. not (mem a₀ i)) a₀ a k at-loop.loop.invariant (c.slice-known.given k).fits))
 
 same_length : tie.Need-same-length invariant-loop decreases-loop
 same_length c = search rules
@@ -51,7 +51,7 @@ returns : tie.Need-returns invariant-loop decreases-loop
 returns c =
     let at-loop = c.before in
     let a₀ = at-loop.before.args.a.now in
-    part-is (λ i. not (mem a₀ i)) a₀ at-loop.loop.a at-loop.loop.k at-loop.loop.invariant (omega arith)
+    part_is (λ i. not (mem a₀ i)) a₀ at-loop.loop.a at-loop.loop.k at-loop.loop.invariant (omega arith)
 
 pub complement-spec : {M : Type 1} → statement M
 complement-spec =

@@ -1,4 +1,4 @@
-use Rattle.words.proofs.Parts.{part_none, part-more, whole-bits}
+use Rattle.words.proofs.Parts.{part_none, part_more, whole-bits}
 use Rattle.words.specs.Words.{mem, Part}
 use Prim.Native.Nat.{ℕ, ◌-◌, ◌≤◌}
 use mathlib.Core.Path.{◌≡◌, subst}
@@ -39,7 +39,7 @@ loop-again c =
     let at-loop = c.before.before in
     let a = at-loop.before.args in
     let k = at-loop.loop.k in
-    (omega arith, part-more (mem a.src.now) a.dst.now at-loop.loop.dst k at-loop.loop.invariant.1 _ (omega (arith, at-loop.loop.invariant.1.size)) (whole-bits a.src.now k (c.shared-slice-known.given k).fits))
+    (omega arith, part_more (mem a.src.now) a.dst.now at-loop.loop.dst k at-loop.loop.invariant.1 _ (omega (arith, at-loop.loop.invariant.1.size)) (whole-bits a.src.now k (c.shared-slice-known.given k).fits))
 
 same_length : tie.Need-same-length invariant-loop decreases-loop
 same_length c = search rules

@@ -1,5 +1,5 @@
-use Rattle.words.proofs.AnyBelow.{any_none, any-eight}
-use Rattle.words.specs.Words.{mem, anyBelow}
+use Rattle.words.proofs.AnyBelow.{any_none, any_eight}
+use Rattle.words.specs.Words.{mem, any_below}
 use mathlib.Core.Bool.{false}
 use mathlib.Core.Path.{◌≡◌}
 use Prim.Native.Nat.{◌+◌, ◌-◌, ◌*◌, ◌≤◌}
@@ -9,7 +9,7 @@ use Rattle.words.proofs.whole.empty_to.Statement.{statement}
 use Rattle.words.proofs.whole.empty_to.Tie as tie
 
 abbrev invariant-loop : tie.invariant-loop
-invariant-loop a k e j₀ j = (k ≤ j) × (j ≤ e) × (anyBelow (λ i. mem a (64 * k + i)) (64 * (j - k)) ≡ false)
+invariant-loop a k e j₀ j = (k ≤ j) × (j ≤ e) × (any_below (λ i. mem a (64 * k + i)) (64 * (j - k)) ≡ false)
 
 abbrev decreases-loop : tie.decreases-loop
 decreases-loop a k e j₀ j = e - j
@@ -104,7 +104,7 @@ loop-again : tie.Need-loop-preserved invariant-loop decreases-loop
 loop-again c =
     let at-loop = c.before.before.before.before.before.before.before.before.before.before in
     let a = at-loop.before.args in
-    (omega arith, omega arith, any-eight a.a.now a.k at-loop.loop.j at-loop.loop.invariant.0 c.if1.false at-loop.loop.invariant.2)
+    (omega arith, omega arith, any_eight a.a.now a.k at-loop.loop.j at-loop.loop.invariant.0 c.if1.false at-loop.loop.invariant.2)
 
 returns-2 : tie.Need-returns-2 invariant-loop decreases-loop
 returns-2 c = c.before.loop.invariant

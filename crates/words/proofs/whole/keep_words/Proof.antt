@@ -1,5 +1,5 @@
-use Rattle.words.proofs.Parts.{part_none, part-more, part-word, whole-bits}
-use Rattle.words.proofs.Sets.{and-bits}
+use Rattle.words.proofs.Parts.{part_none, part_more, part_word, whole-bits}
+use Rattle.words.proofs.Sets.{and_bits}
 use Rattle.words.specs.Words.{mem, Part}
 use mathlib.Core.Bool.{Bool, ◌&&◌}
 use mathlib.Core.Path.{◌≡◌, subst}
@@ -53,8 +53,8 @@ loop-again c =
     let part = at-loop.loop.invariant.1 in
     let p : ℕ → Bool = λ i. mem a i && mem b i in (
       omega arith,
-      part-more p a at-loop.loop.a k part _ (omega (arith, part.size))
-          (and-bits 64 (λ j. mem a (64 * k + j)) (λ j. mem b (64 * k + j)) _ _ (part-word p a at-loop.loop.a k part (c.before.slice-known.given k).fits) (whole-bits b k (c.shared-slice-known.given k).fits)),
+      part_more p a at-loop.loop.a k part _ (omega (arith, part.size))
+          (and_bits 64 (λ j. mem a (64 * k + j)) (λ j. mem b (64 * k + j)) _ _ (part_word p a at-loop.loop.a k part (c.before.slice-known.given k).fits) (whole-bits b k (c.shared-slice-known.given k).fits)),
     )
 
 same_length : tie.Need-same-length invariant-loop decreases-loop
