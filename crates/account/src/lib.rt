@@ -1,4 +1,7 @@
 // One pass over a witness's rows against a table and a recording, by their bytes, under a rule (R-7).
+
+#![tactic(auto)]
+
 ghost use Rattle.std.specs.Prelude.{◌≡◌, List, cond, ◌+◌, ◌<◌, ◌≤◌, eqb, length, get_or, drop};
 ghost use Rattle.std.proofs.Math.Option.{none};
 ghost use Rattle.model.specs.Monitor.{wait};
@@ -18,7 +21,7 @@ use wire::word;
 use witness::{Entry, count_at, in_place, no_row, row_at};
 
 // What the rows so far have come to. While there is no row before, its time is 0. The window says which of the last rows are guesses, as a mask.
-#[derive(Drop)]
+#[derive(Clone, Copy)]
 struct Standing {
     before: Entry,
     next: u16,
@@ -29,7 +32,7 @@ struct Standing {
 }
 
 // Whether a row breaks no rule, and where it leads.
-#[derive(Drop)]
+#[derive(Clone, Copy)]
 struct Step {
     sound: bool,
     to: Standing,

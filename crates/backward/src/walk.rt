@@ -27,7 +27,7 @@ use wire::{byte, place, short};
 use witness::{Entry, row_bytes};
 
 // Where the walk is between two instants: a situation's number, the recording's cursor, and how many rows are written.
-#[derive(Drop)]
+#[derive(Clone, Copy)]
 struct Place {
     number: u64,
     cursor: usize,

@@ -1,4 +1,7 @@
 // A batch of recorded cases as bytes: the heads of its cases, what lent bytes hold before a call, the parts that a case gives, and the sum over what a call leaves.
+
+#![tactic(auto)]
+
 pub mod parts;
 pub mod sums;
 
@@ -9,7 +12,7 @@ ghost use Rattle.batch.specs.Batch.{HeadAt, pattern_at};
 use model::Rule;
 use wire::{byte, long};
 
-#[derive(Drop)]
+#[derive(Clone, Copy)]
 pub struct Head {
     pub call: u8,
     pub rule: Rule,

@@ -1,4 +1,7 @@
 // A set of numbers in lent bytes: number i is bit i % 8 of byte i / 8. Contracts speak of membership, for every number.
+
+#![tactic(auto)]
+
 ghost use Rattle.std.specs.Prelude.{◌≡◌, ◌≤◌, length, replicate};
 ghost use Rattle.bits.specs.Member.{mem, PutIn};
 ghost use Rattle.bits.specs.Words.{in_word, WordOf};

@@ -18,7 +18,7 @@ use tables::write_table;
 use witnesses::write_witness;
 
 // The numbers of an answer, the two counts of a rejection, and the sum over the parts that were read back, 1 where none are.
-#[derive(Drop)]
+#[derive(Clone, Copy)]
 pub(crate) struct Outcome {
     pub numbers: Answer,
     pub early: u64,

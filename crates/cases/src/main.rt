@@ -4,6 +4,9 @@
 // parts, 16 read them back too; under a rule 17 validate and 18 check, in edition 2 19 and 20), the rule's device, window and most, then six
 // four-byte numbers: the budget and the lengths of scratch, room and three files. An answer is its three numbers, the two counts of a rejection, and a sum over every number of the parts that were read back, and
 // every byte of scratch and room, so that none changes unseen. A case of the desk prints the desk's lines.
+
+#![tactic(auto)]
+
 mod calls;
 
 ghost use Rattle.std.specs.Prelude.{◌+◌, ◌≤◌, length};

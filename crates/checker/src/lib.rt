@@ -1,4 +1,7 @@
 // The witness checker: what is read before the rows, and then the rows, under a rule (R-7) or under none.
+
+#![tactic(auto)]
+
 ghost use Rattle.std.specs.Prelude.{◌≡◌};
 ghost use Rattle.model.specs.Rules.{check_answer_under};
 ghost use Rattle.checker.specs.Claim.{Checks, ChecksUnder};

@@ -1,4 +1,7 @@
 // Columns of parts: the numbers that stand at even steps in bytes.
+
+#![tactic(auto)]
+
 ghost use Rattle.std.specs.Prelude.{◌≡◌, ◌+◌, ◌*◌, min};
 ghost use Rattle.model.specs.Bytes.{byte_at, word_at};
 ghost use Rattle.columns.specs.Filled.{filled};

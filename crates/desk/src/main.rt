@@ -1,11 +1,14 @@
 // The desk's program (document 01): judges the handover on standard input and prints its lines. A wrong call gets one line on standard error.
+
+#![tactic(auto)]
+
 ghost use Rattle.std.specs.Prelude.{◌<◌, length};
 ghost use Rattle.desk.specs.Program.{Within, Printed};
 
 use libc::{STDERR_FILENO, STDIN_FILENO, STDOUT_FILENO};
 
 // What reading standard input came to.
-#[derive(Drop)]
+#[derive(Clone, Copy)]
 enum Input {
     Whole { bytes: usize },
     Failed,

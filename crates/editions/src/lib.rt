@@ -1,4 +1,7 @@
 // The numbers in which the editions of a witness differ. A table and a recording have the frame of edition 1.
+
+#![tactic(auto)]
+
 ghost use Rattle.std.specs.Prelude.{◌≡◌, ◌≤◌, ◌<◌};
 ghost use Rattle.model.specs.Edition.{size_width, size_at, version_of, count_place, rows_place, most_rows, latest_time};
 

@@ -1,4 +1,7 @@
 // Validation (document 01): can the unit have kept the protocol? The verdict, its cost, and the preferred witness.
+
+#![tactic(auto)]
+
 mod judge;
 
 ghost use Rattle.std.specs.Prelude.{◌≡◌};

@@ -1,1 +1,3 @@
 // Worked examples of the definitions, by computation from bytes (proofs/). No code.
+
+#![tactic(auto)]

@@ -1,4 +1,7 @@
 // Transitions fired on whole planes of situations' numbers, forward or back. A plane has the clock values of one window, state and variables.
+
+#![tactic(auto)]
+
 ghost use Rattle.std.specs.Prelude.{◌≡◌, true, ◌||◌, List, ℕ, ◌+◌, ◌*◌, ◌%◌, ◌^◌, ◌<◌, length};
 ghost use Rattle.model.specs.Monitor.{airtime, changed};
 ghost use Rattle.words.specs.Words.{bit, Joined};
@@ -17,7 +20,7 @@ use wire::{byte, short};
 
 // What the firings of one instant share: how situations are numbered; the numbers of a plane, and of the situations whose air is free; what is recorded; the
 // states from which it is worth firing, as a mask; how far apart the sets for each reset are, and the guards of two transitions; forward or back.
-#[derive(Drop)]
+#[derive(Clone, Copy)]
 pub struct Plan {
     pub shape: Shape,
     pub heard: Heard,

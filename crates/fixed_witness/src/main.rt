@@ -1,5 +1,8 @@
 // P2 of document 01: on the small monitor, the recording (1 DATA) is accepted at cost 1, and these ten bytes stand in the witness room.
 // Each comparison is proved: the engine's contract gives what it leaves, and the definition computes on these bytes. Scratch and room are lent dirty.
+
+#![tactic(auto)]
+
 ghost use Rattle.fixed_witness.specs.Tells.{Tells};
 
 use check::{expect, same};

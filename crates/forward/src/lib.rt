@@ -1,4 +1,7 @@
 // The forward pass: the situations possible after each instant, each set in its row of the scratch, and what they cost.
+
+#![tactic(auto)]
+
 ghost use Rattle.std.specs.Prelude.{◌≡◌, List, length, ℕ, ◌+◌, ◌<◌, ◌≤◌};
 ghost use Rattle.model.specs.Recording.{packets_at};
 ghost use Rattle.model.specs.Validation.{possible_after};
@@ -17,7 +20,7 @@ use rows::{load, store};
 use situation::rows::{heard_at, passed};
 
 // How the pass ends: a situation is left after the last instant, none is after some instant, or the budget is passed.
-#[derive(Drop)]
+#[derive(Clone, Copy)]
 pub enum Outcome {
     Passed {
         cost: u64,

@@ -1,4 +1,7 @@
 // What the three kinds of bytes share: length and version in front, and writing into a room what reads as sound.
+
+#![tactic(auto)]
+
 ghost use Rattle.std.specs.Prelude.{◌≡◌};
 ghost use Rattle.model.specs.Answers.{Writes};
 ghost use Rattle.model.specs.First.{is_sound};

@@ -1,6 +1,8 @@
 // Guards in prefix form. One recursion over a guard's bytes tells where it ends, its value, the waits after which it holds, and the largest bound of a clock in it.
 // It ends since the bytes that remain grow fewer; depth is the limit that the definition sets, which a guard within its length never meets.
 
+#![tactic(auto)]
+
 ghost use Rattle.std.specs.Prelude.{◌≡◌, ◌&&◌, cond, ◌+◌, ◌<◌, max, leb, ltb, eqb};
 ghost use Rattle.model.specs.Limits.{guard_limit};
 ghost use Rattle.model.specs.Bytes.{byte_at, has_bit};
@@ -16,7 +18,7 @@ use wire::{byte, short};
 const DEPTH: u8 = GUARD_LIMIT as u8;
 
 // What is asked of a guard: the table's numbers of variables and clocks, the mask of the variables that are true, and the clock whose bound is asked.
-#[derive(Drop)]
+#[derive(Clone, Copy)]
 pub struct Question {
     pub variables: u8,
     pub clocks: u8,
@@ -24,7 +26,7 @@ pub struct Question {
     pub clock: usize,
 }
 
-#[derive(Drop)]
+#[derive(Clone, Copy)]
 pub enum Seen {
     Malformed,
     UpTo {

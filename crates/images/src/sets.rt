@@ -10,7 +10,7 @@ use strides::{spread_down, spread_up};
 use words::{any, clear, keep_common};
 
 // A clock, as a digit of a situation's number: its weight, and how many values it has.
-#[derive(Drop)]
+#[derive(Clone, Copy)]
 pub(crate) struct Clock {
     pub weight: u32,
     pub values: u32,

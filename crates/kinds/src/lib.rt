@@ -1,4 +1,7 @@
 // A kind's record in each version of a table: how long it is, where it starts, and which device sends the kind. Each function takes any bytes.
+
+#![tactic(auto)]
+
 ghost use Rattle.std.specs.Prelude.{◌≡◌, ◌≤◌};
 ghost use Rattle.model.specs.Limits.{table_versions};
 ghost use Rattle.model.specs.Table.{transition_at};

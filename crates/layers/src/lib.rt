@@ -1,4 +1,7 @@
 // The least move from a situation into a set. A set is a row of bits in the scratch.
+
+#![tactic(auto)]
+
 ghost use Rattle.std.specs.Prelude.{◌≡◌, List, ℕ, ◌-◌, ◌<◌};
 ghost use Rattle.std.proofs.Math.Option.{some};
 ghost use Rattle.model.specs.Situation.{move_limit};
@@ -17,21 +20,21 @@ use situation::{Arrival, Heard, Shape};
 use steps::arrive;
 
 // A move, and the number that it leads to: 0 where no move was found.
-#[derive(Drop)]
+#[derive(Clone, Copy)]
 pub struct Least {
     pub k: usize,
     pub to: u64,
 }
 
 // The moves lo .. hi.
-#[derive(Drop)]
+#[derive(Clone, Copy)]
 struct Range {
     lo: usize,
     hi: usize,
 }
 
 // The moves worth trying: those below kept, and those from REST to end.
-#[derive(Drop)]
+#[derive(Clone, Copy)]
 struct Tries {
     kept: usize,
     end: usize,

@@ -1,4 +1,7 @@
 // What is lent: the numbers 30 and 31.
+
+#![tactic(auto)]
+
 ghost use Rattle.std.specs.Prelude.{◌≡◌, leb};
 ghost use Rattle.model.specs.First.{unless};
 ghost use Rattle.model.specs.declared.Refusal.TheVariants.{Scratch};
@@ -9,7 +12,7 @@ use frame::sound;
 use model::{Edition, Reading, Refusal};
 
 // A lent buffer: how many bytes of it are wanted, and how many it has.
-#[derive(Drop)]
+#[derive(Clone, Copy)]
 pub struct Loan {
     pub wanted: usize,
     pub length: usize,

@@ -1,4 +1,7 @@
 // The program's work on slices: its input is split and judged, and the lines of the verdict are written into a lent text.
+
+#![tactic(auto)]
+
 ghost use Rattle.std.specs.Prelude.{◌≡◌, ◌≤◌, length};
 ghost use Rattle.model.specs.Desk.{budget_in, table_length};
 ghost use Rattle.lines.specs.Written.{FilesJudged, Lines};

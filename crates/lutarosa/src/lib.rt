@@ -1,4 +1,7 @@
 // The static library's face (include/lutarosa.h): each function hands its bytes over and answers in document 01's numbers.
+
+#![tactic(auto)]
+
 ghost use Rattle.model.specs.Rule.{rule_of};
 ghost use Rattle.model.specs.Table.{table_answer};
 ghost use Rattle.model.specs.Recording.{recording_answer};

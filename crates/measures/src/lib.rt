@@ -1,4 +1,7 @@
 // What a validation measures of a table and a recording before it starts.
+
+#![tactic(auto)]
+
 ghost use Rattle.std.specs.Prelude.{◌≡◌, true, ◌↔◌, ◌-◌, ◌<◌, min};
 ghost use Rattle.model.specs.Recording.{packets_at, end_of};
 ghost use Rattle.model.specs.Situation.{first_by};
@@ -14,7 +17,7 @@ use sizes::table_size;
 use wire::word;
 
 // How situations are numbered, N, the bytes of a set (S) and its words, T, and the number of the first situation.
-#[derive(Drop)]
+#[derive(Clone, Copy)]
 pub struct Measures {
     pub shape: Shape,
     pub size: usize,

@@ -1,5 +1,8 @@
 // An instant's sets, recalled where they were worked out before: a recording often comes to the same set again. A memory is lent words; what it holds is of one
 // monitor, forward or back, and for sets of one width.
+
+#![tactic(auto)]
+
 mod entry;
 mod slot;
 

@@ -2,6 +2,8 @@
 // Their meaning is in specs/: what bytes give which parts, and which number of document 01 each answer stands for.
 // The constants are document 01's limits and codes (specs/Limits, Witness, Situation); those of a witness's editions are in `editions`.
 
+#![tactic(auto)]
+
 // the latest version of a table
 pub const TABLE_VERSIONS: u8 = 2;
 
@@ -88,14 +90,14 @@ pub struct WitnessParts {
 }
 
 // The editions of a witness (R-5), of which a caller names one.
-#[derive(Drop)]
+#[derive(Clone, Copy)]
 pub enum Edition {
     One,
     Two,
 }
 
 // Where a monitor is: state, variables as a mask, what each clock reads. A clock that the table does not have is never read.
-#[derive(Drop)]
+#[derive(Clone, Copy)]
 pub struct Config {
     pub state: u8,
     pub variables: u8,
@@ -104,7 +106,7 @@ pub struct Config {
 
 // A situation (document 01): state, variables as a mask, clocks with values above M written as M + 1, and the ticks for which the air is still taken.
 // A clock that the table does not have stays 0. Window: which of the last kept or added rows were guesses of the rule's device (R-7), the last one the lowest bit.
-#[derive(Drop)]
+#[derive(Clone, Copy)]
 pub struct Situation {
     pub state: u8,
     pub variables: u8,
@@ -114,7 +116,7 @@ pub struct Situation {
 }
 
 // A measured loss rate (R-7): in any window of so many consecutive kept or added rows at most so many are added rows from the device.
-#[derive(Drop)]
+#[derive(Clone, Copy)]
 pub struct Rule {
     pub device: u8,
     pub window: u8,
@@ -122,7 +124,7 @@ pub struct Rule {
 }
 
 // Why an input is refused: document 01's numbers from 10 on, with those of document 02's requests (17, 25, 26), in their order.
-#[derive(Drop)]
+#[derive(Clone, Copy)]
 pub enum Refusal {
     TableFrame,
     TableVersion,
@@ -148,27 +150,27 @@ pub enum Refusal {
     WitnessRow { row: u64 },
 }
 
-#[derive(Drop)]
+#[derive(Clone, Copy)]
 pub enum Reading {
     Sound,
     Unsound(Refusal),
 }
 
-#[derive(Drop)]
+#[derive(Clone, Copy)]
 pub enum Writing {
     Written { bytes: u64 },
     Unwritten(Refusal),
 }
 
 // changed: the removed and added rows together.
-#[derive(Drop)]
+#[derive(Clone, Copy)]
 pub enum Checking {
     Permitted { changed: u64, rows: u64 },
     Unchecked(Refusal),
 }
 
 // What a guard answers (R-10): it holds; it does not, but waiting alone would make it hold; it does not, and no wait would.
-#[derive(Drop)]
+#[derive(Clone, Copy)]
 pub enum Readiness {
     Yes,
     NotYet,
@@ -176,7 +178,7 @@ pub enum Readiness {
 }
 
 // not_yet, no_more: the pairs of a situation and a transition that answer so just before the instant's moves.
-#[derive(Drop)]
+#[derive(Clone, Copy)]
 pub enum Verdict {
     Accepted {
         cost: u64,
@@ -196,7 +198,7 @@ pub enum Verdict {
 }
 
 // The verdict under a rule (R-7), by which a rejected recording is unlikely, and not certainly wrong.
-#[derive(Drop)]
+#[derive(Clone, Copy)]
 pub enum RuledVerdict {
     Accepted {
         cost: u64,

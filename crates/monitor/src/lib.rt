@@ -1,4 +1,7 @@
 // The monitor, straight from a table's bytes: which transition fires, and what a kind's record says. Each function takes any bytes.
+
+#![tactic(auto)]
+
 ghost use Rattle.std.specs.Prelude.{◌≡◌, List, cond, ℕ, ◌+◌, ◌%◌, ◌<◌, eqb};
 ghost use Rattle.model.specs.Readiness.{readiness};
 ghost use Rattle.model.specs.Monitor as Monitor;
@@ -13,14 +16,14 @@ use model::{Config, Readiness, TRANSITION_LIMIT};
 use wire::{byte, short};
 
 // Whether a transition fired, and where it led; unfired, the configuration before.
-#[derive(Drop)]
+#[derive(Clone, Copy)]
 pub struct Fired {
     pub fired: bool,
     pub to: Config,
 }
 
 // What a transition answers to a packet: its guard's answer; unfit if it is of another kind or from another state, or the table has no such transition.
-#[derive(Drop)]
+#[derive(Clone, Copy)]
 pub enum Attempt {
     Unfit,
     Answer(Readiness),

@@ -1,4 +1,7 @@
 // Document 01's table of numbers, and those of document 02's requests: the number, second and third value of each answer.
+
+#![tactic(auto)]
+
 ghost use Rattle.std.specs.Prelude.{◌≡◌};
 ghost use Rattle.model.specs.Numbers.{values, refusal_values, reading_values, writing_values, checking_values, verdict_values, ruled_values, counts, verdict_counts, ruled_counts};
 ghost use Rattle.numbers.specs.Told.{told, verdict_told, counts_told};
@@ -7,7 +10,7 @@ use model::{Checking, Reading, Refusal, RuledVerdict, Verdict, Writing};
 
 // An answer as C and Rust see it.
 #[repr(C)]
-#[derive(Drop)]
+#[derive(Clone, Copy)]
 pub struct Answer {
     pub number: u64,
     pub second: u64,
@@ -16,7 +19,7 @@ pub struct Answer {
 
 // A verdict as they see it: besides, the two counts of a rejection, 0 where nothing is rejected.
 #[repr(C)]
-#[derive(Drop)]
+#[derive(Clone, Copy)]
 pub struct VerdictAnswer {
     pub number: u64,
     pub second: u64,

@@ -1,4 +1,7 @@
 // The pairs of a situation of a row and a transition, by what the transition answers there to what is recorded (R-10).
+
+#![tactic(auto)]
+
 ghost use Rattle.std.specs.Prelude.{◌≡◌, ◌<◌, min};
 ghost use Rattle.std.proofs.Math.Option.{some};
 ghost use Rattle.model.specs.Limits.{transition_limit, size_limit};
@@ -15,7 +18,7 @@ use situation::numbering::situation_of;
 use situation::{Heard, Shape};
 
 // How many pairs answer not yet (too early), and how many no more (too late).
-#[derive(Drop)]
+#[derive(Clone, Copy)]
 pub struct Pairs {
     pub early: u64,
     pub late: u64,

@@ -1,5 +1,8 @@
 // For each transition of a table the set of variables and clock values at which its guard holds, built by set operations: a comparison is the
 // numbers whose digit is below a bound, a negation the complement, a conjunction what two sets have in common.
+
+#![tactic(auto)]
+
 ghost use Rattle.std.specs.Prelude.{◌≡◌, ◌&&◌, ℕ, ◌+◌, ◌*◌, ◌%◌, ◌^◌, ◌<◌, ◌≤◌, leb, ltb, length};
 ghost use Rattle.model.specs.Guard.{guard_at, leaf_at, variable};
 ghost use Rattle.guard.specs.Guards.{clock_leaf};
@@ -20,7 +23,7 @@ use words::complement;
 const DEPTH: u8 = GUARD_LIMIT as u8;
 
 // The table's numbers of variables and clocks, and of the values of clock 0 and of clock 1.
-#[derive(Drop)]
+#[derive(Clone, Copy)]
 struct Shape {
     variables: u8,
     clocks: u8,
@@ -28,7 +31,7 @@ struct Shape {
     second: u32,
 }
 
-#[derive(Drop)]
+#[derive(Clone, Copy)]
 enum Ended {
     Malformed,
     At(usize),

@@ -1,4 +1,7 @@
 // Ranges of a set in words: carried over under a mask, and tested for emptiness.
+
+#![tactic(auto)]
+
 ghost use Rattle.std.specs.Prelude.{◌≡◌, ℕ, ◌+◌, ◌-◌, ◌*◌, ◌%◌, ◌^◌, ◌<◌, ◌≤◌, length, ltb};
 ghost use Rattle.words.specs.Words.{bit, mem, Bits, Joined, up, below, meet, any_below};
 

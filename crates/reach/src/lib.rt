@@ -1,4 +1,7 @@
 // The states that a table's transitions lead to from state 0, guards ignored (document 02, R-8), for any parts.
+
+#![tactic(auto)]
+
 ghost use Rattle.std.specs.Prelude.{◌≡◌, ◌||◌, ℕ, eqb, length};
 ghost use Rattle.model.specs.Reach.{StatesJudged, is_reached, lowest_missing, states_answer};
 ghost use Rattle.model.specs.Table.{monitor_of};

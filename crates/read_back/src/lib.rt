@@ -1,4 +1,7 @@
 // Parts written into a room and read back from what was written: the first refusal of either, else the same parts.
+
+#![tactic(auto)]
+
 ghost use Rattle.std.specs.Prelude.{◌≡◌};
 ghost use Rattle.model.specs.Table.{write_table, no_table};
 ghost use Rattle.model.specs.Recording.{write_recording, no_recording};

@@ -1,4 +1,7 @@
 // The recording, read and written against a table, whose numbers come first.
+
+#![tactic(auto)]
+
 ghost use Rattle.std.specs.Prelude.{◌≡◌, ◌++◌, ◌+◌, ◌*◌, ◌<◌, ◌≤◌, length};
 ghost use Rattle.model.specs.Answers.{Reads, Writes};
 ghost use Rattle.model.specs.Limits.{row_limit};

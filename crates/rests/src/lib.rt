@@ -1,4 +1,7 @@
 // A situation's tick, and what a rest or a removed row makes of it. Each function takes any input.
+
+#![tactic(auto)]
+
 ghost use Rattle.std.specs.Prelude.{◌≡◌, List, ℕ, ◌+◌, ◌-◌, min};
 ghost use Rattle.std.proofs.Math.Option.{none};
 ghost use Rattle.model.specs.Situation.{rest, config_of, tick};

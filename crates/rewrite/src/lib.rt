@@ -1,4 +1,7 @@
 // Bytes read and written again: the first refusal of either, else the bytes of the parts that were read.
+
+#![tactic(auto)]
+
 ghost use Rattle.std.specs.Prelude.{◌≡◌, ◌≤◌, length};
 ghost use Rattle.model.specs.Bytes.{tab};
 ghost use Rattle.model.specs.Room.{over};

@@ -1,4 +1,7 @@
 // What a row of a witness is tested for: the recorded rows that are still unaccounted for, the air behind it, whether it is a guess. Each function takes any input.
+
+#![tactic(auto)]
+
 ghost use Rattle.std.specs.Prelude.{◌≡◌, List, true, ℕ, ◌+◌, ◌<◌, drop};
 ghost use Rattle.model.specs.Monitor.{airtime};
 ghost use Rattle.model.specs.Recording.{packets_at};

@@ -1,4 +1,7 @@
 // Sets in words to and from sets in bytes.
+
+#![tactic(auto)]
+
 pub mod span;
 
 ghost use Rattle.std.specs.Prelude.{◌≡◌, ◌+◌, ◌*◌, ◌^◌, ◌<◌, ◌≤◌, get_or, length};

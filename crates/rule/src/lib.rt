@@ -1,4 +1,7 @@
 // A measured loss rate (R-7): the numbers 25 and 26, and which of the last kept or added rows were guesses, as a mask. Each function takes any numbers.
+
+#![tactic(auto)]
+
 ghost use Rattle.std.specs.Prelude.{◌≡◌, ◌+◌, ◌-◌, ◌*◌, ◌≤◌, ◌<◌, leb};
 ghost use Rattle.model.specs.First as First;
 ghost use Rattle.model.specs.Limits.{size_limit};

@@ -1,4 +1,7 @@
 // A table, a recording and a rule, read together: the numbers 10 to 26.
+
+#![tactic(auto)]
+
 ghost use Rattle.std.specs.Prelude.{◌≡◌};
 ghost use Rattle.model.specs.Ruled.{ruled_answer};
 ghost use Rattle.model.specs.Table.{table_parts};

@@ -1,4 +1,7 @@
 // A table's numbers: 10 to 15 of its bytes, 16 and 17 of its parts.
+
+#![tactic(auto)]
+
 ghost use Rattle.std.specs.Prelude.{◌≡◌, ◌+◌, ◌-◌, ◌%◌, ◌<◌, ◌^◌, ◌&&◌, length, leb, ltb, eqb};
 ghost use Rattle.model.specs.First.{unless};
 ghost use Rattle.model.specs.Limits.{size_limit};

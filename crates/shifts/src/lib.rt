@@ -1,5 +1,8 @@
 // A set moved by k numbers, up or down: what comes to where cut has a number is dropped, and what keep has stays where it is.
 // Words that a set lacks count as 0. What every set has is one loop with no test of a bound.
+
+#![tactic(auto)]
+
 mod down;
 mod up;
 

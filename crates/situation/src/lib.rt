@@ -1,4 +1,7 @@
 // Situations: numbered into a set and back, what a recording says of an instant, and what a step answers.
+
+#![tactic(auto)]
+
 use model::{Rule, Situation};
 
 pub mod numbering;
@@ -6,7 +9,7 @@ pub mod rows;
 
 // How situations are numbered: the states, 2 to the number of variables, the values of each clock, 1 for a clock that the table does not have, and the windows
 // of the rule under which moves are made.
-#[derive(Drop)]
+#[derive(Clone, Copy)]
 pub struct Shape {
     pub states: u8,
     pub masks: u8,
@@ -17,21 +20,21 @@ pub struct Shape {
 }
 
 // What is recorded at an instant.
-#[derive(Drop)]
+#[derive(Clone, Copy)]
 pub enum Heard {
     Nothing,
     Kind(u8),
 }
 
 // Whether a step leads somewhere, and where; if not, the situation before.
-#[derive(Drop)]
+#[derive(Clone, Copy)]
 pub struct Next {
     pub leads: bool,
     pub to: Situation,
 }
 
 // The number of the situation that a step leads to.
-#[derive(Drop)]
+#[derive(Clone, Copy)]
 pub enum Arrival {
     Nowhere,
     At(u64),

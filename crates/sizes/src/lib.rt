@@ -1,4 +1,7 @@
 // M, A and N of a table's parts, for any parts.
+
+#![tactic(auto)]
+
 ghost use Rattle.std.specs.Prelude.{◌≡◌, ◌+◌, ◌*◌, ◌^◌, ◌≤◌, min};
 ghost use Rattle.model.specs.Limits.{size_limit};
 ghost use Rattle.model.specs.Size.{largest_bound, largest_airtime, cap, table_size};

@@ -1,4 +1,7 @@
 // One step: a move and then one tick.
+
+#![tactic(auto)]
+
 ghost use Rattle.std.specs.Prelude.{◌≡◌};
 ghost use Rattle.model.specs.Situation.{keep, add, move_of};
 ghost use Rattle.monitor.specs.From.{monitor_from};
@@ -17,7 +20,7 @@ use situation::{Arrival, Heard, Next, Shape};
 use wire::{byte, short};
 
 // The kind on which a transition fires, where it does.
-#[derive(Drop)]
+#[derive(Clone, Copy)]
 enum Trigger {
     Absent,
     Kind(u8),

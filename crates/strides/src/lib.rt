@@ -1,4 +1,7 @@
 // A set of numbers repeated at a stride, by doubling: once the places below k are there, moving by k more joins those below 2 k.
+
+#![tactic(auto)]
+
 ghost use Rattle.std.specs.Prelude.{◌≡◌, false, ℕ, ◌+◌, ◌-◌, ◌*◌, ◌/◌, ◌%◌, ◌^◌, ◌<◌, ◌≤◌, length, ltb};
 ghost use Rattle.words.specs.Words.{Bits, Is, any_below, mem, up};
 ghost use Rattle.words.specs.Words.{Upto};

@@ -1,4 +1,7 @@
 // The table: its fill, which copies, and what reading and writing give.
+
+#![tactic(auto)]
+
 ghost use Rattle.std.specs.Prelude.{◌≡◌, ℕ, ◌+◌, ◌-◌, ◌*◌, ◌%◌, ◌<◌, ◌≤◌, List, ◌++◌, length};
 ghost use Rattle.model.specs.Answers.{Reads, RefusesUnreached, Writes};
 ghost use Rattle.model.specs.Numbers.{reading_values, writing_values};

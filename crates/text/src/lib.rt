@@ -1,5 +1,8 @@
 // The lines that the program prints, written into a lent text: as far as they fit, the rest is dropped.
 // A writer takes the place to write at and returns the place behind what it wrote, whether or not there was room; for other crates that place is the front.
+
+#![tactic(auto)]
+
 ghost use Rattle.std.specs.Prelude.{[], ◌∷◌, ◌++◌, ◌+◌, ◌*◌, ◌<◌, ◌≤◌, length};
 ghost use Rattle.model.specs.Edition.{most_rows};
 ghost use Rattle.model.specs.declared.Edition.TheVariants.{One};

@@ -1,4 +1,7 @@
 // A tick of both clocks, as two shifts of a whole set of situations' numbers.
+
+#![tactic(auto)]
+
 ghost use Rattle.words.specs.Words.{Is};
 ghost use Rattle.shifts.specs.Shifted.{shifted};
 

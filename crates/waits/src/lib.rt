@@ -1,12 +1,15 @@
 // Sets of waits from 1 to 256 ticks, a bit for each: number i of a word that follows `from` ticks is the wait from + i + 1.
 // Bounds are bytes: where no wait up to 256 makes a guard hold, none will.
+
+#![tactic(auto)]
+
 ghost use Rattle.std.specs.Prelude.{◌≡◌, get_or, leb};
 ghost use Rattle.model.specs.Readiness.{waited};
 ghost use Rattle.waits.specs.Waits.{word_of, waits_of, others, common, is_none};
 
 use wire::short;
 
-#[derive(Drop)]
+#[derive(Clone, Copy)]
 pub struct Waits {
     pub first: u64,
     pub second: u64,

@@ -1,4 +1,7 @@
 // Reads that are total, 0 past the end, and writing into a lent room.
+
+#![tactic(auto)]
+
 ghost use Rattle.std.specs.Prelude.{◌≡◌, ◌<◌, get_or};
 ghost use Rattle.model.specs.Bytes.{byte_at, word_at, long_at};
 ghost use Rattle.wire.specs.Placed.{placed};

@@ -1,4 +1,7 @@
 // The form of a witness, of either edition: frame, rows and their order, without a table or a recording. Each public function takes any input.
+
+#![tactic(auto)]
+
 ghost use Rattle.std.specs.Prelude.{◌<◌, ◌≡◌};
 ghost use Rattle.std.proofs.Math.Option.{none};
 ghost use Rattle.model.specs.Bytes.{tab};
@@ -11,7 +14,7 @@ use model::{ADDED, Edition, NO_TRANSITION, REMOVED, Reading, Refusal};
 use wire::{byte, word};
 
 // A row of a witness.
-#[derive(Drop)]
+#[derive(Clone, Copy)]
 pub struct Entry {
     pub mark: u8,
     pub time: u16,

@@ -1,4 +1,7 @@
 // The parts of a witness, of either edition: read and written by its form alone.
+
+#![tactic(auto)]
+
 ghost use Rattle.std.specs.Prelude.{◌+◌, ◌*◌, ◌≤◌, ◌≡◌, length};
 ghost use Rattle.std.proofs.Math.Option.{none};
 ghost use Rattle.model.specs.Answers.{Reads, Writes};

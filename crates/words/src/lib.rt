@@ -1,4 +1,7 @@
 // Sets of numbers in lent words: number i is bit i % 64 of word i / 64.
+
+#![tactic(auto)]
+
 mod whole;
 
 ghost use Rattle.std.specs.Prelude.{◌≡◌, ◌&&◌, ◌+◌, ◌-◌, ◌/◌, ◌%◌, ◌^◌, ◌<◌, min, get_or, eqb};

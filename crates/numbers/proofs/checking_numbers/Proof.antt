@@ -4,26 +4,26 @@ use Rattle.model.specs.Numbers.{checking_values}
 use Rattle.numbers.proofs.checking_numbers.Statement.{statement}
 use Rattle.numbers.proofs.checking_numbers.Tie as tie
 
-enum-known-checking : tie.Need-enum-known-checking
+enum-known-checking : tie.Need-enum_known-checking
 enum-known-checking c = search rules
 
 numbered-requires : tie.Need-numbered-requires
 numbered-requires c κs = search rules
 
-enum-known-checking-2 : tie.Need-enum-known-checking-2
+enum-known-checking-2 : tie.Need-enum_known-checking-in-Unchecked-1
 enum-known-checking-2 c = search rules
 
-refusal-numbers-requires : tie.Need-refusal-numbers-requires
+refusal-numbers-requires : tie.Need-refusal_numbers-requires
 refusal-numbers-requires c κs = search rules
 
-returns : tie.Need-returns
-returns c = c.numbered.ensures ∙ sym (ap checking_values c.before.before.checking.given.1)
+returns : tie.Need-returns-in-Permitted
+returns c = c.numbered.ensures ∙ sym (ap checking_values c.before.in-Permitted.is)
 
-returns-2 : tie.Need-returns-2
-returns-2 c = c.refusal-numbers.ensures ∙ sym (ap checking_values c.before.before.checking2.given.1)
+returns-2 : tie.Need-returns-in-Unchecked
+returns-2 c = c.refusal_numbers.ensures ∙ sym (ap checking_values c.before.in-Unchecked.is)
 
-pub checking-numbers-spec : {M : Type 1} → statement M
-checking-numbers-spec =
+pub checking_numbers_spec : {M : Type 1} → statement M
+checking_numbers_spec =
     tie.close
     (tie.spec
     enum-known-checking

@@ -5,17 +5,17 @@ use borrow.Author.Rules.{rules}
 use Rattle.wire.proofs.short.Statement.{statement}
 use Rattle.wire.proofs.short.Tie as tie
 
-mul-result : tie.Need-overflow-mul-result
+mul-result : tie.Need-offset_bounds-s-at
 mul-result c = search rules
 
-shared-slice-read-result : tie.Need-shared-slice-read-result
+shared-slice-read-result : tie.Need-bounds-s-at
 shared-slice-read-result c = search rules
 
-returns : tie.Need-returns
-returns c = (refl, (c.shared-slice-known.given c.before.before.args.at).fits)
+returns : tie.Need-returns-then-at-s
+returns c = (refl, (c.shared_slice_known-1.given c.before.before.args.at).fits)
 
-returns-2 : tie.Need-returns-2
-returns-2 c = (sym (get_or-eq_default c.before.args.s.now 0 c.if1.false), omega arith)
+returns-2 : tie.Need-returns-else-at-s
+returns-2 c = (sym (get_or-eq_default c.before.args.s.now 0 c.if-at-s.false), omega arith)
 
-pub short-spec : {M : Type 1} → statement M
-short-spec = tie.close (tie.spec mul-result shared-slice-read-result returns returns-2)
+pub short_spec : {M : Type 1} → statement M
+short_spec = tie.close (tie.spec mul-result shared-slice-read-result returns returns-2)

@@ -8,50 +8,50 @@ use borrow.Author.Rules.{rules}
 use Rattle.words.proofs.whole.clear_from.Statement.{statement}
 use Rattle.words.proofs.whole.clear_from.Tie as tie
 
-abbrev invariant-loop : tie.invariant-loop
+abbrev invariant-loop : tie.invariant-loop-j
 invariant-loop a₀ k j₀ a j = (k ≤ j) × Part (below (64 * k) (mem a₀)) j a₀ a
 
-abbrev decreases-loop : tie.decreases-loop
+abbrev decreases-loop : tie.decreases-loop-j
 decreases-loop a₀ k j₀ a j = length a₀ - j
 
-loop-holds : tie.Need-loop-init invariant-loop decreases-loop
+loop-holds : tie.Need-loop-j-init invariant-loop decreases-loop
 loop-holds c = (omega arith, part_from c.args.a.now c.args.k)
 
-mul-a : tie.Need-overflow-mul-a invariant-loop decreases-loop
+mul-a : tie.Need-offset_bounds-a-j invariant-loop decreases-loop
 mul-a c = search rules
 
-slice-write-a : tie.Need-slice-write-a invariant-loop decreases-loop
+slice-write-a : tie.Need-bounds-a-j invariant-loop decreases-loop
 slice-write-a c = search rules
 
-add-j : tie.Need-overflow-add-j invariant-loop decreases-loop
+add-j : tie.Need-overflow_add-j invariant-loop decreases-loop
 add-j c = search rules
 
-loop-less : tie.Need-loop-smaller invariant-loop decreases-loop
+loop-less : tie.Need-loop-j-smaller invariant-loop decreases-loop
 loop-less c = search rules
 
-loop-again : tie.Need-loop-preserved invariant-loop decreases-loop
+loop-again : tie.Need-loop-j-preserved invariant-loop decreases-loop
 unfolding below
 loop-again c =
     let at-loop = c.before in
     let a = at-loop.before.args in
-    let j = at-loop.loop.j in
-    let from = at-loop.loop.invariant.0 in (
+    let j = at-loop.loop-j.j in
+    let from = at-loop.loop-j.invariant.0 in (
       omega arith,
-      part_more (below (64 * a.k) (mem a.a.now)) a.a.now at-loop.loop.a j at-loop.loop.invariant.1 0 (omega arith)
+      part_more (below (64 * a.k) (mem a.a.now)) a.a.now at-loop.loop-j.a j at-loop.loop-j.invariant.1 0 (omega arith)
           (zero_bits 64 (λ i. below (64 * a.k) (mem a.a.now) (64 * j + i)) (λ i l. simp (le-ltb (64 * j + i) (64 * a.k) (omega arith)))),
     )
 
-same_length : tie.Need-same-length invariant-loop decreases-loop
+same_length : tie.Need-shape_of-a invariant-loop decreases-loop
 same_length c = search rules
 
 returns : tie.Need-returns invariant-loop decreases-loop
 returns c =
     let at-loop = c.before in
     let a = at-loop.before.args in
-    part_is (below (64 * a.k) (mem a.a.now)) a.a.now at-loop.loop.a at-loop.loop.j at-loop.loop.invariant.1 (omega arith)
+    part_is (below (64 * a.k) (mem a.a.now)) a.a.now at-loop.loop-j.a at-loop.loop-j.j at-loop.loop-j.invariant.1 (omega arith)
 
-pub clear-from-spec : {M : Type 1} → statement M
-clear-from-spec =
+pub clear_from_spec : {M : Type 1} → statement M
+clear_from_spec =
     tie.close
     (tie.spec
     invariant-loop
