@@ -1,7 +1,7 @@
 -- Columns: filled from the front, over zeros, and the numbers of an array.
 use denote.Array.{each}
 use denote.Shadow.{shadow}
-use denote.Struct.Field.{u16-field}
+use denote.Builtin.{u16}
 use mir.Val.{Val}
 use Prim.Native.Nat.{ℕ, zero, suc, ◌+◌, ◌-◌, ◌*◌, ◌≤◌, ◌<◌, min}
 use native.Mathlib.Omega.{arith}
@@ -104,7 +104,7 @@ joined-most f w zero h = omega (arith, mul-zero w)
 joined-most f w (suc n) h = omega (arith, length-append (joined f n) (f n), joined-most f w n h, h n, mul-suc w n)
 
 -- the numbers of an array of u16 are below 65,536
-pub all-below : (xs : List ℕ) (us : List Val) → shadow (each ℕ u16-field.row.own_val (map (λ x. x) xs) us) → (i : ℕ) → byte_at xs i < 65536
+pub all-below : (xs : List ℕ) (us : List Val) → shadow (each ℕ u16.own_val xs us) → (i : ℕ) → byte_at xs i < 65536
 all-below [] us s i = omega arith
 all-below (x ∷ xs) [] s i = absurd s
 all-below (x ∷ xs) (u ∷ us) s zero = omega (arith, s.0)

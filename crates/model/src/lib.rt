@@ -51,7 +51,7 @@ pub const FIRST_ADD: usize = REST + 1;
 pub const MOVE_LIMIT: usize = FIRST_ADD + TRANSITION_LIMIT;
 
 // A monitor table's parts. Places beyond a count, and beyond a guard's length, are 0 after reading and are ignored in writing.
-#[derive(Drop)]
+#[derive(Clone, Copy)]
 pub struct TableParts {
     pub version: u8,
     pub states: u8,
@@ -73,14 +73,14 @@ pub struct TableParts {
     pub guards: [u8; GUARD_LIMIT * TRANSITION_LIMIT],
 }
 
-#[derive(Drop)]
+#[derive(Clone, Copy)]
 pub struct RecordingParts {
     pub count: u16,
     pub times: [u16; ROW_LIMIT],
     pub kinds: [u8; ROW_LIMIT],
 }
 
-#[derive(Drop)]
+#[derive(Clone, Copy)]
 pub struct WitnessParts {
     pub count: u32,
     pub marks: [u8; WITNESS_PLACES],
@@ -218,19 +218,19 @@ pub enum RuledVerdict {
 }
 
 // A reading is its answer beside the parts, which are all 0 where it is refused.
-#[derive(Drop)]
+#[derive(Clone, Copy)]
 pub struct TableReading {
     pub answer: Reading,
     pub parts: TableParts,
 }
 
-#[derive(Drop)]
+#[derive(Clone, Copy)]
 pub struct RecordingReading {
     pub answer: Reading,
     pub parts: RecordingParts,
 }
 
-#[derive(Drop)]
+#[derive(Clone, Copy)]
 pub struct WitnessReading {
     pub answer: Reading,
     pub parts: WitnessParts,

@@ -10,61 +10,61 @@ use borrow.Author.Rules.{rules}
 use Rattle.columns.proofs.words_column.Statement.{statement}
 use Rattle.columns.proofs.words_column.Tie as tie
 
-abbrev invariant-loop : tie.invariant-loop
+abbrev invariant-loop : tie.invariant-loop-i
 invariant-loop b from step n column₀ most i₀ column i = (i ≤ most) × (most ≡ min n (length column₀)) × (length column ≡ length column₀) × (column ≡ tab (λ k. word_at b (from + step * k)) i ++ drop i column₀)
 
-abbrev decreases-loop : tie.decreases-loop
+abbrev decreases-loop : tie.decreases-loop-i
 decreases-loop b from step n column₀ most i₀ column i = most - i
 
-smaller-requires : tie.Need-smaller-requires invariant-loop decreases-loop
+smaller-requires : tie.Need-smaller-most-requires invariant-loop decreases-loop
 smaller-requires c κs = search rules
 
-loop-holds : tie.Need-loop-init invariant-loop decreases-loop
+loop-holds : tie.Need-loop-i-init invariant-loop decreases-loop
 unfolding tab
 loop-holds c = (omega arith, search rules, refl, refl)
 
-mul-word : tie.Need-overflow-mul-word invariant-loop decreases-loop
-mul-word c = omega (arith, step_bound c.before.before.before.before.before.args.step c.before.loop.i (omega arith) (omega arith))
+mul-word : tie.Need-overflow_mul-step invariant-loop decreases-loop
+mul-word c = omega (arith, step_bound c.before.before.before.before.before.args.step c.before.loop-i.i (omega arith) (omega arith))
 
-add-word : tie.Need-overflow-add-word invariant-loop decreases-loop
-add-word c = omega (arith, step_bound c.before.before.before.before.before.args.step c.before.loop.i (omega arith) (omega arith))
+add-word : tie.Need-overflow_add-from invariant-loop decreases-loop
+add-word c = omega (arith, step_bound c.before.before.before.before.before.args.step c.before.loop-i.i (omega arith) (omega arith))
 
 word-requires : tie.Need-word-requires invariant-loop decreases-loop
 word-requires c κs = search rules
 
-mul-column : tie.Need-overflow-mul-column invariant-loop decreases-loop
+mul-column : tie.Need-offset_bounds-column-i invariant-loop decreases-loop
 mul-column c = search rules
 
-slice-write-column : tie.Need-slice-write-column invariant-loop decreases-loop
+slice-write-column : tie.Need-bounds-column-i invariant-loop decreases-loop
 slice-write-column c = omega arith
 
-add-i : tie.Need-overflow-add-i invariant-loop decreases-loop
+add-i : tie.Need-overflow_add-i invariant-loop decreases-loop
 add-i c = search rules
 
-loop-less : tie.Need-loop-smaller invariant-loop decreases-loop
+loop-less : tie.Need-loop-i-smaller invariant-loop decreases-loop
 loop-less c = search rules
 
-loop-again : tie.Need-loop-preserved invariant-loop decreases-loop
+loop-again : tie.Need-loop-i-preserved invariant-loop decreases-loop
 loop-again c = let a = c.before.before.before.before.before.before.args in
-    let i = c.before.before.loop.i in (
+    let i = c.before.before.loop-i.i in (
       omega arith,
-      c.before.before.loop.invariant.1,
-      simp length-set c.before.before.loop.invariant.2,
-      ap (λ (l : List ℕ). set l i c.word.result) c.before.before.loop.invariant.3
+      c.before.before.loop-i.invariant.1,
+      simp length-set c.before.before.loop-i.invariant.2,
+      ap (λ (l : List ℕ). set l i c.word.result) c.before.before.loop-i.invariant.3
           ∙ rw c.word.ensures.0 (column_more (λ k. word_at a.b.now (a.from + a.step * k)) a.column.now i (omega arith)),
     )
 
-same_length : tie.Need-same-length invariant-loop decreases-loop
-same_length c = c.before.loop.invariant.2
+same_length : tie.Need-shape_of-column invariant-loop decreases-loop
+same_length c = c.before.loop-i.invariant.2
 
 returns : tie.Need-returns invariant-loop decreases-loop
 unfolding filled
 returns c = let a = c.before.before.before.before.before.args in
-    let all : c.before.loop.i ≡ min a.n (length a.column.now) = omega arith in
-    c.before.loop.invariant.3 ∙ ap (λ m. tab (λ k. word_at a.b.now (a.from + a.step * k)) m ++ drop m a.column.now) all
+    let all : c.before.loop-i.i ≡ min a.n (length a.column.now) = omega arith in
+    c.before.loop-i.invariant.3 ∙ ap (λ m. tab (λ k. word_at a.b.now (a.from + a.step * k)) m ++ drop m a.column.now) all
 
-pub words-column-spec : {M : Type 1} → statement M
-words-column-spec =
+pub words_column_spec : {M : Type 1} → statement M
+words_column_spec =
     tie.close
     (tie.spec
     invariant-loop

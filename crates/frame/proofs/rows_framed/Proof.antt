@@ -8,57 +8,57 @@ use borrow.Author.Rules.{rules}
 use Rattle.frame.proofs.rows_framed.Statement.{statement}
 use Rattle.frame.proofs.rows_framed.Tie as tie
 
-version-of-requires : tie.Need-version-of-requires
+version-of-requires : tie.Need-version_of-own-requires
 version-of-requires c κs = search rules
 
-rows-place-requires : tie.Need-rows-place-requires
+rows-place-requires : tie.Need-rows_place-requires
 rows-place-requires c κs = search rules
 
-framed-answer-requires : tie.Need-framed-answer-requires
+framed-answer-requires : tie.Need-framed_answer-first-requires
 framed-answer-requires c κs = search rules
 
 sound-requires : tie.Need-sound-requires
 sound-requires c κs = search rules
 
-returns : tie.Need-returns
+returns : tie.Need-returns-then-not-sound
 unfolding framed_rows
-returns c = rw (← c.before.before.before.before.version_of.ensures, ← c.before.before.before.rows-place.ensures.0, ← c.before.before.framed_answer.ensures, stops _ _ (sym c.before.sound.ensures ∙ not-true c.before.sound.result c.if1.true))
+returns c = rw (← c.before.before.before.before.version_of-own.ensures, ← c.before.before.before.rows_place.ensures.0, ← c.before.before.framed_answer-first.ensures, stops _ _ (sym c.before.sound.ensures ∙ c.if-not-sound.true))
 
-count-place-requires : tie.Need-count-place-requires
+count-place-requires : tie.Need-count_place-at-requires
 count-place-requires c κs = search rules
 
-size-at-requires : tie.Need-size-at-requires
+size-at-requires : tie.Need-size_at-rows-requires
 size-at-requires c κs = search rules
 
-returns-2 : tie.Need-returns-2
+returns-2 : tie.Need-returns-then-limit-rows
 unfolding framed_rows
-returns-2 c = rw (← c.before.before.before.before.before.before.before.version_of.ensures, ← c.before.before.before.before.before.before.rows-place.ensures.0, ← c.before.before.before.before.before.framed_answer.ensures, goes _ _ (sym c.before.before.before.before.sound.ensures ∙ not-false c.before.before.before.before.sound.result c.before.before.before.if1.false), ← c.before.before.count-place.ensures.0, ← c.before.size_at_lem.ensures.0, lt-leb _ _ c.if2.true)
+returns-2 c = rw (← c.before.before.before.before.before.before.before.version_of-own.ensures, ← c.before.before.before.before.before.before.rows_place.ensures.0, ← c.before.before.before.before.before.framed_answer-first.ensures, goes _ _ (sym c.before.before.before.before.sound.ensures ∙ c.before.before.before.if-not-sound.false), ← c.before.before.count_place-at.ensures.0, ← c.before.size_at-rows.ensures.0, lt-leb _ _ c.if-limit-rows.true)
 
-size-at-requires-2 : tie.Need-size-at-requires-2
+size-at-requires-2 : tie.Need-size_at-requires
 size-at-requires-2 c κs = search rules
 
-cast-if3 : tie.Need-overflow-cast-if3
+cast-if3 : tie.Need-overflow_cast-size_at
 cast-if3 c = search rules
 
-cast-if3-2 : tie.Need-overflow-cast-if3-2
+cast-if3-2 : tie.Need-overflow_cast-rows
 cast-if3-2 c = search rules
 
-mul-if3 : tie.Need-overflow-mul-if3
-mul-if3 c = omega (arith, step_bound c.before.before.before.before.before.before.before.before.before.before.args.width c.before.before.size_at_lem.result (omega arith) (omega arith))
+mul-if3 : tie.Need-overflow_mul-width
+mul-if3 c = omega (arith, step_bound c.before.before.before.before.before.before.before.before.before.before.args.width c.before.before.size_at-rows.result (omega arith) (omega arith))
 
-add-if3 : tie.Need-overflow-add-if3
-add-if3 c = omega (arith, step_bound c.before.before.before.before.before.before.before.before.before.before.args.width c.before.before.size_at_lem.result (omega arith) (omega arith))
+add-if3 : tie.Need-overflow_add-at
+add-if3 c = omega (arith, step_bound c.before.before.before.before.before.before.before.before.before.before.args.width c.before.before.size_at-rows.result (omega arith) (omega arith))
 
-returns-3 : tie.Need-returns-3
+returns-3 : tie.Need-returns-then-size_at-at
 unfolding framed_rows
-returns-3 c = rw (← c.before.before.before.before.before.before.before.before.before.version_of.ensures, ← c.before.before.before.before.before.before.before.before.rows-place.ensures.0, ← c.before.before.before.before.before.before.before.framed_answer.ensures, goes _ _ (sym c.before.before.before.before.before.before.sound.ensures ∙ not-false c.before.before.before.before.before.before.sound.result c.before.before.before.before.before.if1.false), ← c.before.before.before.before.count-place.ensures.0, ← c.before.before.before.size_at_lem.ensures.0, le-leb _ _ c.before.before.if2.false, ← c.before.size-at2.ensures.0, ne_eqb _ _ c.if3.true)
+returns-3 c = rw (← c.before.before.before.before.before.before.before.before.before.version_of-own.ensures, ← c.before.before.before.before.before.before.before.before.rows_place.ensures.0, ← c.before.before.before.before.before.before.before.framed_answer-first.ensures, goes _ _ (sym c.before.before.before.before.before.before.sound.ensures ∙ c.before.before.before.before.before.if-not-sound.false), ← c.before.before.before.before.count_place-at.ensures.0, ← c.before.before.before.size_at-rows.ensures.0, le-leb _ _ c.before.before.if-limit-rows.false, ← c.before.size_at.ensures.0, ne_eqb _ _ c.if-size_at-at.true)
 
-returns-4 : tie.Need-returns-4
+returns-4 : tie.Need-returns
 unfolding framed_rows
-returns-4 c = rw (← c.before.before.before.before.before.before.before.before.before.version_of.ensures, ← c.before.before.before.before.before.before.before.before.rows-place.ensures.0, ← c.before.before.before.before.before.before.before.framed_answer.ensures, goes _ _ (sym c.before.before.before.before.before.before.sound.ensures ∙ not-false c.before.before.before.before.before.before.sound.result c.before.before.before.before.before.if1.false), ← c.before.before.before.before.count-place.ensures.0, ← c.before.before.before.size_at_lem.ensures.0, le-leb _ _ c.before.before.if2.false, ← c.before.size-at2.ensures.0, eq-eqb _ _ c.if3.false)
+returns-4 c = rw (← c.before.before.before.before.before.before.before.before.before.version_of-own.ensures, ← c.before.before.before.before.before.before.before.before.rows_place.ensures.0, ← c.before.before.before.before.before.before.before.framed_answer-first.ensures, goes _ _ (sym c.before.before.before.before.before.before.sound.ensures ∙ c.before.before.before.before.before.if-not-sound.false), ← c.before.before.before.before.count_place-at.ensures.0, ← c.before.before.before.size_at-rows.ensures.0, le-leb _ _ c.before.before.if-limit-rows.false, ← c.before.size_at.ensures.0, eq-eqb _ _ c.if-size_at-at.false)
 
-pub rows-framed-spec : {M : Type 1} → statement M
-rows-framed-spec =
+pub rows_framed_spec : {M : Type 1} → statement M
+rows_framed_spec =
     tie.close
     (tie.spec
     version-of-requires

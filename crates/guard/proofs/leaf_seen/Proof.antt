@@ -11,90 +11,90 @@ use borrow.Author.Rules.{rules}
 use Rattle.guard.proofs.leaf_seen.Statement.{statement}
 use Rattle.guard.proofs.leaf_seen.Tie as tie
 
-byte-requires : tie.Need-byte-requires
+byte-requires : tie.Need-byte-code-requires
 byte-requires c κs = search rules
 
-add-t9 : tie.Need-overflow-add-t9
+add-t9 : tie.Need-overflow_add-result
 add-t9 c = search rules
 
 constant-requires : tie.Need-constant-requires
 constant-requires c κs = search rules
 
-returns : tie.Need-returns
+returns : tie.Need-returns-then-code-eq0
 unfolding holds largest
 returns c = let a = c.before.before.before.before.before.args in
-    rw (leaf_always a.q.variables a.q.clocks a.b.now a.at a.end (sym c.before.before.byte.ensures.0 ∙ c.before.if1.true), c.constant.ensures)
+    rw (leaf_always a.q.variables a.q.clocks a.b.now a.at a.end (sym c.before.before.byte-code.ensures.0 ∙ c.before.if-code-eq0.true), c.constant.ensures)
 
-has-variable-requires : tie.Need-has-variable-requires
+has-variable-requires : tie.Need-has_variable-requires
 has-variable-requires c κs = search rules
 
-add-byte : tie.Need-overflow-add-byte
+add-byte : tie.Need-overflow_add-at
 add-byte c = search rules
 
-byte-requires-2 : tie.Need-byte-requires-2
+byte-requires-2 : tie.Need-byte-requires
 byte-requires-2 c κs = search rules
 
-has-bit-requires : tie.Need-has-bit-requires
+has-bit-requires : tie.Need-has_bit-value-requires
 has-bit-requires c κs = search rules
 
-add-t13 : tie.Need-overflow-add-t13
+add-t13 : tie.Need-overflow_add-result-then-has_variable
 add-t13 c = let a = c.before.before.before.before.before.before.before.before.before.args in
-    omega (arith, leb-true (a.at + 2) a.end (and_left _ (ltb (byte_at a.b.now (a.at + 1)) a.q.variables) (sym c.before.before.before.has-variable.ensures ∙ c.before.before.if3.true)))
+    omega (arith, leb-true (a.at + 2) a.end (and_left _ (ltb (byte_at a.b.now (a.at + 1)) a.q.variables) (sym c.before.before.before.has_variable.ensures ∙ c.before.before.if-has_variable.true)))
 
-constant-requires-2 : tie.Need-constant-requires-2
+constant-requires-2 : tie.Need-constant-requires-then-has_variable
 constant-requires-2 c κs = search rules
 
-returns-2 : tie.Need-returns-2
+returns-2 : tie.Need-returns-then-has_variable
 unfolding holds largest
 returns-2 c = let a = c.before.before.before.before.before.before.before.before.before.before.args in
-    let e = sym c.before.before.before.before.before.before.before.byte.ensures.0 ∙ c.before.before.before.before.before.if2.true in
-    let h = sym c.before.before.before.before.has-variable.ensures ∙ c.before.before.before.if3.true in
-    rw (leaf_variable a.q.variables a.q.clocks a.b.now a.at a.end e h, ← c.before.before.byte2.ensures.0, c.constant2.ensures, c.before.has-bit.ensures)
+    let e = sym c.before.before.before.before.before.before.before.byte-code.ensures.0 ∙ c.before.before.before.before.before.if-code-eq3.true in
+    let h = sym c.before.before.before.before.has_variable.ensures ∙ c.before.before.before.if-has_variable.true in
+    rw (leaf_variable a.q.variables a.q.clocks a.b.now a.at a.end e h, ← c.before.before.byte.ensures.0, c.constant-then-has_variable.ensures, c.before.has_bit-value.ensures)
 
-returns-3 : tie.Need-returns-3
+returns-3 : tie.Need-returns-then-code-eq3
 returns-3 c = let a = c.before.before.before.before.before.before.before.args in
-    let e = sym c.before.before.before.before.byte.ensures.0 ∙ c.before.before.if2.true in
-    let h = sym c.before.has-variable.ensures ∙ c.if3.false in
+    let e = sym c.before.before.before.before.byte-code.ensures.0 ∙ c.before.before.if-code-eq3.true in
+    let h = sym c.before.has_variable.ensures ∙ c.if-has_variable.false in
     rw (leaf_no_variable a.q.variables a.q.clocks a.b.now a.at a.end e h)
 
-has-clock-requires : tie.Need-has-clock-requires
+has-clock-requires : tie.Need-has_clock-requires
 has-clock-requires c κs = search rules
 
-add-byte-2 : tie.Need-overflow-add-byte-2
+add-byte-2 : tie.Need-overflow_add-at-then-has_clock
 add-byte-2 c = search rules
 
-byte-requires-3 : tie.Need-byte-requires-3
+byte-requires-3 : tie.Need-byte-requires-then-has_clock
 byte-requires-3 c κs = search rules
 
-add-byte-3 : tie.Need-overflow-add-byte-3
+add-byte-3 : tie.Need-overflow_add-at-then-has_clock-2
 add-byte-3 c = let a = c.before.before.before.before.before.before.before.before.args in
-    omega (arith, leb-true (a.at + 3) a.end (and_left _ (ltb (byte_at a.b.now (a.at + 1)) a.q.clocks) (sym c.before.before.has-clock.ensures ∙ c.before.if4.true)))
+    omega (arith, leb-true (a.at + 3) a.end (and_left _ (ltb (byte_at a.b.now (a.at + 1)) a.q.clocks) (sym c.before.before.has_clock.ensures ∙ c.before.if-has_clock.true)))
 
-byte-requires-4 : tie.Need-byte-requires-4
+byte-requires-4 : tie.Need-byte-requires-then-has_clock-2
 byte-requires-4 c κs = search rules
 
-add-clock-seen : tie.Need-overflow-add-clock-seen
+add-clock-seen : tie.Need-overflow_add-at-then-has_clock-3
 add-clock-seen c = let a = c.before.before.before.before.before.before.before.before.before.args in
-    omega (arith, leb-true (a.at + 3) a.end (and_left _ (ltb (byte_at a.b.now (a.at + 1)) a.q.clocks) (sym c.before.before.before.has-clock.ensures ∙ c.before.before.if4.true)))
+    omega (arith, leb-true (a.at + 3) a.end (and_left _ (ltb (byte_at a.b.now (a.at + 1)) a.q.clocks) (sym c.before.before.before.has_clock.ensures ∙ c.before.before.if-has_clock.true)))
 
-clock-seen-requires : tie.Need-clock-seen-requires
+clock-seen-requires : tie.Need-clock_seen-requires
 clock-seen-requires c κs = search rules
 
-returns-4 : tie.Need-returns-4
+returns-4 : tie.Need-returns-then-has_clock
 returns-4 c = let a = c.before.before.before.before.before.before.before.before.before.before.args in
-    let code = c.before.before.before.before.before.before.before.byte.ensures.0 in
-    let h = sym c.before.before.before.before.has-clock.ensures ∙ c.before.before.before.if4.true in
-    let r = leaf_clock a.q.variables a.q.clocks a.b.now a.at a.end (λ p. c.before.before.before.before.before.before.if1.false (code ∙ p)) (λ p. c.before.before.before.before.before.if2.false (code ∙ p)) h in
-    rw (r, ← code, ← c.before.before.byte3.ensures.0, ← c.before.byte4.ensures.0) c.clock-seen.ensures
+    let code = c.before.before.before.before.before.before.before.byte-code.ensures.0 in
+    let h = sym c.before.before.before.before.has_clock.ensures ∙ c.before.before.before.if-has_clock.true in
+    let r = leaf_clock a.q.variables a.q.clocks a.b.now a.at a.end (λ p. c.before.before.before.before.before.before.if-code-eq0.false (code ∙ p)) (λ p. c.before.before.before.before.before.if-code-eq3.false (code ∙ p)) h in
+    rw (r, ← code, ← c.before.before.byte-then-has_clock.ensures.0, ← c.before.byte-then-has_clock-2.ensures.0) c.clock_seen.ensures
 
-returns-5 : tie.Need-returns-5
+returns-5 : tie.Need-returns
 returns-5 c = let a = c.before.before.before.before.before.before.before.args in
-    let code = c.before.before.before.before.byte.ensures.0 in
-    let h = sym c.before.has-clock.ensures ∙ c.if4.false in
-    rw (leaf_no_clock a.q.variables a.q.clocks a.b.now a.at a.end (λ p. c.before.before.before.if1.false (code ∙ p)) (λ p. c.before.before.if2.false (code ∙ p)) h)
+    let code = c.before.before.before.before.byte-code.ensures.0 in
+    let h = sym c.before.has_clock.ensures ∙ c.if-has_clock.false in
+    rw (leaf_no_clock a.q.variables a.q.clocks a.b.now a.at a.end (λ p. c.before.before.before.if-code-eq0.false (code ∙ p)) (λ p. c.before.before.if-code-eq3.false (code ∙ p)) h)
 
-pub leaf-seen-spec : {M : Type 1} → statement M
-leaf-seen-spec =
+pub leaf_seen_spec : {M : Type 1} → statement M
+leaf_seen_spec =
     tie.close
     (tie.spec
     byte-requires

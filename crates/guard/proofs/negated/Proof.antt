@@ -5,23 +5,22 @@ use Rattle.guard.proofs.Guards.{opposite_of}
 use Rattle.guard.proofs.negated.Statement.{statement}
 use Rattle.guard.proofs.negated.Tie as tie
 
-enum-known-inner : tie.Need-enum-known-inner
+enum-known-inner : tie.Need-enum_known-inner
 enum-known-inner c = search rules
 
-enum_told : tie.Need-enum-told
+enum_told : tie.Need-enum_told-1
 enum_told c = search rules
 
-returns : tie.Need-returns
+returns : tie.Need-returns-in_default
 returns c = search rules
 
 complement-requires : tie.Need-complement-requires
 complement-requires c κs = search rules
 
-returns-2 : tie.Need-returns-2
+returns-2 : tie.Need-returns
 returns-2 c =
-    let p = c.before.before.inner.given.0 in
-    let e : c.before.before.before.before.args.inner ≡ UpTo p.0 p.1.0 p.1.1.0 p.1.1.1.0 = cc in
-    opposite_of c.before.before.before.before.args.inner p.0 p.1.1.1.0 p.1.0 p.1.1.0 c.complement.result e c.complement.ensures
+    let e : c.before.before.args.inner ≡ UpTo c.before.in-UpTo.next c.before.in-UpTo.value c.before.in-UpTo.later c.before.in-UpTo.bound = cc in
+    opposite_of c.before.before.args.inner c.before.in-UpTo.next c.before.in-UpTo.bound c.before.in-UpTo.value c.before.in-UpTo.later c.complement.result e c.complement.ensures
 
-pub negated-spec : {M : Type 1} → statement M
-negated-spec = tie.close (tie.spec enum-known-inner enum_told returns complement-requires returns-2)
+pub negated_spec : {M : Type 1} → statement M
+negated_spec = tie.close (tie.spec enum-known-inner enum_told returns complement-requires returns-2)

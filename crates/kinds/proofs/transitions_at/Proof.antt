@@ -10,16 +10,16 @@ use Rattle.kinds.proofs.transitions_at.Tie as tie
 byte-requires : tie.Need-byte-requires
 byte-requires c κs = search rules
 
-record-at-requires : tie.Need-record-at-requires
+record-at-requires : tie.Need-record_at-requires
 record-at-requires c κs = search rules
 
 returns : tie.Need-returns
 unfolding transition_at
 returns c =
     let b = c.before.before.before.args.table.now in (
-      c.record-at.ensures ∙ ap (kind_at (version_at b)) c.before.byte.ensures.0,
-      omega (arith, c.record-at.ensures, kind-most (version_at b) c.before.byte.result 255 (omega arith)),
+      c.record_at.ensures ∙ ap (kind_at (version_at b)) c.before.byte.ensures.0,
+      omega (arith, c.record_at.ensures, kind-most (version_at b) c.before.byte.result 255 (omega arith)),
     )
 
-pub transitions-at-spec : {M : Type 1} → statement M
-transitions-at-spec = tie.close (tie.spec byte-requires record-at-requires returns)
+pub transitions_at_spec : {M : Type 1} → statement M
+transitions_at_spec = tie.close (tie.spec byte-requires record-at-requires returns)

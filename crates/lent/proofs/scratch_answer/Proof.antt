@@ -2,11 +2,11 @@ use borrow.Author.Tests.{le-leb, lt-leb}
 use Rattle.lent.proofs.scratch_answer.Statement.{statement}
 use Rattle.lent.proofs.scratch_answer.Tie as tie
 
-returns : tie.Need-returns
-returns c = rw (lt-leb _ _ c.if1.true)
+returns : tie.Need-returns-then-scratch
+returns c = rw (lt-leb _ _ c.if-scratch.true)
 
-returns-2 : tie.Need-returns-2
-returns-2 c = rw (le-leb _ _ c.if1.false)
+returns-2 : tie.Need-returns
+returns-2 c = rw (le-leb _ _ c.if-scratch.false)
 
-pub scratch-answer-spec : {M : Type 1} → statement M
-scratch-answer-spec = tie.close (tie.spec returns returns-2)
+pub scratch_answer_spec : {M : Type 1} → statement M
+scratch_answer_spec = tie.close (tie.spec returns returns-2)

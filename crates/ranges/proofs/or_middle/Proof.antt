@@ -15,7 +15,7 @@ still d n len h l = omega arith
 past-requires : tie.Need-past-requires
 past-requires c κs = search rules
 
-add-past : tie.Need-add-past
+add-past : tie.Need-overflow_add-s
 add-past c = search rules
 
 past-requires-2 : tie.Need-past-requires-2
@@ -24,7 +24,7 @@ past-requires-2 c κs = search rules
 lesser-requires : tie.Need-lesser-requires
 lesser-requires c κs = search rules
 
-add-past-2 : tie.Need-add-past-2
+add-past-2 : tie.Need-overflow_add-m
 add-past-2 c = search rules
 
 past-requires-3 : tie.Need-past-requires-3
@@ -33,46 +33,46 @@ past-requires-3 c κs = search rules
 lesser-requires-2 : tie.Need-lesser-requires-2
 lesser-requires-2 c κs = search rules
 
-lesser-requires-3 : tie.Need-lesser-requires-3
+lesser-requires-3 : tie.Need-lesser-n-requires
 lesser-requires-3 c κs = search rules
 
-or-words-requires : tie.Need-or-words-requires
+or-words-requires : tie.Need-or_words-requires
 or-words-requires c κs = search rules
 
-mul-or-slow : tie.Need-mul-or-slow
+mul-or-slow : tie.Need-overflow_mul-n
 mul-or-slow c = search rules
 
-add-or-slow : tie.Need-add-or-slow
+add-or-slow : tie.Need-overflow_add-d
 add-or-slow c = search rules
 
-mul-or-slow-2 : tie.Need-mul-or-slow-2
+mul-or-slow-2 : tie.Need-overflow_mul-n-2
 mul-or-slow-2 c = search rules
 
-add-or-slow-2 : tie.Need-add-or-slow-2
+add-or-slow-2 : tie.Need-overflow_add-s-2
 add-or-slow-2 c = search rules
 
-mul-or-slow-3 : tie.Need-mul-or-slow-3
+mul-or-slow-3 : tie.Need-overflow_mul-n-3
 mul-or-slow-3 c = search rules
 
-add-or-slow-3 : tie.Need-add-or-slow-3
+add-or-slow-3 : tie.Need-overflow_add-m-2
 add-or-slow-3 c = search rules
 
-mul-or-slow-4 : tie.Need-mul-or-slow-4
+mul-or-slow-4 : tie.Need-overflow_mul-n-4
 mul-or-slow-4 c = search rules
 
-sub-or-slow : tie.Need-sub-or-slow
+sub-or-slow : tie.Need-overflow_sub-len
 sub-or-slow c = search rules
 
-or-slow-requires : tie.Need-or-slow-requires
+or-slow-requires : tie.Need-or_slow-requires
 or-slow-requires c κs =
     let least = c.before.before.before.before.before in
     let start = least.before.before.before.before.before.before.before.before.before in
     let a = start.args in
-    let n = least.lesser3.result in
-    let h = few n least.before.lesser2.result least.before.before.before.lesser.result _ a.len least.before.lesser2.ensures least.lesser3.ensures in
-    (still a.d n a.len h start.pre.1, still a.s n a.len h start.pre.2, still a.m n a.len h start.pre.3)
+    let n = least.lesser-n.result in
+    let h = few n least.before.lesser-2.result least.before.before.before.lesser.result _ a.len least.before.lesser-2.ensures least.lesser-n.ensures in
+    (still a.d n a.len h start.requires.1, still a.s n a.len h start.requires.2, still a.m n a.len h start.requires.3)
 
-same_length : tie.Need-same-length
+same_length : tie.Need-shape_of-dst
 same_length c = search rules
 
 returns : tie.Need-returns
@@ -81,14 +81,14 @@ returns c =
     let words = slow.before.before.before.before in
     let least = words.before.before in
     let a = least.before.before.before.before.before.before.before.before.before.args in
-    let n = least.lesser3.result in
-    range_more a.d a.s a.m a.src.now a.mask.now (64 * n) (a.len - 64 * n) a.len (omega (arith, least.lesser3.ensures, least.before.lesser2.ensures)) a.dst.now words.or-words.last.0 slow.or-slow.last.0
-    (moved (64 * (a.d / 64)) a.d (64 * (a.s / 64) + a.s % 64) a.s (64 * (a.m / 64) + a.m % 64) a.m (64 * n) a.src.now a.mask.now a.dst.now words.or-words.last.0
-    (omega (arith, least.before.before.before.before.before.before.before.before.before.pre.0)) (omega arith) (omega arith) words.or-words.ensures)
-    slow.or-slow.ensures
+    let n = least.lesser-n.result in
+    range_more a.d a.s a.m a.src.now a.mask.now (64 * n) (a.len - 64 * n) a.len (omega (arith, least.lesser-n.ensures, least.before.lesser-2.ensures)) a.dst.now words.or_words.new.dst slow.or_slow.new.dst
+    (moved (64 * (a.d / 64)) a.d (64 * (a.s / 64) + a.s % 64) a.s (64 * (a.m / 64) + a.m % 64) a.m (64 * n) a.src.now a.mask.now a.dst.now words.or_words.new.dst
+    (omega (arith, least.before.before.before.before.before.before.before.before.before.requires.0)) (omega arith) (omega arith) words.or_words.ensures)
+    slow.or_slow.ensures
 
-pub or-middle-spec : {M : Type 1} → statement M
-or-middle-spec =
+pub or_middle_spec : {M : Type 1} → statement M
+or_middle_spec =
     tie.close
     (tie.spec
     past-requires

@@ -19,47 +19,47 @@ present_more set s below e r l = go (ℕ_discrete r s)
     go (yes q) = ap (λ (x : ℕ). mem set x) q ∙ e
     go (no q) = below r (omega arith)
 
-abbrev invariant-loop : tie.invariant-loop
+abbrev invariant-loop : tie.invariant-loop-left
 invariant-loop set states left₀ left = (left ≤ states) × ((r : ℕ) → r < states - left → mem set r ≡ true)
 
-abbrev decreases-loop : tie.decreases-loop
+abbrev decreases-loop : tie.decreases-loop-left
 decreases-loop set states left₀ left = left
 
-loop-holds : tie.Need-loop-init invariant-loop decreases-loop
+loop-holds : tie.Need-loop-left-init invariant-loop decreases-loop
 loop-holds c = (omega arith, λ r l. absurd (omega arith))
 
-sub-s : tie.Need-overflow-sub-s invariant-loop decreases-loop
+sub-s : tie.Need-overflow_sub-s invariant-loop decreases-loop
 sub-s c = search rules
 
-cast-test : tie.Need-overflow-cast-test invariant-loop decreases-loop
+cast-test : tie.Need-overflow_cast-s invariant-loop decreases-loop
 cast-test c = search rules
 
 test-requires : tie.Need-test-requires invariant-loop decreases-loop
 test-requires c κs = search rules
 
-cast-t8 : tie.Need-overflow-cast-t8 invariant-loop decreases-loop
+cast-t8 : tie.Need-overflow_cast-result invariant-loop decreases-loop
 cast-t8 c = search rules
 
-returns : tie.Need-returns invariant-loop decreases-loop
-returns c = sym (one_missing _ _ _ (omega arith) c.before.before.before.loop.invariant.1 (sym c.before.test.ensures ∙ not-true c.before.test.result c.if1.true))
+returns : tie.Need-returns-then-not-test invariant-loop decreases-loop
+returns c = sym (one_missing _ _ _ (omega arith) c.before.before.before.loop-left.invariant.1 (sym c.before.test.ensures ∙ c.if-not-test.true))
 
-sub-left : tie.Need-overflow-sub-left invariant-loop decreases-loop
+sub-left : tie.Need-overflow_sub-left invariant-loop decreases-loop
 sub-left c = search rules
 
-loop-less : tie.Need-loop-smaller invariant-loop decreases-loop
+loop-less : tie.Need-loop-left-smaller invariant-loop decreases-loop
 loop-less c = search rules
 
-loop-again : tie.Need-loop-preserved invariant-loop decreases-loop
+loop-again : tie.Need-loop-left-preserved invariant-loop decreases-loop
 loop-again c = (
   omega arith,
-  λ r l. present_more _ _ c.before.before.before.loop.invariant.1 (sym c.before.test.ensures ∙ not-false c.before.test.result c.if1.false) r (omega arith),
+  λ r l. present_more _ _ c.before.before.before.loop-left.invariant.1 (sym c.before.test.ensures ∙ c.if-not-test.false) r (omega arith),
 )
 
-returns-2 : tie.Need-returns-2 invariant-loop decreases-loop
-returns-2 c = sym (all_found _ _ (λ r l. c.before.loop.invariant.1 r (omega arith)))
+returns-2 : tie.Need-returns invariant-loop decreases-loop
+returns-2 c = sym (all_found _ _ (λ r l. c.before.loop-left.invariant.1 r (omega arith)))
 
-pub first-absent-spec : {M : Type 1} → statement M
-first-absent-spec =
+pub first_absent_spec : {M : Type 1} → statement M
+first_absent_spec =
     tie.close
     (tie.spec
     invariant-loop

@@ -5,17 +5,17 @@ use borrow.Author.Rules.{rules}
 use Rattle.rows.proofs.byte.Statement.{statement}
 use Rattle.rows.proofs.byte.Tie as tie
 
-shared-slice-read-result : tie.Need-shared-slice-read-result
+shared-slice-read-result : tie.Need-bounds-s-at
 shared-slice-read-result c = search rules
 
-cast-result : tie.Need-overflow-cast-result
-cast-result c = record { fits = omega (arith, (c.shared-slice-known.given c.before.before.args.at).fits) }
+cast-result : tie.Need-overflow_cast-result
+cast-result c = record { fits = omega (arith, (c.shared_slice_known-1.given c.before.before.args.at).fits) }
 
-returns : tie.Need-returns
-returns c = (refl, (c.shared-slice-known.given c.before.before.args.at).fits)
+returns : tie.Need-returns-then-at-s
+returns c = (refl, (c.shared_slice_known-1.given c.before.before.args.at).fits)
 
-returns-2 : tie.Need-returns-2
-returns-2 c = (sym (get_or-eq_default c.before.args.s.now 0 c.if1.false), omega arith)
+returns-2 : tie.Need-returns-else-at-s
+returns-2 c = (sym (get_or-eq_default c.before.args.s.now 0 c.if-at-s.false), omega arith)
 
-pub byte-spec : {M : Type 1} → statement M
-byte-spec = tie.close (tie.spec shared-slice-read-result cast-result returns returns-2)
+pub byte_spec : {M : Type 1} → statement M
+byte_spec = tie.close (tie.spec shared-slice-read-result cast-result returns returns-2)

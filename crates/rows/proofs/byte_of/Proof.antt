@@ -6,13 +6,13 @@ use Rattle.rows.proofs.byte_of.Tie as tie
 word-requires : tie.Need-word-requires
 word-requires c κs = search rules
 
-mul-result : tie.Need-overflow-mul-result
+mul-result : tie.Need-overflow_mul-result
 mul-result c = search rules
 
-shr-result : tie.Need-overflow-shr-result
+shr-result : tie.Need-overflow_shr-result
 shr-result c = search rules
 
-cast-result : tie.Need-overflow-cast-result
+cast-result : tie.Need-overflow_cast-result
 cast-result c = search rules
 
 returns : tie.Need-returns
@@ -20,5 +20,5 @@ returns c =
     let a = c.before.before.args in
     byte_bits a.a.now a.b c.word.result c.word.ensures.0
 
-pub byte-of-spec : {M : Type 1} → statement M
-byte-of-spec = tie.close (tie.spec word-requires mul-result shr-result cast-result returns)
+pub byte_of_spec : {M : Type 1} → statement M
+byte_of_spec = tie.close (tie.spec word-requires mul-result shr-result cast-result returns)

@@ -9,109 +9,109 @@ use borrow.Author.Rules.{rules}
 use Rattle.rows.proofs.store_word.Statement.{statement}
 use Rattle.rows.proofs.store_word.Tie as tie
 
-mul-x : tie.Need-overflow-mul-x
+mul-x : tie.Need-offset_bounds-a-k
 mul-x c = search rules
 
-shared-slice-read-x : tie.Need-shared-slice-read-x
+shared-slice-read-x : tie.Need-bounds-a-k
 shared-slice-read-x c = search rules
 
-cast-row : tie.Need-overflow-cast-row
+cast-row : tie.Need-overflow_cast-row
 cast-row c = search rules
 
-mul-row : tie.Need-overflow-mul-row
+mul-row : tie.Need-overflow_mul-row
 mul-row c = search rules
 
-add_row : tie.Need-overflow-add-row
+add_row : tie.Need-overflow_add-row
 add_row c = search rules
 
-slice-write-row : tie.Need-slice-write-row
+slice-write-row : tie.Need-bounds-row-k
 slice-write-row c = search rules
 
-cast-row-2 : tie.Need-overflow-cast-row-2
+cast-row-2 : tie.Need-overflow_cast-row-2
 cast-row-2 c = search rules
 
-mul-row-2 : tie.Need-overflow-mul-row-2
+mul-row-2 : tie.Need-overflow_mul-row-2
 mul-row-2 c = search rules
 
-add-row-2 : tie.Need-overflow-add-row-2
+add-row-2 : tie.Need-overflow_add-row-2
 add-row-2 c = search rules
 
-slice-write-row-2 : tie.Need-slice-write-row-2
+slice-write-row-2 : tie.Need-bounds-row-k-2
 slice-write-row-2 c = simp length-set (omega arith)
 
-cast-row-3 : tie.Need-overflow-cast-row-3
+cast-row-3 : tie.Need-overflow_cast-row-3
 cast-row-3 c = search rules
 
-mul-row-3 : tie.Need-overflow-mul-row-3
+mul-row-3 : tie.Need-overflow_mul-row-3
 mul-row-3 c = search rules
 
-add-row-3 : tie.Need-overflow-add-row-3
+add-row-3 : tie.Need-overflow_add-row-3
 add-row-3 c = search rules
 
-slice-write-row-3 : tie.Need-slice-write-row-3
+slice-write-row-3 : tie.Need-bounds-row-k-3
 slice-write-row-3 c = simp length-set (omega arith)
 
-cast-row-4 : tie.Need-overflow-cast-row-4
+cast-row-4 : tie.Need-overflow_cast-row-4
 cast-row-4 c = search rules
 
-mul-row-4 : tie.Need-overflow-mul-row-4
+mul-row-4 : tie.Need-overflow_mul-row-4
 mul-row-4 c = search rules
 
-add-row-4 : tie.Need-overflow-add-row-4
+add-row-4 : tie.Need-overflow_add-row-4
 add-row-4 c = search rules
 
-slice-write-row-4 : tie.Need-slice-write-row-4
+slice-write-row-4 : tie.Need-bounds-row-k-4
 slice-write-row-4 c = simp length-set (omega arith)
 
-cast-row-5 : tie.Need-overflow-cast-row-5
+cast-row-5 : tie.Need-overflow_cast-row-5
 cast-row-5 c = search rules
 
-mul-row-5 : tie.Need-overflow-mul-row-5
+mul-row-5 : tie.Need-overflow_mul-row-5
 mul-row-5 c = search rules
 
-add-row-5 : tie.Need-overflow-add-row-5
+add-row-5 : tie.Need-overflow_add-row-5
 add-row-5 c = search rules
 
-slice-write-row-5 : tie.Need-slice-write-row-5
+slice-write-row-5 : tie.Need-bounds-row-k-5
 slice-write-row-5 c = simp length-set (omega arith)
 
-cast-row-6 : tie.Need-overflow-cast-row-6
+cast-row-6 : tie.Need-overflow_cast-row-6
 cast-row-6 c = search rules
 
-mul-row-6 : tie.Need-overflow-mul-row-6
+mul-row-6 : tie.Need-overflow_mul-row-6
 mul-row-6 c = search rules
 
-add-row-6 : tie.Need-overflow-add-row-6
+add-row-6 : tie.Need-overflow_add-row-6
 add-row-6 c = search rules
 
-slice-write-row-6 : tie.Need-slice-write-row-6
+slice-write-row-6 : tie.Need-bounds-row-k-6
 slice-write-row-6 c = simp length-set (omega arith)
 
-cast-row-7 : tie.Need-overflow-cast-row-7
+cast-row-7 : tie.Need-overflow_cast-row-7
 cast-row-7 c = search rules
 
-mul-row-7 : tie.Need-overflow-mul-row-7
+mul-row-7 : tie.Need-overflow_mul-row-7
 mul-row-7 c = search rules
 
-add-row-7 : tie.Need-overflow-add-row-7
+add-row-7 : tie.Need-overflow_add-row-7
 add-row-7 c = search rules
 
-slice-write-row-7 : tie.Need-slice-write-row-7
+slice-write-row-7 : tie.Need-bounds-row-k-7
 slice-write-row-7 c = simp length-set (omega arith)
 
-cast-row-8 : tie.Need-overflow-cast-row-8
+cast-row-8 : tie.Need-overflow_cast-row-8
 cast-row-8 c = search rules
 
-mul-row-8 : tie.Need-overflow-mul-row-8
+mul-row-8 : tie.Need-overflow_mul-row-8
 mul-row-8 c = search rules
 
-add-row-8 : tie.Need-overflow-add-row-8
+add-row-8 : tie.Need-overflow_add-row-8
 add-row-8 c = search rules
 
-slice-write-row-8 : tie.Need-slice-write-row-8
+slice-write-row-8 : tie.Need-bounds-row-k-8
 slice-write-row-8 c = simp length-set (omega arith)
 
-same_length : tie.Need-same-length
+same_length : tie.Need-shape_of-row
 same_length c = simp length-set
 
 returns : tie.Need-returns
@@ -149,8 +149,8 @@ returns c =
           (subst (λ (n : ℕ). Upto8 (mem s) n r0) (omega arith) c.before.requires.2))))))))),
     )
 
-pub store-word-spec : {M : Type 1} → statement M
-store-word-spec =
+pub store_word_spec : {M : Type 1} → statement M
+store_word_spec =
     tie.close
     (tie.spec
     mul-x

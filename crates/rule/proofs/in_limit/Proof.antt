@@ -11,10 +11,10 @@ use Rattle.rule.proofs.in_limit.Tie as tie
 masks-requires : tie.Need-masks-requires
 masks-requires c κs = search rules
 
-cast-result : tie.Need-overflow-cast-result
+cast-result : tie.Need-overflow_cast-result
 cast-result c = search rules
 
-div-result : tie.Need-nonzero-div-result
+div-result : tie.Need-nonzero_div-result
 div-result c = search rules
 
 returns : tie.Need-returns
@@ -22,5 +22,5 @@ returns c =
     let size = c.before.args.size in
     divided size c.masks.result size_limit c.masks.ensures.2 ∙ ap (λ (n : ℕ). leb (size * n) size_limit) c.masks.ensures.0
 
-pub in-limit-spec : {M : Type 1} → statement M
-in-limit-spec = tie.close (tie.spec masks-requires cast-result div-result returns)
+pub in_limit_spec : {M : Type 1} → statement M
+in_limit_spec = tie.close (tie.spec masks-requires cast-result div-result returns)

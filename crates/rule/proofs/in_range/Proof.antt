@@ -4,27 +4,27 @@ use Rattle.rule.specs.Within.{in_range}
 use Rattle.rule.proofs.in_range.Statement.{statement}
 use Rattle.rule.proofs.in_range.Tie as tie
 
-returns : tie.Need-returns
+returns : tie.Need-returns-then-rule-gt-DEVICE_LIMIT
 unfolding in_range
-returns c = rw (lt-leb _ _ c.if1.true)
+returns c = rw (lt-leb _ _ c.if-rule-gt-DEVICE_LIMIT.true)
 
-returns-2 : tie.Need-returns-2
+returns-2 : tie.Need-returns-then-rule-lt1
 unfolding in_range
-returns-2 c = rw (le-leb _ _ c.before.before.if1.false, lt-leb _ _ c.if2.true)
+returns-2 c = rw (le-leb _ _ c.before.before.if-rule-gt-DEVICE_LIMIT.false, lt-leb _ _ c.if-rule-lt1.true)
 
-returns-3 : tie.Need-returns-3
+returns-3 : tie.Need-returns-then-rule-gt-WINDOW_LIMIT
 unfolding in_range
 returns-3 c =
-    rw (le-leb _ _ c.before.before.before.before.if1.false, le-leb _ _ c.before.before.if2.false, lt-leb _ _ c.if3.true)
+    rw (le-leb _ _ c.before.before.before.before.if-rule-gt-DEVICE_LIMIT.false, le-leb _ _ c.before.before.if-rule-lt1.false, lt-leb _ _ c.if-rule-gt-WINDOW_LIMIT.true)
 
-returns-4 : tie.Need-returns-4
+returns-4 : tie.Need-returns
 unfolding in_range
 returns-4 c =
     rw (
-      le-leb _ _ c.before.before.before.before.before.if1.false,
-      le-leb _ _ c.before.before.before.if2.false,
-      le-leb _ _ c.before.if3.false,
+      le-leb _ _ c.before.before.before.before.before.if-rule-gt-DEVICE_LIMIT.false,
+      le-leb _ _ c.before.before.before.if-rule-lt1.false,
+      le-leb _ _ c.before.if-rule-gt-WINDOW_LIMIT.false,
     )
 
-pub in-range-spec : {M : Type 1} → statement M
-in-range-spec = tie.close (tie.spec returns returns-2 returns-3 returns-4)
+pub in_range_spec : {M : Type 1} → statement M
+in_range_spec = tie.close (tie.spec returns returns-2 returns-3 returns-4)

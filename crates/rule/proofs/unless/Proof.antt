@@ -2,11 +2,11 @@
 use Rattle.rule.proofs.unless.Statement.{statement}
 use Rattle.rule.proofs.unless.Tie as tie
 
-returns : tie.Need-returns
-returns c = rw c.if1.true
+returns : tie.Need-returns-then-passed
+returns c = rw c.if-passed.true
 
-returns-2 : tie.Need-returns-2
-returns-2 c = rw c.if1.false
+returns-2 : tie.Need-returns-else-passed
+returns-2 c = rw c.if-passed.false
 
-pub unless-spec : {M : Type 1} → statement M
-unless-spec = tie.close (tie.spec returns returns-2)
+pub unless_spec : {M : Type 1} → statement M
+unless_spec = tie.close (tie.spec returns returns-2)

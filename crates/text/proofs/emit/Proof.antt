@@ -7,25 +7,25 @@ use Rattle.text.specs.Put.{stored}
 use Rattle.text.proofs.emit.Statement.{statement}
 use Rattle.text.proofs.emit.Tie as tie
 
-slice-write-text : tie.Need-slice-write-text
+slice-write-text : tie.Need-bounds-text-at
 slice-write-text c = search rules
 
-add-result : tie.Need-overflow-add-result
+add-result : tie.Need-overflow_add-result
 add-result c = search rules
 
-same_length : tie.Need-same-length
+same_length : tie.Need-shape_of-text
 same_length c =
     let a = c.before.args in
-    ⊎_elim (λ w. ap length w.1 ∙ length-set a.text.now a.at a.b) (λ w. ap length w.1) c.if1.branch
+    ⊎_elim (λ w. ap length w.1 ∙ length-set a.text.now a.at a.b) (λ w. ap length w.1) c.if-at-text.branch
 
 returns : tie.Need-returns
 unfolding stored
 returns c =
     let a = c.before.args in
     record {
-      text = ⊎_elim (λ w. w.1) (λ w. w.1 ∙ sym (set_out a.text.now a.at a.b w.0.left)) c.if1.branch;
+      text = ⊎_elim (λ w. w.1) (λ w. w.1 ∙ sym (set_out a.text.now a.at a.b w.0.left)) c.if-at-text.branch;
       place = refl;
     }
 
-pub emit-spec : {M : Type 1} → statement M
-emit-spec = tie.close (tie.spec slice-write-text add-result same_length returns)
+pub emit_spec : {M : Type 1} → statement M
+emit_spec = tie.close (tie.spec slice-write-text add-result same_length returns)

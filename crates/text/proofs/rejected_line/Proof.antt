@@ -6,16 +6,13 @@ use Rattle.text.proofs.Stores.{wrote-more}
 use Rattle.text.proofs.rejected_line.Statement.{statement}
 use Rattle.text.proofs.rejected_line.Tie as tie
 
-slice-aggregate-numbers : tie.Need-slice-aggregate-numbers
-slice-aggregate-numbers c = search rules
-
-numbers-requires : tie.Need-numbers-requires
+numbers-requires : tie.Need-numbers-first-requires
 numbers-requires c κs = search rules
 
-number-requires : tie.Need-number-requires
+number-requires : tie.Need-number-second-requires
 number-requires c κs = let a = c.before.before.before.before.before.before.before.args in omega (arith, numbers-length rejected_word a.cost a.instant)
 
-number-requires-2 : tie.Need-number-requires-2
+number-requires-2 : tie.Need-number-next-requires
 number-requires-2 c κs = let a = c.before.before.before.before.before.before.before.before.before.before.before.args in omega (arith, numbers-length rejected_word a.cost a.instant, spaced-length a.early)
 
 emit-requires : tie.Need-emit-requires
@@ -23,17 +20,16 @@ emit-requires c κs =
     let a = c.before.before.before.before.before.before.before.before.before.before.before.before.before.before.before.args in
     omega (arith, numbers-length rejected_word a.cost a.instant, spaced-length a.early, spaced-length a.late)
 
-same_length : tie.Need-same-length
+same_length : tie.Need-shape_of-text
 same_length c = search rules
 
 returns : tie.Need-returns
-returns c = wrote-more (wrote-more (wrote-more c.before.before.before.before.before.before.before.before.before.before.before.before.before.before.numbers.ensures c.before.before.before.before.before.before.before.before.before.before.number.ensures) c.before.before.before.before.before.before.number2.ensures) c.before.before.emit.ensures
+returns c = wrote-more (wrote-more (wrote-more c.before.before.before.before.before.before.before.before.before.before.before.before.before.before.numbers-first.ensures c.before.before.before.before.before.before.before.before.before.before.number-second.ensures) c.before.before.before.before.before.before.number-next.ensures) c.before.before.emit.ensures
 
-pub rejected-line-spec : {M : Type 1} → statement M
-rejected-line-spec =
+pub rejected_line_spec : {M : Type 1} → statement M
+rejected_line_spec =
     tie.close
     (tie.spec
-    slice-aggregate-numbers
     numbers-requires
     number-requires
     number-requires-2

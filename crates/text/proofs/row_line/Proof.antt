@@ -7,19 +7,19 @@ use Rattle.text.proofs.Stores.{wrote-more}
 use Rattle.text.proofs.row_line.Statement.{statement}
 use Rattle.text.proofs.row_line.Tie as tie
 
-cast-marked : tie.Need-overflow-cast-marked
+cast-marked : tie.Need-overflow_cast-e
 cast-marked c = search rules
 
-cast-marked-2 : tie.Need-overflow-cast-marked-2
+cast-marked-2 : tie.Need-overflow_cast-e-2
 cast-marked-2 c = search rules
 
-marked-requires : tie.Need-marked-requires
+marked-requires : tie.Need-marked-behind-requires
 marked-requires c κs = search rules
 
-cast-number : tie.Need-overflow-cast-number
+cast-number : tie.Need-overflow_cast-e-3
 cast-number c = search rules
 
-number-requires : tie.Need-number-requires
+number-requires : tie.Need-number-next-requires
 number-requires c κs =
     let e = c.before.before.before.before.before.before.before.before.before.args.e in
     omega (arith, numbers-length (mark_word e.mark) e.time e.kind, mark-length e.mark)
@@ -29,16 +29,16 @@ emit-requires c κs =
     let e = c.before.before.before.before.before.before.before.before.before.before.before.before.before.args.e in
     omega (arith, numbers-length (mark_word e.mark) e.time e.kind, mark-length e.mark, spaced-length e.transition)
 
-same_length : tie.Need-same-length
+same_length : tie.Need-shape_of-text
 same_length c = search rules
 
 returns : tie.Need-returns
 returns c =
     let number = c.before.before.before.before.before.before in
-    wrote-more (wrote-more number.before.before.before.before.before.marked.ensures number.number.ensures) c.before.before.emit.ensures
+    wrote-more (wrote-more number.before.before.before.before.before.marked-behind.ensures number.number-next.ensures) c.before.before.emit.ensures
 
-pub row-line-spec : {M : Type 1} → statement M
-row-line-spec =
+pub row_line_spec : {M : Type 1} → statement M
+row_line_spec =
     tie.close
     (tie.spec
     cast-marked

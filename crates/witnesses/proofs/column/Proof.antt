@@ -7,16 +7,16 @@ use borrow.Author.Rules.{rules}
 use Rattle.witnesses.proofs.column.Statement.{statement}
 use Rattle.witnesses.proofs.column.Tie as tie
 
-slice-aggregate-bytes-column : tie.Need-slice-aggregate-bytes-column
+slice-aggregate-bytes-column : tie.Need-slice_bounds-bytes_column-end
 slice-aggregate-bytes-column c = search rules
 
-bytes-column-requires : tie.Need-bytes-column-requires
+bytes-column-requires : tie.Need-bytes_column-requires
 bytes-column-requires c κs = search rules
 
 returns : tie.Need-returns
 returns c =
     let a = c.before.before.before.before.args in
-    c.before.bytes-column.ensures ∙ filled_zeros (column_at a.b.now a.start) a.count witness_places _ (omega arith) refl
+    c.before.bytes_column.ensures ∙ filled_zeros (column_at a.b.now a.start) a.count witness_places _ (omega arith) refl
 
-pub column-spec : {M : Type 1} → statement M
-column-spec = tie.close (tie.spec slice-aggregate-bytes-column bytes-column-requires returns)
+pub column_spec : {M : Type 1} → statement M
+column_spec = tie.close (tie.spec slice-aggregate-bytes-column bytes-column-requires returns)

@@ -7,5 +7,5 @@ returns : tie.Need-returns
 unfolding no_witness
 returns c = refl
 
-pub no-parts-spec : {M : Type 1} → statement M
-no-parts-spec = tie.close (tie.spec returns)
+pub no_parts_spec : {M : Type 1} → statement M
+no_parts_spec = tie.close (tie.spec returns)

@@ -7,40 +7,40 @@ use borrow.Author.Rules.{rules}
 use Rattle.witnesses.proofs.put_row.Statement.{statement}
 use Rattle.witnesses.proofs.put_row.Tie as tie
 
-row-among-requires : tie.Need-row-among-requires
+row-among-requires : tie.Need-row_among-requires
 row-among-requires c κs = search rules
 
-row-bytes-requires : tie.Need-row-bytes-requires
+row-bytes-requires : tie.Need-row_bytes-row-requires
 row-bytes-requires c κs = search rules
 
-slice-aggregate-place : tie.Need-slice-aggregate-place
+slice-aggregate-place : tie.Need-slice_bounds-place-end
 slice-aggregate-place c = search rules
 
-rows-place-requires : tie.Need-rows-place-requires
+rows-place-requires : tie.Need-rows_place-requires
 rows-place-requires c κs = search rules
 
-mul-place : tie.Need-overflow-mul-place
+mul-place : tie.Need-overflow_mul-i
 mul-place c = search rules
 
-add-place : tie.Need-overflow-add-place
+add-place : tie.Need-overflow_add-rows_place
 add-place c = search rules
 
 place-requires : tie.Need-place-requires
 place-requires c κs = search rules
 
-same_length : tie.Need-same-length
+same_length : tie.Need-shape_of-out
 same_length c = search rules
 
 returns : tie.Need-returns
 returns c =
     let a = c.before.before.before.before.before.before.before.before.before.before.before.before.before.args in
-    let from = c.before.before.before.rows-place.result + 5 * a.i in
-    rw (← c.before.before.before.rows-place.ensures.0)
+    let from = c.before.before.before.rows_place.result + 5 * a.i in
+    rw (← c.before.before.before.rows_place.ensures.0)
     (c.before.before.place.ensures
-    ∙ ap (λ (l : List ℕ). placed l from a.out.now) (c.before.before.before.before.before.before.row-bytes.ensures ∙ ap row_bytes c.before.before.before.before.before.before.before.row-among.ensures))
+    ∙ ap (λ (l : List ℕ). placed l from a.out.now) (c.before.before.before.before.before.before.row_bytes-row.ensures ∙ ap row_bytes c.before.before.before.before.before.before.before.row_among.ensures))
 
-pub put-row-spec : {M : Type 1} → statement M
-put-row-spec =
+pub put_row_spec : {M : Type 1} → statement M
+put_row_spec =
     tie.close
     (tie.spec
     row-among-requires

@@ -5,26 +5,26 @@ use borrow.Author.Rules.{rules}
 use Rattle.witnesses.proofs.read_witness.Statement.{statement}
 use Rattle.witnesses.proofs.read_witness.Tie as tie
 
-witness-answer-requires : tie.Need-witness-answer-requires
+witness-answer-requires : tie.Need-witness_answer-answer-requires
 witness-answer-requires c κs = search rules
 
 sound-requires : tie.Need-sound-requires
 sound-requires c κs = search rules
 
-parts-at-requires : tie.Need-parts-at-requires
-parts-at-requires c κs = sound-count _ _ _ c.before.before.witness-answer.ensures (sym c.before.sound.ensures ∙ c.if1.true)
+parts-at-requires : tie.Need-parts_at-parts-requires
+parts-at-requires c κs = sound-count _ _ _ c.before.before.witness_answer-answer.ensures (sym c.before.sound.ensures ∙ c.if-sound.true)
 
-returns : tie.Need-returns
-returns c = witness_reads _ _ _ (read_sound _ _ _ c.before.before.before.witness-answer.ensures _ (sym c.before.before.sound.ensures ∙ c.before.if1.true) c.parts_at.ensures)
+returns : tie.Need-returns-then-sound
+returns c = witness_reads _ _ _ (read_sound _ _ _ c.before.before.before.witness_answer-answer.ensures _ (sym c.before.before.sound.ensures ∙ c.before.if-sound.true) c.parts_at-parts.ensures)
 
-no-parts-requires : tie.Need-no-parts-requires
+no-parts-requires : tie.Need-no_parts-parts-requires
 no-parts-requires c κs = search rules
 
-returns-2 : tie.Need-returns-2
-returns-2 c = witness_reads _ _ _ (read_refused _ _ _ c.before.before.before.witness-answer.ensures _ (sym c.before.before.sound.ensures ∙ c.before.if1.false) c.no-parts.ensures)
+returns-2 : tie.Need-returns
+returns-2 c = witness_reads _ _ _ (read_refused _ _ _ c.before.before.before.witness_answer-answer.ensures _ (sym c.before.before.sound.ensures ∙ c.before.if-sound.false) c.no_parts-parts.ensures)
 
-pub read-witness-spec : {M : Type 1} → statement M
-read-witness-spec =
+pub read_witness_spec : {M : Type 1} → statement M
+read_witness_spec =
     tie.close
     (tie.spec
     witness-answer-requires

@@ -19,10 +19,10 @@ returns c = λ i.
     record {
       mark = c.before.before.before.byte.ensures.0 i;
       time = c.before.before.short.ensures.0 i;
-      kind = c.before.byte2.ensures.0 i;
-      transition = c.byte3.ensures.0 i;
+      kind = c.before.byte-2.ensures.0 i;
+      transition = c.byte-3.ensures.0 i;
     }
 
-pub row-among-spec : {M : Type 1} → statement M
-row-among-spec =
+pub row_among_spec : {M : Type 1} → statement M
+row_among_spec =
     tie.close (tie.spec byte-requires short-requires byte-requires-2 byte-requires-3 returns)

@@ -8,28 +8,28 @@ use borrow.Author.Rules.{rules}
 use Rattle.batch.proofs.parts.recorded_times.Statement.{statement}
 use Rattle.batch.proofs.parts.recorded_times.Tie as tie
 
-filler-time-requires : tie.Need-filler-time-requires
+filler-time-requires : tie.Need-filler_time-filler-requires
 filler-time-requires c κs = search rules
 
 word-requires : tie.Need-word-requires
 word-requires c κs = search rules
 
-cast-words-column : tie.Need-overflow-cast-words-column
+cast-words-column : tie.Need-overflow_cast-word
 cast-words-column c = search rules
 
-slice-aggregate-words-column : tie.Need-slice-aggregate-words-column
+slice-aggregate-words-column : tie.Need-slice_bounds-words_column-end
 slice-aggregate-words-column c = search rules
 
-words-column-requires : tie.Need-words-column-requires
+words-column-requires : tie.Need-words_column-requires
 words-column-requires c κs = search rules
 
 returns : tie.Need-returns
 returns c =
     let a = c.before.before.before.before.before.before.args in
-    c.before.words-column.ensures ∙ same-filled (λ i. word_at a.b.now (5 + 3 * i)) row_limit _ _ _ _ c.before.before.before.word.ensures.0 c.before.before.before.before.filler-time.ensures
+    c.before.words_column.ensures ∙ same-filled (λ i. word_at a.b.now (5 + 3 * i)) row_limit _ _ _ _ c.before.before.before.word.ensures.0 c.before.before.before.before.filler_time-filler.ensures
 
-pub recorded-times-spec : {M : Type 1} → statement M
-recorded-times-spec =
+pub recorded_times_spec : {M : Type 1} → statement M
+recorded_times_spec =
     tie.close
     (tie.spec
     filler-time-requires

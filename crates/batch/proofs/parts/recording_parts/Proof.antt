@@ -4,10 +4,10 @@ use borrow.Author.Rules.{rules}
 use Rattle.batch.proofs.parts.recording_parts.Statement.{statement}
 use Rattle.batch.proofs.parts.recording_parts.Tie as tie
 
-recorded-times-requires : tie.Need-recorded-times-requires
+recorded-times-requires : tie.Need-recorded_times-times-requires
 recorded-times-requires c κs = search rules
 
-recorded-kinds-requires : tie.Need-recorded-kinds-requires
+recorded-kinds-requires : tie.Need-recorded_kinds-kinds-requires
 recorded-kinds-requires c κs = search rules
 
 word-requires : tie.Need-word-requires
@@ -18,10 +18,10 @@ unfolding recording_given
 returns c = λ i.
     record {
       count = c.word.ensures.0 i;
-      times = c.before.before.recorded-times.ensures i;
-      kinds = c.before.recorded-kinds.ensures i;
+      times = c.before.before.recorded_times-times.ensures i;
+      kinds = c.before.recorded_kinds-kinds.ensures i;
     }
 
-pub recording-parts-spec : {M : Type 1} → statement M
-recording-parts-spec =
+pub recording_parts_spec : {M : Type 1} → statement M
+recording_parts_spec =
     tie.close (tie.spec recorded-times-requires recorded-kinds-requires word-requires returns)

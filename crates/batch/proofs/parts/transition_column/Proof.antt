@@ -8,28 +8,28 @@ use borrow.Author.Rules.{rules}
 use Rattle.batch.proofs.parts.transition_column.Statement.{statement}
 use Rattle.batch.proofs.parts.transition_column.Tie as tie
 
-byte-requires : tie.Need-byte-requires
+byte-requires : tie.Need-byte-filler-requires
 byte-requires c κs = search rules
 
-byte-requires-2 : tie.Need-byte-requires-2
+byte-requires-2 : tie.Need-byte-requires
 byte-requires-2 c κs = search rules
 
-cast-bytes-column : tie.Need-overflow-cast-bytes-column
+cast-bytes-column : tie.Need-overflow_cast-byte
 cast-bytes-column c = search rules
 
-slice-aggregate-bytes-column : tie.Need-slice-aggregate-bytes-column
+slice-aggregate-bytes-column : tie.Need-slice_bounds-bytes_column-end
 slice-aggregate-bytes-column c = search rules
 
-bytes-column-requires : tie.Need-bytes-column-requires
+bytes-column-requires : tie.Need-bytes_column-requires
 bytes-column-requires c κs = search rules
 
 returns : tie.Need-returns
 returns c =
     let a = c.before.before.before.before.before.before.before.args in
-    c.before.bytes-column.ensures ∙ same-filled (λ i. byte_at a.fields.now (a.field + 7 * i)) transition_limit _ _ _ _ c.before.before.before.byte2.ensures.0 c.before.before.before.before.byte.ensures.0
+    c.before.bytes_column.ensures ∙ same-filled (λ i. byte_at a.fields.now (a.field + 7 * i)) transition_limit _ _ _ _ c.before.before.before.byte.ensures.0 c.before.before.before.before.byte-filler.ensures.0
 
-pub transition-column-spec : {M : Type 1} → statement M
-transition-column-spec =
+pub transition_column_spec : {M : Type 1} → statement M
+transition_column_spec =
     tie.close
     (tie.spec
     byte-requires

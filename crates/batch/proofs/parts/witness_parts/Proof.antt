@@ -4,16 +4,16 @@ use borrow.Author.Rules.{rules}
 use Rattle.batch.proofs.parts.witness_parts.Statement.{statement}
 use Rattle.batch.proofs.parts.witness_parts.Tie as tie
 
-row-column-requires : tie.Need-row-column-requires
+row-column-requires : tie.Need-row_column-marks-requires
 row-column-requires c κs = search rules
 
-time-column-requires : tie.Need-time-column-requires
+time-column-requires : tie.Need-time_column-times-requires
 time-column-requires c κs = search rules
 
-row-column-requires-2 : tie.Need-row-column-requires-2
+row-column-requires-2 : tie.Need-row_column-kinds-requires
 row-column-requires-2 c κs = search rules
 
-row-column-requires-3 : tie.Need-row-column-requires-3
+row-column-requires-3 : tie.Need-row_column-transitions-requires
 row-column-requires-3 c κs = search rules
 
 long-requires : tie.Need-long-requires
@@ -24,14 +24,14 @@ unfolding witness_given
 returns c = λ i.
     record {
       count = c.long.ensures.0 i;
-      marks = c.before.before.before.before.row-column.ensures i;
-      times = c.before.before.before.time-column.ensures i;
-      kinds = c.before.before.row-column2.ensures i;
-      transitions = c.before.row-column3.ensures i;
+      marks = c.before.before.before.before.row_column-marks.ensures i;
+      times = c.before.before.before.time_column-times.ensures i;
+      kinds = c.before.before.row_column-kinds.ensures i;
+      transitions = c.before.row_column-transitions.ensures i;
     }
 
-pub witness-parts-spec : {M : Type 1} → statement M
-witness-parts-spec =
+pub witness_parts_spec : {M : Type 1} → statement M
+witness_parts_spec =
     tie.close
     (tie.spec
     row-column-requires

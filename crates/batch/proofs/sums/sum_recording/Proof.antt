@@ -5,18 +5,18 @@ use borrow.Author.Rules.{rules}
 use Rattle.batch.proofs.sums.sum_recording.Statement.{statement}
 use Rattle.batch.proofs.sums.sum_recording.Tie as tie
 
-sum-word-requires : tie.Need-sum-word-requires
+sum-word-requires : tie.Need-sum_word-total-requires
 sum-word-requires c κs = search rules
 
-sum-words-requires : tie.Need-sum-words-requires
+sum-words-requires : tie.Need-sum_words-total-requires
 sum-words-requires c κs = search rules
 
-sum-on-requires : tie.Need-sum-on-requires
+sum-on-requires : tie.Need-sum_on-requires
 sum-on-requires c κs = search rules
 
 returns : tie.Need-returns
 unfolding recording_numbers
-returns c = (sum_behind _ _ _ _ _ (sum_behind _ _ _ _ _ c.before.before.before.before.before.before.before.before.sum-word.ensures.0 c.before.before.before.before.sum-words.ensures.0) c.sum-on.ensures.0, c.sum-on.ensures.1)
+returns c = (sum_behind _ _ _ _ _ (sum_behind _ _ _ _ _ c.before.before.before.before.before.before.sum_word-total.ensures.0 c.before.before.before.sum_words-total.ensures.0) c.sum_on.ensures.0, c.sum_on.ensures.1)
 
-pub sum-recording-spec : {M : Type 1} → statement M
-sum-recording-spec = tie.close (tie.spec sum-word-requires sum-words-requires sum-on-requires returns)
+pub sum_recording_spec : {M : Type 1} → statement M
+sum_recording_spec = tie.close (tie.spec sum-word-requires sum-words-requires sum-on-requires returns)

@@ -6,22 +6,22 @@ use borrow.Author.Rules.{rules}
 use Rattle.batch.proofs.sums.sum_word.Statement.{statement}
 use Rattle.batch.proofs.sums.sum_word.Tie as tie
 
-cast-t5 : tie.Need-overflow-cast-t5
+cast-t5 : tie.Need-overflow_cast-bytes
 cast-t5 c = search rules
 
-cast-t7 : tie.Need-overflow-cast-t7
+cast-t7 : tie.Need-overflow_cast-bytes-2
 cast-t7 c = search rules
 
-slice-aggregate-sum-on : tie.Need-slice-aggregate-sum-on
+slice-aggregate-sum-on : tie.Need-slice_bounds-sum_on-end
 slice-aggregate-sum-on c = search rules
 
-sum-on-requires : tie.Need-sum-on-requires
+sum-on-requires : tie.Need-sum_on-requires
 sum-on-requires c κs = search rules
 
 returns : tie.Need-returns
 returns c =
     let start = c.before.before in
-    (c.sum-on.ensures.0 ∙ ap (sum_from start.args.from) (word_bytes_lem start.args.word start.ranges.word.fits), c.sum-on.ensures.1)
+    (c.sum_on.ensures.0 ∙ ap (sum_from start.args.from) (word_bytes_lem start.args.word start.ranges.word.fits), c.sum_on.ensures.1)
 
-pub sum-word-spec : {M : Type 1} → statement M
-sum-word-spec = tie.close (tie.spec cast-t5 cast-t7 slice-aggregate-sum-on sum-on-requires returns)
+pub sum_word_spec : {M : Type 1} → statement M
+sum_word_spec = tie.close (tie.spec cast-t5 cast-t7 slice-aggregate-sum-on sum-on-requires returns)

@@ -15,30 +15,30 @@ use Rattle.rows.proofs.span.has.Tie as tie
 take_rest : (s : List ℕ) (a : ℕ) → take (length s - a) (drop a s) ≡ drop a s
 take_rest s a = take_all (length s - a) (drop a s) (omega (arith, length-drop a s))
 
-add_at : tie.Need-overflow-add-at
+add_at : tie.Need-overflow_add-at
 add_at c = search rules
 
-returns : tie.Need-returns
+returns : tie.Need-returns-then-s-at
 returns c =
     let a = c.before.before.args in
     sym (mem-past a.s.now (a.start + a.z) (omega arith))
 
-sub-test : tie.Need-overflow-sub-test
+sub-test : tie.Need-slice_bounds-test-count
 sub-test c = search rules
 
-part-test-start : tie.Need-slice-bounds-test-start
+part-test-start : tie.Need-slice_bounds-test-start
 part-test-start c = search rules
 
-part-test-end : tie.Need-slice-bounds-test-end
+part-test-end : tie.Need-slice_bounds-test-end
 part-test-end c = search rules
 
-add-test : tie.Need-overflow-add-test
+add-test : tie.Need-overflow_add-start
 add-test c = search rules
 
 test-requires : tie.Need-test-requires
 test-requires c κs = search rules
 
-returns-2 : tie.Need-returns-2
+returns-2 : tie.Need-returns
 returns-2 c =
     let a = c.before.before.before.before.args in
     let s = a.s.now in
@@ -47,8 +47,8 @@ returns-2 c =
     let here : 8 * at + i ≡ a.start + a.z = omega arith in
     c.test.ensures ∙ ap (λ (l : List ℕ). mem l i) (take_rest s at) ∙ mem-drop s at i ∙ ap (mem s) here
 
-pub has-spec : {M : Type 1} → statement M
-has-spec =
+pub has_spec : {M : Type 1} → statement M
+has_spec =
     tie.close
     (tie.spec
     add_at

@@ -5,49 +5,49 @@ use borrow.Author.Rules.{rules}
 use Rattle.shifts.proofs.down.word_inner.Statement.{statement}
 use Rattle.shifts.proofs.down.word_inner.Tie as tie
 
-add-q : tie.Need-overflow-add-q
+add-q : tie.Need-overflow_add-q
 add-q c = search rules
 
-mul-result : tie.Need-overflow-mul-result
+mul-result : tie.Need-offset_bounds-src-q
 mul-result c = search rules
 
-shared-slice-read-result : tie.Need-shared-slice-read-result
+shared-slice-read-result : tie.Need-bounds-src-q
 shared-slice-read-result c = search rules
 
-shr-result : tie.Need-overflow-shr-result
+shr-result : tie.Need-overflow_shr-result
 shr-result c = search rules
 
-add-result : tie.Need-overflow-add-result
+add-result : tie.Need-overflow_add-result
 add-result c = search rules
 
-mul-result-2 : tie.Need-overflow-mul-result-2
+mul-result-2 : tie.Need-offset_bounds-src-q-2
 mul-result-2 c = search rules
 
-shared-slice-read-result-2 : tie.Need-shared-slice-read-result-2
+shared-slice-read-result-2 : tie.Need-bounds-src-q-2
 shared-slice-read-result-2 c = search rules
 
-sub-result : tie.Need-overflow-sub-result
+sub-result : tie.Need-overflow_sub-result
 sub-result c = search rules
 
-shl-result : tie.Need-overflow-shl-result
+shl-result : tie.Need-overflow_shl-result-2
 shl-result c = search rules
 
-mul-result-3 : tie.Need-overflow-mul-result-3
+mul-result-3 : tie.Need-offset_bounds-cut-w
 mul-result-3 c = search rules
 
-shared-slice-read-result-3 : tie.Need-shared-slice-read-result-3
+shared-slice-read-result-3 : tie.Need-bounds-cut-w
 shared-slice-read-result-3 c = search rules
 
-mul-result-4 : tie.Need-overflow-mul-result-4
+mul-result-4 : tie.Need-offset_bounds-src-w
 mul-result-4 c = search rules
 
-shared-slice-read-result-4 : tie.Need-shared-slice-read-result-4
+shared-slice-read-result-4 : tie.Need-bounds-src-w
 shared-slice-read-result-4 c = search rules
 
-mul-result-5 : tie.Need-overflow-mul-result-5
+mul-result-5 : tie.Need-offset_bounds-keep-w
 mul-result-5 c = search rules
 
-shared-slice-read-result-5 : tie.Need-shared-slice-read-result-5
+shared-slice-read-result-5 : tie.Need-bounds-keep-w
 shared-slice-read-result-5 c = search rules
 
 returns : tie.Need-returns
@@ -59,11 +59,11 @@ returns c =
     let src = a.src.now in
     let w = a.w in
     shifted_down_bits src a.keep.now a.cut.now w a.k _ _ _ _
-    (down_bits src w a.k _ _ refl refl (x-of.shared-slice-known.given (w + a.k / 64)).fits)
-    refl refl refl (cut_of.shared-slice-known3.given w).fits (src-of.shared-slice-known4.given w).fits
+    (down_bits src w a.k _ _ refl refl (x-of.shared_slice_known-1.given (w + a.k / 64)).fits)
+    refl refl refl (cut_of.shared_slice_known-3-1.given w).fits (src-of.shared_slice_known-4-1.given w).fits
 
-pub word-inner-spec : {M : Type 1} → statement M
-word-inner-spec =
+pub word_inner_spec : {M : Type 1} → statement M
+word_inner_spec =
     tie.close
     (tie.spec
     add-q

@@ -9,58 +9,58 @@ use borrow.Author.Rules.{rules}
 use Rattle.shifts.proofs.up.shift_fast.Statement.{statement}
 use Rattle.shifts.proofs.up.shift_fast.Tie as tie
 
-abbrev invariant-loop : tie.invariant-loop
+abbrev invariant-loop : tie.invariant-loop-w
 invariant-loop dst₀ src k keep cut v e w₀ dst w = (v ≤ w) × (w ≤ e) × (length dst ≡ length dst₀) × Upto (shifted src k keep cut) w dst
 
-abbrev decreases-loop : tie.decreases-loop
+abbrev decreases-loop : tie.decreases-loop-w
 decreases-loop dst₀ src k keep cut v e w₀ dst w = e - w
 
-loop-holds : tie.Need-loop-init invariant-loop decreases-loop
+loop-holds : tie.Need-loop-w-init invariant-loop decreases-loop
 loop-holds c = let pre = c.before.before.before.before.requires in (omega arith, pre.0, refl, pre.2)
 
-word-inner-requires : tie.Need-word-inner-requires invariant-loop decreases-loop
+word-inner-requires : tie.Need-word_inner-requires invariant-loop decreases-loop
 word-inner-requires c κs =
     let start = c.before.before.before.before.before.before in
     let h = start.requires.3 (omega arith) in
     (omega (arith, h.0), omega (arith, h.1), omega (arith, h.2), omega (arith, h.3))
 
-mul-dst : tie.Need-overflow-mul-dst invariant-loop decreases-loop
+mul-dst : tie.Need-offset_bounds-dst-w invariant-loop decreases-loop
 mul-dst c = search rules
 
-slice-write-dst : tie.Need-slice-write-dst invariant-loop decreases-loop
+slice-write-dst : tie.Need-bounds-dst-w invariant-loop decreases-loop
 slice-write-dst c = search rules
 
-add-w : tie.Need-overflow-add-w invariant-loop decreases-loop
+add-w : tie.Need-overflow_add-w invariant-loop decreases-loop
 add-w c = search rules
 
-loop-less : tie.Need-loop-smaller invariant-loop decreases-loop
+loop-less : tie.Need-loop-w-smaller invariant-loop decreases-loop
 loop-less c = search rules
 
-loop-again : tie.Need-loop-preserved invariant-loop decreases-loop
+loop-again : tie.Need-loop-w-preserved invariant-loop decreases-loop
 loop-again c =
     let at-loop = c.before.before in
     let a = at-loop.before.before.before.before.before.args in
-    let w = at-loop.loop.w in
-    let x = c.word-inner.result in
-    let dst = at-loop.loop.dst in (
+    let w = at-loop.loop-w.w in
+    let x = c.word_inner.result in
+    let dst = at-loop.loop-w.dst in (
       omega arith,
       omega arith,
-      length-set dst w x ∙ at-loop.loop.invariant.2,
-      record { all = fill_word (shifted a.src.now a.k a.keep.now a.cut.now) dst w x (omega (arith, at-loop.before.before.before.before.before.requires.1)) c.word-inner.ensures at-loop.loop.invariant.3.all },
+      length-set dst w x ∙ at-loop.loop-w.invariant.2,
+      record { all = fill_word (shifted a.src.now a.k a.keep.now a.cut.now) dst w x (omega (arith, at-loop.before.before.before.before.before.requires.1)) c.word_inner.ensures at-loop.loop-w.invariant.3.all },
     )
 
-same_length : tie.Need-same-length invariant-loop decreases-loop
+same_length : tie.Need-shape_of-dst invariant-loop decreases-loop
 same_length c = search rules
 
 returns : tie.Need-returns invariant-loop decreases-loop
 returns c =
     let at-loop = c.before in
     let a = at-loop.before.before.before.before.before.args in
-    let e : at-loop.loop.w ≡ a.e = omega arith in
-    (at-loop.loop.invariant.2, subst (λ (n : ℕ). Upto (shifted a.src.now a.k a.keep.now a.cut.now) n at-loop.loop.dst) e at-loop.loop.invariant.3)
+    let e : at-loop.loop-w.w ≡ a.e = omega arith in
+    (at-loop.loop-w.invariant.2, subst (λ (n : ℕ). Upto (shifted a.src.now a.k a.keep.now a.cut.now) n at-loop.loop-w.dst) e at-loop.loop-w.invariant.3)
 
-pub shift-fast-spec : {M : Type 1} → statement M
-shift-fast-spec =
+pub shift_fast_spec : {M : Type 1} → statement M
+shift_fast_spec =
     tie.close
     (tie.spec
     invariant-loop

@@ -9,55 +9,55 @@ use borrow.Author.Rules.{rules}
 use Rattle.shifts.proofs.up.shift_slow.Statement.{statement}
 use Rattle.shifts.proofs.up.shift_slow.Tie as tie
 
-abbrev invariant-loop : tie.invariant-loop
+abbrev invariant-loop : tie.invariant-loop-w
 invariant-loop dst₀ src k keep cut v e w₀ dst w = (v ≤ w) × (w ≤ e) × (length dst ≡ length dst₀) × Upto (shifted src k keep cut) w dst
 
-abbrev decreases-loop : tie.decreases-loop
+abbrev decreases-loop : tie.decreases-loop-w
 decreases-loop dst₀ src k keep cut v e w₀ dst w = e - w
 
-loop-holds : tie.Need-loop-init invariant-loop decreases-loop
+loop-holds : tie.Need-loop-w-init invariant-loop decreases-loop
 loop-holds c = let pre = c.before.before.before.before.requires in (omega arith, pre.0, refl, pre.2)
 
-word-shifted-requires : tie.Need-word-shifted-requires invariant-loop decreases-loop
+word-shifted-requires : tie.Need-word_shifted-requires invariant-loop decreases-loop
 word-shifted-requires c κs = search rules
 
-mul-dst : tie.Need-overflow-mul-dst invariant-loop decreases-loop
+mul-dst : tie.Need-offset_bounds-dst-w invariant-loop decreases-loop
 mul-dst c = search rules
 
-slice-write-dst : tie.Need-slice-write-dst invariant-loop decreases-loop
+slice-write-dst : tie.Need-bounds-dst-w invariant-loop decreases-loop
 slice-write-dst c = search rules
 
-add-w : tie.Need-overflow-add-w invariant-loop decreases-loop
+add-w : tie.Need-overflow_add-w invariant-loop decreases-loop
 add-w c = search rules
 
-loop-less : tie.Need-loop-smaller invariant-loop decreases-loop
+loop-less : tie.Need-loop-w-smaller invariant-loop decreases-loop
 loop-less c = search rules
 
-loop-again : tie.Need-loop-preserved invariant-loop decreases-loop
+loop-again : tie.Need-loop-w-preserved invariant-loop decreases-loop
 loop-again c =
     let at-loop = c.before.before in
     let a = at-loop.before.before.before.before.before.args in
-    let w = at-loop.loop.w in
-    let x = c.word-shifted.result in
-    let dst = at-loop.loop.dst in (
+    let w = at-loop.loop-w.w in
+    let x = c.word_shifted.result in
+    let dst = at-loop.loop-w.dst in (
       omega arith,
       omega arith,
-      length-set dst w x ∙ at-loop.loop.invariant.2,
-      record { all = fill_word (shifted a.src.now a.k a.keep.now a.cut.now) dst w x (omega (arith, at-loop.before.before.before.before.before.requires.1)) c.word-shifted.ensures at-loop.loop.invariant.3.all },
+      length-set dst w x ∙ at-loop.loop-w.invariant.2,
+      record { all = fill_word (shifted a.src.now a.k a.keep.now a.cut.now) dst w x (omega (arith, at-loop.before.before.before.before.before.requires.1)) c.word_shifted.ensures at-loop.loop-w.invariant.3.all },
     )
 
-same_length : tie.Need-same-length invariant-loop decreases-loop
+same_length : tie.Need-shape_of-dst invariant-loop decreases-loop
 same_length c = search rules
 
 returns : tie.Need-returns invariant-loop decreases-loop
 returns c =
     let at-loop = c.before in
     let a = at-loop.before.before.before.before.before.args in
-    let e : at-loop.loop.w ≡ a.e = omega arith in
-    (at-loop.loop.invariant.2, subst (λ (n : ℕ). Upto (shifted a.src.now a.k a.keep.now a.cut.now) n at-loop.loop.dst) e at-loop.loop.invariant.3)
+    let e : at-loop.loop-w.w ≡ a.e = omega arith in
+    (at-loop.loop-w.invariant.2, subst (λ (n : ℕ). Upto (shifted a.src.now a.k a.keep.now a.cut.now) n at-loop.loop-w.dst) e at-loop.loop-w.invariant.3)
 
-pub shift-slow-spec : {M : Type 1} → statement M
-shift-slow-spec =
+pub shift_slow_spec : {M : Type 1} → statement M
+shift_slow_spec =
     tie.close
     (tie.spec
     invariant-loop

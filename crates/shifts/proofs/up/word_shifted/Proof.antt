@@ -3,7 +3,7 @@ use borrow.Author.Rules.{rules}
 use Rattle.shifts.proofs.up.word_shifted.Statement.{statement}
 use Rattle.shifts.proofs.up.word_shifted.Tie as tie
 
-word-up-requires : tie.Need-word-up-requires
+word-up-requires : tie.Need-word_up-requires
 word-up-requires c κs = search rules
 
 word-requires : tie.Need-word-requires
@@ -17,13 +17,13 @@ word-requires-3 c κs = search rules
 
 returns : tie.Need-returns
 returns c =
-    let y = c.word3 in
-    let x = c.before.word2 in
+    let y = c.word-3 in
+    let x = c.before.word-2 in
     let z = c.before.before.word in
-    let u = c.before.before.before.word-up in
+    let u = c.before.before.before.word_up in
     let a = c.before.before.before.before.before.before.before.args in
     shifted-bits a.src.now a.keep.now a.cut.now a.w a.k u.result x.result y.result z.result u.ensures z.ensures.0 x.ensures.0 y.ensures.0 z.ensures.1 x.ensures.1
 
-pub word-shifted-spec : {M : Type 1} → statement M
-word-shifted-spec =
+pub word_shifted_spec : {M : Type 1} → statement M
+word_shifted_spec =
     tie.close (tie.spec word-up-requires word-requires word-requires-2 word-requires-3 returns)

@@ -3,31 +3,31 @@ use borrow.Author.Rules.{rules}
 use Rattle.shifts.proofs.up.word_up.Statement.{statement}
 use Rattle.shifts.proofs.up.word_up.Tie as tie
 
-word-before-requires : tie.Need-word-before-requires
+word-before-requires : tie.Need-word_before-requires
 word-before-requires c κs = search rules
 
-shl-result : tie.Need-overflow-shl-result
+shl-result : tie.Need-overflow_shl-result
 shl-result c = search rules
 
-add-word-before : tie.Need-overflow-add-word-before
+add-word-before : tie.Need-overflow_add-q
 add-word-before c = search rules
 
-word-before-requires-2 : tie.Need-word-before-requires-2
+word-before-requires-2 : tie.Need-word_before-requires-2
 word-before-requires-2 c κs = search rules
 
-sub-result : tie.Need-overflow-sub-result
+sub-result : tie.Need-overflow_sub-result
 sub-result c = search rules
 
-shr-result : tie.Need-overflow-shr-result
+shr-result : tie.Need-overflow_shr-result-2
 shr-result c = search rules
 
 returns : tie.Need-returns
 returns c =
     let a = c.before.before.before.args in
-    up-bits a.a.now a.w a.k c.before.word-before.result c.word-before2.result c.before.word-before.ensures c.word-before2.ensures
+    up-bits a.a.now a.w a.k c.before.word_before.result c.word_before-2.result c.before.word_before.ensures c.word_before-2.ensures
 
-pub word-up-spec : {M : Type 1} → statement M
-word-up-spec =
+pub word_up_spec : {M : Type 1} → statement M
+word_up_spec =
     tie.close
     (tie.spec
     word-before-requires
