@@ -5,7 +5,7 @@ use borrow.Author.Rules.{rules}
 use Rattle.account.proofs.begun.Statement.{statement}
 use Rattle.account.proofs.begun.Tie as tie
 
-no-row-requires : tie.Need-no-row-requires
+no-row-requires : tie.Need-no_row-requires
 no-row-requires c κs = search rules
 
 returns : tie.Need-returns
@@ -15,5 +15,5 @@ returns c =
       λ recording i. record { before = r.ensures i; left = recording; now = 0; config = record { state = 0; variables = 0; clocks = 0 ∷ 0 ∷ [] }; free = 0; window = 0 },
     )
 
-pub begun-spec : {M : Type 1} → statement M
-begun-spec = tie.close (tie.spec no-row-requires returns)
+pub begun_spec : {M : Type 1} → statement M
+begun_spec = tie.close (tie.spec no-row-requires returns)

@@ -13,29 +13,29 @@ use Rattle.monitor.proofs.airtime_of.Tie as tie
 byte-requires : tie.Need-byte-requires
 byte-requires c κs = search rules
 
-returns : tie.Need-returns
+returns : tie.Need-returns-then-byte-kind
 unfolding monitor_from
 returns c offsets = let b = c.before.before.before.args.table.now in sym (get_or_tab_past (λ k. byte_at b (kind_at (version_at b) k + 1)) 0 (kinds_at b) c.before.before.before.args.kind (omega arith))
 
-record-at-requires : tie.Need-record-at-requires
+record-at-requires : tie.Need-record_at-requires
 record-at-requires c κs = search rules
 
-cast-byte : tie.Need-overflow-cast-byte
+cast-byte : tie.Need-overflow_cast-record_at
 cast-byte c = search rules
 
-add-byte : tie.Need-overflow-add-byte
+add-byte : tie.Need-overflow_add-record_at
 add-byte c = search rules
 
 byte-requires-2 : tie.Need-byte-requires-2
 byte-requires-2 c κs = search rules
 
-returns-2 : tie.Need-returns-2
+returns-2 : tie.Need-returns
 unfolding monitor_from
 returns-2 c offsets =
     let b = c.before.before.before.before.before.args.table.now in
-    c.byte2.ensures.0
-    ∙ ap (λ (at : ℕ). byte_at b (at + 1)) c.before.record-at.ensures
+    c.byte-2.ensures.0
+    ∙ ap (λ (at : ℕ). byte_at b (at + 1)) c.before.record_at.ensures
     ∙ sym (get_or-tab (λ k. byte_at b (kind_at (version_at b) k + 1)) 0 (kinds_at b) c.before.before.before.before.before.args.kind (omega arith))
 
-pub airtime-of-spec : {M : Type 1} → statement M
-airtime-of-spec = tie.close (tie.spec byte-requires returns record-at-requires cast-byte add-byte byte-requires-2 returns-2)
+pub airtime_of_spec : {M : Type 1} → statement M
+airtime_of_spec = tie.close (tie.spec byte-requires returns record-at-requires cast-byte add-byte byte-requires-2 returns-2)

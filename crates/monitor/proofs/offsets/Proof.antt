@@ -35,55 +35,55 @@ padded-more size f i h l v e is =
     ∙ ap (λ (n : ℕ). tab f (suc i) ++ replicate n 0) left
     ∙ ap (λ (n : ℕ). padded size (tab f n)) (sym (add-one i)))
 
-abbrev invariant-loop : tie.invariant-loop
+abbrev invariant-loop : tie.invariant-loop-j
 invariant-loop table found₀ count at₀ j₀ found at j = (j ≤ count) × (count ≡ min (transitions_at table) transition_limit) × (at ≡ transition_at table j) × (at ≤ 773 + 262 * j) × (found ≡ padded transition_limit (tab (transition_at table) j))
 
-abbrev decreases-loop : tie.decreases-loop
+abbrev decreases-loop : tie.decreases-loop-j
 decreases-loop table found₀ count at₀ j₀ found at j = count - j
 
-transitions-requires : tie.Need-transitions-requires invariant-loop decreases-loop
+transitions-requires : tie.Need-transitions-count-requires invariant-loop decreases-loop
 transitions-requires c κs = search rules
 
-transitions-at-requires : tie.Need-transitions-at-requires invariant-loop decreases-loop
+transitions-at-requires : tie.Need-transitions_at-at-requires invariant-loop decreases-loop
 transitions-at-requires c κs = search rules
 
-loop-holds : tie.Need-loop-init invariant-loop decreases-loop
+loop-holds : tie.Need-loop-j-init invariant-loop decreases-loop
 unfolding tab padded
-loop-holds c = (omega arith, c.before.transitions.ensures, c.transitions-at.ensures.0, omega (arith, c.transitions-at.ensures.1), refl)
+loop-holds c = (omega arith, c.before.transitions-count.ensures, c.transitions_at-at.ensures.0, omega (arith, c.transitions_at-at.ensures.1), refl)
 
-mul-found : tie.Need-overflow-mul-found invariant-loop decreases-loop
+mul-found : tie.Need-offset_bounds-found-j invariant-loop decreases-loop
 mul-found c = search rules
 
-array-write-found : tie.Need-array-write-found invariant-loop decreases-loop
+array-write-found : tie.Need-bounds-found-j invariant-loop decreases-loop
 array-write-found c = search rules
 
-cast-byte : tie.Need-overflow-cast-byte invariant-loop decreases-loop
+cast-byte : tie.Need-overflow_cast-at invariant-loop decreases-loop
 cast-byte c = search rules
 
-add-byte : tie.Need-overflow-add-byte invariant-loop decreases-loop
+add-byte : tie.Need-overflow_add-at invariant-loop decreases-loop
 add-byte c = search rules
 
 byte-requires : tie.Need-byte-requires invariant-loop decreases-loop
 byte-requires c κs = search rules
 
-cast-at : tie.Need-overflow-cast-at invariant-loop decreases-loop
+cast-at : tie.Need-overflow_cast-at-in-loop-j invariant-loop decreases-loop
 cast-at c = search rules
 
-add_at : tie.Need-overflow-add-at invariant-loop decreases-loop
+add_at : tie.Need-overflow_add-at-in-loop-j invariant-loop decreases-loop
 add_at c = search rules
 
-add-at-2 : tie.Need-overflow-add-at-2 invariant-loop decreases-loop
+add-at-2 : tie.Need-overflow_add-at-in-loop-j-2 invariant-loop decreases-loop
 add-at-2 c = search rules
 
-add-j : tie.Need-overflow-add-j invariant-loop decreases-loop
+add-j : tie.Need-overflow_add-j invariant-loop decreases-loop
 add-j c = search rules
 
-loop-less : tie.Need-loop-smaller invariant-loop decreases-loop
+loop-less : tie.Need-loop-j-smaller invariant-loop decreases-loop
 loop-less c = search rules
 
-loop-again : tie.Need-loop-preserved invariant-loop decreases-loop
+loop-again : tie.Need-loop-j-preserved invariant-loop decreases-loop
 loop-again c =
-    let l = c.before.before.loop in
+    let l = c.before.before.loop-j in
     let table = c.before.before.before.before.before.before.args.table.now in
     let next : l.at + (7 + c.byte.result) ≡ transition_at table (l.j + 1) =
     next_record table l.j l.at c.byte.result l.invariant.2 c.byte.ensures.0 in (
@@ -97,13 +97,13 @@ loop-again c =
 returns : tie.Need-returns invariant-loop decreases-loop
 unfolding offsets_of
 returns c =
-    let l = c.before.loop in
+    let l = c.before.loop-j in
     let table = c.before.before.before.before.before.args.table.now in
     let full : l.j ≡ min (transitions_at table) transition_limit = omega arith in
     l.invariant.4 ∙ ap (λ (n : ℕ). padded transition_limit (tab (transition_at table) n)) full
 
-pub offsets-spec : {M : Type 1} → statement M
-offsets-spec =
+pub offsets_spec : {M : Type 1} → statement M
+offsets_spec =
     tie.close
     (tie.spec
     invariant-loop

@@ -9,33 +9,33 @@ use Rattle.monitor.proofs.record_tried.Tie as tie
 byte-requires : tie.Need-byte-requires
 byte-requires c κs = search rules
 
-returns : tie.Need-returns
+returns : tie.Need-returns-then-byte-c
 returns c =
     let a = c.before.before.before.before.args in
-    not_from a.table.now a.at a.kind a.c (λ e. c.if1.true (c.before.before.byte.ensures.0 ∙ e))
+    not_from a.table.now a.at a.kind a.c (λ e. c.if-byte-c.true (c.before.before.byte.ensures.0 ∙ e))
 
-add-byte : tie.Need-overflow-add-byte
+add-byte : tie.Need-overflow_add-at
 add-byte c = search rules
 
 byte-requires-2 : tie.Need-byte-requires-2
 byte-requires-2 c κs = search rules
 
-returns-2 : tie.Need-returns-2
+returns-2 : tie.Need-returns-then-byte-kind
 returns-2 c =
     let a = c.before.before.before.before.before.before.args in
-    not_on a.table.now a.at a.kind a.c (λ e. c.if2.true (c.before.byte2.ensures.0 ∙ e))
+    not_on a.table.now a.at a.kind a.c (λ e. c.if-byte-kind.true (c.before.byte-2.ensures.0 ∙ e))
 
-guard-at-answer-requires : tie.Need-guard-at-answer-requires
+guard-at-answer-requires : tie.Need-guard_at_answer-requires
 guard-at-answer-requires c κs = search rules
 
-returns-3 : tie.Need-returns-3
+returns-3 : tie.Need-returns
 returns-3 c =
     let a = c.before.before.before.before.before.before.before.args in
-    ap {B = Option Readiness} some c.guard-at-answer.ensures
-    ∙ if_guard a.table.now a.at a.kind a.c (sym c.before.before.before.before.before.byte.ensures.0 ∙ c.before.before.before.if1.false) (sym c.before.before.byte2.ensures.0 ∙ c.before.if2.false)
+    ap {B = Option Readiness} some c.guard_at_answer.ensures
+    ∙ if_guard a.table.now a.at a.kind a.c (sym c.before.before.before.before.before.byte.ensures.0 ∙ c.before.before.before.if-byte-c.false) (sym c.before.before.byte-2.ensures.0 ∙ c.before.if-byte-kind.false)
 
-pub record-tried-spec : {M : Type 1} → statement M
-record-tried-spec =
+pub record_tried_spec : {M : Type 1} → statement M
+record_tried_spec =
     tie.close
     (tie.spec
     byte-requires

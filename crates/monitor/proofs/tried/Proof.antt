@@ -8,10 +8,10 @@ use Rattle.monitor.proofs.tried.Tie as tie
 byte-requires : tie.Need-byte-requires
 byte-requires c κs = search rules
 
-cast-if1 : tie.Need-overflow-cast-if1
+cast-if1 : tie.Need-overflow_cast-byte
 cast-if1 c = search rules
 
-returns : tie.Need-returns
+returns : tie.Need-returns-then-byte-j
 returns c =
     let a = c.before.before.before.before.args in
     sym (tried-past a.table.now a.offsets.now a.j a.kind a.c (omega arith))
@@ -19,19 +19,19 @@ returns c =
 short-requires : tie.Need-short-requires
 short-requires c κs = search rules
 
-cast-record-tried : tie.Need-overflow-cast-record-tried
+cast-record-tried : tie.Need-overflow_cast-short
 cast-record-tried c = search rules
 
-record-tried-requires : tie.Need-record-tried-requires
+record-tried-requires : tie.Need-record_tried-requires
 record-tried-requires c κs = search rules
 
-returns-2 : tie.Need-returns-2
+returns-2 : tie.Need-returns
 returns-2 c =
     let a = c.before.before.before.before.before.before.args in
-    c.record-tried.ensures ∙ tried_at a.table.now a.offsets.now a.j a.kind a.c c.before.short.result (omega arith) c.before.short.ensures.0
+    c.record_tried.ensures ∙ tried_at a.table.now a.offsets.now a.j a.kind a.c c.before.short.result (omega arith) c.before.short.ensures.0
 
-pub tried-spec : {M : Type 1} → statement M
-tried-spec =
+pub tried_spec : {M : Type 1} → statement M
+tried_spec =
     tie.close
     (tie.spec
     byte-requires

@@ -10,21 +10,21 @@ use Rattle.row_tests.specs.Under.{ruled_from}
 use Rattle.row_tests.proofs.is_guess.Statement.{statement}
 use Rattle.row_tests.proofs.is_guess.Tie as tie
 
-returns : tie.Need-returns
+returns : tie.Need-returns-then-e-ne-ADDED
 returns c =
     let a = c.before.before.before.args in
-    λ offsets. ap (λ (x : Bool). x && is_guess (ruled_from a.rule a.table.now offsets) a.e.kind) (sym (ne_eqb a.e.mark added c.if1.true))
+    λ offsets. ap (λ (x : Bool). x && is_guess (ruled_from a.rule a.table.now offsets) a.e.kind) (sym (ne_eqb a.e.mark added c.if-e-ne-ADDED.true))
 
-device-of-requires : tie.Need-device-of-requires
+device-of-requires : tie.Need-device_of-requires
 device-of-requires c κs = search rules
 
-returns-2 : tie.Need-returns-2
+returns-2 : tie.Need-returns
 returns-2 c =
     let marked = c.before.before in
     let a = marked.before.before.before.args in
     λ offsets.
-    ap (λ (d : ℕ). eqb d a.rule.device) (c.before.device-of.ensures offsets)
-    ∙ ap (λ (x : Bool). x && is_guess (ruled_from a.rule a.table.now offsets) a.e.kind) (sym (eq-eqb a.e.mark added marked.if1.false))
+    ap (λ (d : ℕ). eqb d a.rule.device) (c.before.device_of.ensures offsets)
+    ∙ ap (λ (x : Bool). x && is_guess (ruled_from a.rule a.table.now offsets) a.e.kind) (sym (eq-eqb a.e.mark added marked.if-e-ne-ADDED.false))
 
-pub is-guess-spec : {M : Type 1} → statement M
-is-guess-spec = tie.close (tie.spec returns device-of-requires returns-2)
+pub is_guess_spec : {M : Type 1} → statement M
+is_guess_spec = tie.close (tie.spec returns device-of-requires returns-2)

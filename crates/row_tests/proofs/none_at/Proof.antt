@@ -14,24 +14,24 @@ use Rattle.row_tests.proofs.none_at.Tie as tie
 word-requires : tie.Need-word-requires
 word-requires c κs = search rules
 
-returns : tie.Need-returns
+returns : tie.Need-returns-then-word-next
 returns c = let a = c.before.before.before.args in
     ap (λ (l : List Packet). none_at l a.time) (sym (left-past a.recording.now a.next (omega (arith, c.before.word.ensures.0))))
 
-mul-word : tie.Need-overflow-mul-word
+mul-word : tie.Need-overflow_mul-next
 mul-word c = search rules
 
-add-word : tie.Need-overflow-add-word
+add-word : tie.Need-overflow_add-next
 add-word c = search rules
 
 word-requires-2 : tie.Need-word-requires-2
 word-requires-2 c κs = search rules
 
-returns-2 : tie.Need-returns-2
+returns-2 : tie.Need-returns
 returns-2 c = let a = c.before.before.before.before.args in
-    ap (λ (x : ℕ). not (eqb x a.time)) c.word2.ensures.0
+    ap (λ (x : ℕ). not (eqb x a.time)) c.word-2.ensures.0
     ∙ ap (λ (l : List Packet). none_at l a.time) (sym (left_cons a.recording.now a.next (omega (arith, c.before.before.word.ensures.0))))
 
-pub none-at-spec : {M : Type 1} → statement M
-none-at-spec =
+pub none_at_spec : {M : Type 1} → statement M
+none_at_spec =
     tie.close (tie.spec word-requires returns mul-word add-word word-requires-2 returns-2)

@@ -2,14 +2,14 @@ use borrow.Author.Tests.{le-ltb, lt-ltb}
 use Rattle.scan.proofs.ends_fit.Statement.{statement}
 use Rattle.scan.proofs.ends_fit.Tie as tie
 
-returns : tie.Need-returns
-returns c = rw (le-ltb _ _ c.if1.true)
+returns : tie.Need-returns-then-states-source
+returns c = rw (le-ltb _ _ c.if-states-source.true)
 
-returns-2 : tie.Need-returns-2
-returns-2 c = rw (lt-ltb _ _ c.before.if1.false, le-ltb _ _ c.if2.true)
+returns-2 : tie.Need-returns-then-states-target
+returns-2 c = rw (lt-ltb _ _ c.before.if-states-source.false, le-ltb _ _ c.if-states-target.true)
 
-returns-3 : tie.Need-returns-3
-returns-3 c = rw (lt-ltb _ _ c.before.if1.false, lt-ltb _ _ c.if2.false)
+returns-3 : tie.Need-returns
+returns-3 c = rw (lt-ltb _ _ c.before.if-states-source.false, lt-ltb _ _ c.if-states-target.false)
 
-pub ends-fit-spec : {M : Type 1} → statement M
-ends-fit-spec = tie.close (tie.spec returns returns-2 returns-3)
+pub ends_fit_spec : {M : Type 1} → statement M
+ends_fit_spec = tie.close (tie.spec returns returns-2 returns-3)

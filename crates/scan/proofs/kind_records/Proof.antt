@@ -13,66 +13,66 @@ use borrow.Author.Rules.{rules}
 use Rattle.scan.proofs.kind_records.Statement.{statement}
 use Rattle.scan.proofs.kind_records.Tie as tie
 
-abbrev invariant-loop : tie.invariant-loop
+abbrev invariant-loop : tie.invariant-loop-i
 invariant-loop b devices n i₀ i = (i ≤ n) × (n ≡ kinds_at b) × ((k : ℕ) → k < i → kind_record b (kind_at (version_at b) k) (get_or devices k 0) ≡ Sound)
 
-abbrev decreases-loop : tie.decreases-loop
+abbrev decreases-loop : tie.decreases-loop-i
 decreases-loop b devices n i₀ i = n - i
 
-byte-requires : tie.Need-byte-requires invariant-loop decreases-loop
+byte-requires : tie.Need-byte-n-requires invariant-loop decreases-loop
 byte-requires c κs = search rules
 
-loop-holds : tie.Need-loop-init invariant-loop decreases-loop
-loop-holds c = (omega arith, c.byte.ensures.0, λ k h. absurd (omega arith))
+loop-holds : tie.Need-loop-i-init invariant-loop decreases-loop
+loop-holds c = (omega arith, c.byte-n.ensures.0, λ k h. absurd (omega arith))
 
-record-at-requires : tie.Need-record-at-requires invariant-loop decreases-loop
+record-at-requires : tie.Need-record_at-requires invariant-loop decreases-loop
 record-at-requires c κs = search rules
 
-cast-byte : tie.Need-overflow-cast-byte invariant-loop decreases-loop
+cast-byte : tie.Need-overflow_cast-i invariant-loop decreases-loop
 cast-byte c = search rules
 
-byte-requires-2 : tie.Need-byte-requires-2 invariant-loop decreases-loop
+byte-requires-2 : tie.Need-byte-requires invariant-loop decreases-loop
 byte-requires-2 c κs = search rules
 
-kind-record-requires : tie.Need-kind-record-requires invariant-loop decreases-loop
+kind-record-requires : tie.Need-kind_record-r-requires invariant-loop decreases-loop
 kind-record-requires c κs = search rules
 
 sound-requires : tie.Need-sound-requires invariant-loop decreases-loop
 sound-requires c κs = search rules
 
-returns : tie.Need-returns invariant-loop decreases-loop
+returns : tie.Need-returns-then-not-sound invariant-loop decreases-loop
 unfolding kind_records
 returns c =
     let b = c.before.before.before.before.before.before.before.before.before.before.args.b.now in
-    let l = c.before.before.before.before.before.before.loop in
-    let here = c.before.before.kind-record.ensures ∙ ap₂ (kind_record b) c.before.before.before.before.record-at.ensures c.before.before.before.byte2.ensures.0 in
-    first_stops (λ k. kind_record b (kind_at (version_at b) k) (get_or c.before.before.before.before.before.before.before.before.before.before.args.devices.now k 0)) (kinds_at b) l.i _ (omega arith) l.invariant.2 here (sym c.before.sound.ensures ∙ not-true c.before.sound.result c.if1.true)
+    let l = c.before.before.before.before.before.before.loop-i in
+    let here = c.before.before.kind_record-r.ensures ∙ ap₂ (kind_record b) c.before.before.before.before.record_at.ensures c.before.before.before.byte.ensures.0 in
+    first_stops (λ k. kind_record b (kind_at (version_at b) k) (get_or c.before.before.before.before.before.before.before.before.before.before.args.devices.now k 0)) (kinds_at b) l.i _ (omega arith) l.invariant.2 here (sym c.before.sound.ensures ∙ c.if-not-sound.true)
 
-add-i : tie.Need-overflow-add-i invariant-loop decreases-loop
+add-i : tie.Need-overflow_add-i invariant-loop decreases-loop
 add-i c = search rules
 
-loop-less : tie.Need-loop-smaller invariant-loop decreases-loop
+loop-less : tie.Need-loop-i-smaller invariant-loop decreases-loop
 loop-less c = search rules
 
-loop-again : tie.Need-loop-preserved invariant-loop decreases-loop
+loop-again : tie.Need-loop-i-preserved invariant-loop decreases-loop
 loop-again c =
     let b = c.before.before.before.before.before.before.before.before.before.before.args.b.now in
-    let l = c.before.before.before.before.before.before.loop in
-    let here = c.before.before.kind-record.ensures ∙ ap₂ (kind_record b) c.before.before.before.before.record-at.ensures c.before.before.before.byte2.ensures.0 in (
+    let l = c.before.before.before.before.before.before.loop-i in
+    let here = c.before.before.kind_record-r.ensures ∙ ap₂ (kind_record b) c.before.before.before.before.record_at.ensures c.before.before.before.byte.ensures.0 in (
       omega arith,
       l.invariant.1,
-      passed_more (λ k. kind_record b (kind_at (version_at b) k) (get_or c.before.before.before.before.before.before.before.before.before.before.args.devices.now k 0)) l.i l.invariant.2 (sym here ∙ sound-is _ (sym c.before.sound.ensures ∙ not-false c.before.sound.result c.if1.false)),
+      passed_more (λ k. kind_record b (kind_at (version_at b) k) (get_or c.before.before.before.before.before.before.before.before.before.before.args.devices.now k 0)) l.i l.invariant.2 (sym here ∙ sound-is _ (sym c.before.sound.ensures ∙ c.if-not-sound.false)),
     )
 
-returns-2 : tie.Need-returns-2 invariant-loop decreases-loop
+returns-2 : tie.Need-returns invariant-loop decreases-loop
 unfolding kind_records
 returns-2 c =
     let b = c.before.before.before.before.before.args.b.now in
-    let l = c.before.loop in
+    let l = c.before.loop-i in
     sym (first_passed (λ k. kind_record b (kind_at (version_at b) k) (get_or c.before.before.before.before.before.args.devices.now k 0)) (kinds_at b) (λ k h. l.invariant.2 k (omega arith)))
 
-pub kind-records-spec : {M : Type 1} → statement M
-kind-records-spec =
+pub kind_records_spec : {M : Type 1} → statement M
+kind_records_spec =
     tie.close
     (tie.spec
     invariant-loop

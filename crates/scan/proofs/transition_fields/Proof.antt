@@ -14,23 +14,23 @@ byte-requires-2 c κs = search rules
 byte-requires-3 : tie.Need-byte-requires-3
 byte-requires-3 c κs = search rules
 
-add-byte : tie.Need-overflow-add-byte
+add-byte : tie.Need-overflow_add-at
 add-byte c = search rules
 
 byte-requires-4 : tie.Need-byte-requires-4
 byte-requires-4 c κs = search rules
 
-add-byte-2 : tie.Need-overflow-add-byte-2
+add-byte-2 : tie.Need-overflow_add-at-2
 add-byte-2 c = search rules
 
 byte-requires-5 : tie.Need-byte-requires-5
 byte-requires-5 c κs = search rules
 
-ends-fit-requires : tie.Need-ends-fit-requires
+ends-fit-requires : tie.Need-ends_fit-requires
 ends-fit-requires c κs = search rules
 
-returns : tie.Need-returns
-returns c = rw (fields_row _ _ c.before.before.before.before.before.before.byte.ensures.0 refl refl c.before.before.before.before.before.byte2.ensures.0 c.before.before.before.before.byte3.ensures.0 c.before.before.before.byte4.ensures.0 c.before.before.byte5.ensures.0 refl refl refl c.before.ends-fit.ensures refl, not-true c.before.ends-fit.result c.if1.true)
+returns : tie.Need-returns-then-not-ends_fit
+returns c = rw (fields_row _ _ c.before.before.before.before.before.before.byte.ensures.0 refl refl c.before.before.before.before.before.byte-2.ensures.0 c.before.before.before.before.byte-3.ensures.0 c.before.before.before.byte-4.ensures.0 c.before.before.byte-5.ensures.0 refl refl refl c.before.ends_fit.ensures refl, c.if-not-ends_fit.true)
 
 byte-requires-6 : tie.Need-byte-requires-6
 byte-requires-6 c κs = search rules
@@ -38,35 +38,35 @@ byte-requires-6 c κs = search rules
 byte-requires-7 : tie.Need-byte-requires-7
 byte-requires-7 c κs = search rules
 
-add-byte-3 : tie.Need-overflow-add-byte-3
+add-byte-3 : tie.Need-overflow_add-at-3
 add-byte-3 c = search rules
 
 byte-requires-8 : tie.Need-byte-requires-8
 byte-requires-8 c κs = search rules
 
-add-byte-4 : tie.Need-overflow-add-byte-4
+add-byte-4 : tie.Need-overflow_add-at-4
 add-byte-4 c = search rules
 
 byte-requires-9 : tie.Need-byte-requires-9
 byte-requires-9 c κs = search rules
 
-add-byte-5 : tie.Need-overflow-add-byte-5
+add-byte-5 : tie.Need-overflow_add-at-5
 add-byte-5 c = search rules
 
 byte-requires-10 : tie.Need-byte-requires-10
 byte-requires-10 c κs = search rules
 
-masks-fit-requires : tie.Need-masks-fit-requires
+masks-fit-requires : tie.Need-masks_fit-requires
 masks-fit-requires c κs = search rules
 
-returns-2 : tie.Need-returns-2
-returns-2 c = rw (fields_row _ _ c.before.before.before.before.before.before.before.before.before.before.before.before.before.byte.ensures.0 c.before.before.before.before.before.before.byte6.ensures.0 c.before.before.before.before.before.byte7.ensures.0 c.before.before.before.before.before.before.before.before.before.before.before.before.byte2.ensures.0 c.before.before.before.before.before.before.before.before.before.before.before.byte3.ensures.0 c.before.before.before.before.before.before.before.before.before.before.byte4.ensures.0 c.before.before.before.before.before.before.before.before.before.byte5.ensures.0 c.before.before.before.before.byte8.ensures.0 c.before.before.before.byte9.ensures.0 c.before.before.byte10.ensures.0 c.before.before.before.before.before.before.before.before.ends-fit.ensures c.before.masks-fit.ensures, not-false c.before.before.before.before.before.before.before.before.ends-fit.result c.before.before.before.before.before.before.before.if1.false, not-true c.before.masks-fit.result c.if2.true)
+returns-2 : tie.Need-returns-then-not-masks_fit
+returns-2 c = rw (fields_row _ _ c.before.before.before.before.before.before.before.before.before.before.before.before.before.byte.ensures.0 c.before.before.before.before.before.before.byte-6.ensures.0 c.before.before.before.before.before.byte-7.ensures.0 c.before.before.before.before.before.before.before.before.before.before.before.before.byte-2.ensures.0 c.before.before.before.before.before.before.before.before.before.before.before.byte-3.ensures.0 c.before.before.before.before.before.before.before.before.before.before.byte-4.ensures.0 c.before.before.before.before.before.before.before.before.before.byte-5.ensures.0 c.before.before.before.before.byte-8.ensures.0 c.before.before.before.byte-9.ensures.0 c.before.before.byte-10.ensures.0 c.before.before.before.before.before.before.before.before.ends_fit.ensures c.before.masks_fit.ensures, c.before.before.before.before.before.before.before.if-not-ends_fit.false, c.if-not-masks_fit.true)
 
-returns-3 : tie.Need-returns-3
-returns-3 c = rw (fields_row _ _ c.before.before.before.before.before.before.before.before.before.before.before.before.before.byte.ensures.0 c.before.before.before.before.before.before.byte6.ensures.0 c.before.before.before.before.before.byte7.ensures.0 c.before.before.before.before.before.before.before.before.before.before.before.before.byte2.ensures.0 c.before.before.before.before.before.before.before.before.before.before.before.byte3.ensures.0 c.before.before.before.before.before.before.before.before.before.before.byte4.ensures.0 c.before.before.before.before.before.before.before.before.before.byte5.ensures.0 c.before.before.before.before.byte8.ensures.0 c.before.before.before.byte9.ensures.0 c.before.before.byte10.ensures.0 c.before.before.before.before.before.before.before.before.ends-fit.ensures c.before.masks-fit.ensures, not-false c.before.before.before.before.before.before.before.before.ends-fit.result c.before.before.before.before.before.before.before.if1.false, not-false c.before.masks-fit.result c.if2.false)
+returns-3 : tie.Need-returns
+returns-3 c = rw (fields_row _ _ c.before.before.before.before.before.before.before.before.before.before.before.before.before.byte.ensures.0 c.before.before.before.before.before.before.byte-6.ensures.0 c.before.before.before.before.before.byte-7.ensures.0 c.before.before.before.before.before.before.before.before.before.before.before.before.byte-2.ensures.0 c.before.before.before.before.before.before.before.before.before.before.before.byte-3.ensures.0 c.before.before.before.before.before.before.before.before.before.before.byte-4.ensures.0 c.before.before.before.before.before.before.before.before.before.byte-5.ensures.0 c.before.before.before.before.byte-8.ensures.0 c.before.before.before.byte-9.ensures.0 c.before.before.byte-10.ensures.0 c.before.before.before.before.before.before.before.before.ends_fit.ensures c.before.masks_fit.ensures, c.before.before.before.before.before.before.before.if-not-ends_fit.false, c.if-not-masks_fit.false)
 
-pub transition-fields-spec : {M : Type 1} → statement M
-transition-fields-spec =
+pub transition_fields_spec : {M : Type 1} → statement M
+transition_fields_spec =
     tie.close
     (tie.spec
     byte-requires

@@ -9,93 +9,93 @@ use borrow.Author.Rules.{rules}
 use Rattle.strides.proofs.down_all.Statement.{statement}
 use Rattle.strides.proofs.down_all.Tie as tie
 
-abbrev invariant-loop : tie.invariant-loop
+abbrev invariant-loop : tie.invariant-loop-k
 invariant-loop a₀ spare₀ w n k₀ a spare k = (1 ≤ k) × (k ≤ n) × (length a ≡ length a₀) × (length spare ≡ length spare₀) × Is (λ i. any_below (λ d. mem a₀ (i + w * d)) k) a₀ a
 
-abbrev decreases-loop : tie.decreases-loop
+abbrev decreases-loop : tie.decreases-loop-k
 decreases-loop a₀ spare₀ w n k₀ a spare k = n - k
 
-loop-holds : tie.Need-loop-init invariant-loop decreases-loop
+loop-holds : tie.Need-loop-k-init invariant-loop decreases-loop
 loop-holds c = let start = c.before.before in (omega arith, omega arith, refl, refl, down_first start.args.a.now start.args.w)
 
-sub-loop : tie.Need-overflow-sub-loop invariant-loop decreases-loop
+sub-loop : tie.Need-overflow_sub-n invariant-loop decreases-loop
 sub-loop c = search rules
 
-mul-step-down : tie.Need-overflow-mul-step-down invariant-loop decreases-loop
+mul-step-down : tie.Need-overflow_mul-w invariant-loop decreases-loop
 mul-step-down c =
     let at = c.before.before.before in
     let start = at.before.before.before in
-    record { fits = short_product start.args.w at.loop.k start.requires.1 (omega (arith, start.requires.3)) }
+    record { fits = short_product start.args.w at.loop-k.k start.requires.1 (omega (arith, start.requires.3)) }
 
-step-down-requires : tie.Need-step-down-requires invariant-loop decreases-loop
+step-down-requires : tie.Need-step_down-requires invariant-loop decreases-loop
 step-down-requires c κs = search rules
 
-mul-k : tie.Need-overflow-mul-k invariant-loop decreases-loop
+mul-k : tie.Need-overflow_mul-k invariant-loop decreases-loop
 mul-k c = search rules
 
-loop-less : tie.Need-loop-smaller invariant-loop decreases-loop
+loop-less : tie.Need-loop-k-smaller invariant-loop decreases-loop
 loop-less c = search rules
 
-loop-again : tie.Need-loop-preserved invariant-loop decreases-loop
+loop-again : tie.Need-loop-k-preserved invariant-loop decreases-loop
 loop-again c =
     let stepped = c.before.before.before.before in
     let at = stepped.before.before.before.before in
     let start = at.before.before.before in
     let a = start.args in
-    let k = at.loop.k in
+    let k = at.loop-k.k in
     let e : k + k ≡ 2 * k = omega arith in (
       omega arith,
       omega arith,
-      stepped.step_down.ensures.size ∙ at.loop.invariant.2,
-      stepped.step_down.auto.1.0 ∙ at.loop.invariant.3,
-      subst (λ (n : ℕ). Is (λ i. any_below (λ d. mem a.a.now (i + a.w * d)) n) a.a.now stepped.step_down.new.0) e
-          (down_step a.a.now at.loop.a stepped.step_down.new.0 a.w k k (omega arith) at.loop.invariant.4 stepped.step_down.ensures),
+      stepped.step_down.ensures.size ∙ at.loop-k.invariant.2,
+      stepped.step_down.auto.spare ∙ at.loop-k.invariant.3,
+      subst (λ (n : ℕ). Is (λ i. any_below (λ d. mem a.a.now (i + a.w * d)) n) a.a.now stepped.step_down.new.a) e
+          (down_step a.a.now at.loop-k.a stepped.step_down.new.a a.w k k (omega arith) at.loop-k.invariant.4 stepped.step_down.ensures),
     )
 
-sub-step-down : tie.Need-overflow-sub-step-down invariant-loop decreases-loop
+sub-step-down : tie.Need-overflow_sub-n-then-k-n invariant-loop decreases-loop
 sub-step-down c = search rules
 
-mul-step-down-2 : tie.Need-overflow-mul-step-down-2 invariant-loop decreases-loop
+mul-step-down-2 : tie.Need-overflow_mul-w-then-k-n invariant-loop decreases-loop
 mul-step-down-2 c =
     let at = c.before.before.before.before in
     let start = at.before.before.before in
-    record { fits = short_product start.args.w (start.args.n - at.loop.k) start.requires.1 (omega (arith, start.requires.3)) }
+    record { fits = short_product start.args.w (start.args.n - at.loop-k.k) start.requires.1 (omega (arith, start.requires.3)) }
 
-step-down-requires-2 : tie.Need-step-down-requires-2 invariant-loop decreases-loop
+step-down-requires-2 : tie.Need-step_down-requires-then-k-n invariant-loop decreases-loop
 step-down-requires-2 c κs = search rules
 
-same_length : tie.Need-same-length invariant-loop decreases-loop
+same_length : tie.Need-shape_of-a-then-k-n invariant-loop decreases-loop
 same_length c = search rules
 
-same-length-2 : tie.Need-same-length-2 invariant-loop decreases-loop
+same-length-2 : tie.Need-shape_of-spare-then-k-n invariant-loop decreases-loop
 same-length-2 c = search rules
 
-returns : tie.Need-returns invariant-loop decreases-loop
+returns : tie.Need-returns-then-k-n invariant-loop decreases-loop
 returns c =
     let stepped = c.before.before.before.before in
     let at = stepped.before.before.before.before.before in
     let start = at.before.before.before in
     let a = start.args in
-    let k = at.loop.k in
+    let k = at.loop-k.k in
     let e : a.n - k + k ≡ a.n = omega arith in
-    subst (λ (n : ℕ). Is (λ i. any_below (λ d. mem a.a.now (i + a.w * d)) n) a.a.now stepped.step-down2.new.0) e
-    (down_step a.a.now at.loop.a stepped.step-down2.new.0 a.w (a.n - k) k (omega arith) at.loop.invariant.4 stepped.step-down2.ensures)
+    subst (λ (n : ℕ). Is (λ i. any_below (λ d. mem a.a.now (i + a.w * d)) n) a.a.now stepped.step_down-then-k-n.new.a) e
+    (down_step a.a.now at.loop-k.a stepped.step_down-then-k-n.new.a a.w (a.n - k) k (omega arith) at.loop-k.invariant.4 stepped.step_down-then-k-n.ensures)
 
-same-length-3 : tie.Need-same-length-3 invariant-loop decreases-loop
+same-length-3 : tie.Need-shape_of-a-else-k-n invariant-loop decreases-loop
 same-length-3 c = search rules
 
-same-length-4 : tie.Need-same-length-4 invariant-loop decreases-loop
+same-length-4 : tie.Need-shape_of-spare-else-k-n invariant-loop decreases-loop
 same-length-4 c = search rules
 
-returns-2 : tie.Need-returns-2 invariant-loop decreases-loop
+returns-2 : tie.Need-returns-else-k-n invariant-loop decreases-loop
 returns-2 c =
     let at = c.before.before in
     let a = at.before.before.before.args in
-    let e : at.loop.k ≡ a.n = omega arith in
-    subst (λ (n : ℕ). Is (λ i. any_below (λ d. mem a.a.now (i + a.w * d)) n) a.a.now at.loop.a) e at.loop.invariant.4
+    let e : at.loop-k.k ≡ a.n = omega arith in
+    subst (λ (n : ℕ). Is (λ i. any_below (λ d. mem a.a.now (i + a.w * d)) n) a.a.now at.loop-k.a) e at.loop-k.invariant.4
 
-pub down-all-spec : {M : Type 1} → statement M
-down-all-spec =
+pub down_all_spec : {M : Type 1} → statement M
+down_all_spec =
     tie.close
     (tie.spec
     invariant-loop

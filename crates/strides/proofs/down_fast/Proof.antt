@@ -10,56 +10,56 @@ use borrow.Author.Rules.{rules}
 use Rattle.strides.proofs.down_fast.Statement.{statement}
 use Rattle.strides.proofs.down_fast.Tie as tie
 
-abbrev invariant-loop : tie.invariant-loop
+abbrev invariant-loop : tie.invariant-loop-w
 invariant-loop dst₀ src k e w₀ dst w = (w ≤ e) × (length dst ≡ length dst₀) × Upto (with_down k (mem src)) w dst
 
-abbrev decreases-loop : tie.decreases-loop
+abbrev decreases-loop : tie.decreases-loop-w
 decreases-loop dst₀ src k e w₀ dst w = e - w
 
-loop-holds : tie.Need-loop-init invariant-loop decreases-loop
+loop-holds : tie.Need-loop-w-init invariant-loop decreases-loop
 loop-holds c = (omega arith, refl, record { all = λ i l. absurd (omega arith) })
 
-word-down-inner-requires : tie.Need-word-down-inner-requires invariant-loop decreases-loop
+word-down-inner-requires : tie.Need-word_down_inner-requires invariant-loop decreases-loop
 word-down-inner-requires c κs =
     let start = c.before.before.before.before in
     let h = start.requires.2 (omega arith) in
     omega arith
 
-mul-dst : tie.Need-overflow-mul-dst invariant-loop decreases-loop
+mul-dst : tie.Need-offset_bounds-dst-w invariant-loop decreases-loop
 mul-dst c = search rules
 
-slice-write-dst : tie.Need-slice-write-dst invariant-loop decreases-loop
+slice-write-dst : tie.Need-bounds-dst-w invariant-loop decreases-loop
 slice-write-dst c = search rules
 
-add-w : tie.Need-overflow-add-w invariant-loop decreases-loop
+add-w : tie.Need-overflow_add-w invariant-loop decreases-loop
 add-w c = search rules
 
-loop-less : tie.Need-loop-smaller invariant-loop decreases-loop
+loop-less : tie.Need-loop-w-smaller invariant-loop decreases-loop
 loop-less c = search rules
 
-loop-again : tie.Need-loop-preserved invariant-loop decreases-loop
+loop-again : tie.Need-loop-w-preserved invariant-loop decreases-loop
 loop-again c =
     let at = c.before.before in
     let a = at.before.before.before.args in
-    let w = at.loop.w in
-    let x = c.word-down-inner.result in (
+    let w = at.loop-w.w in
+    let x = c.word_down_inner.result in (
       omega arith,
-      length-set at.loop.dst w x ∙ at.loop.invariant.1,
-      upto_more (with_down a.k (mem a.src.now)) at.loop.dst w x (omega (arith, at.before.before.before.requires.1)) c.word-down-inner.ensures at.loop.invariant.2,
+      length-set at.loop-w.dst w x ∙ at.loop-w.invariant.1,
+      upto_more (with_down a.k (mem a.src.now)) at.loop-w.dst w x (omega (arith, at.before.before.before.requires.1)) c.word_down_inner.ensures at.loop-w.invariant.2,
     )
 
-same_length : tie.Need-same-length invariant-loop decreases-loop
+same_length : tie.Need-shape_of-dst invariant-loop decreases-loop
 same_length c = search rules
 
 returns : tie.Need-returns invariant-loop decreases-loop
 returns c =
     let at = c.before in
     let a = at.before.before.before.args in
-    let e : at.loop.w ≡ a.e = omega arith in
-    (at.loop.invariant.1, subst (λ (n : ℕ). Upto (with_down a.k (mem a.src.now)) n at.loop.dst) e at.loop.invariant.2)
+    let e : at.loop-w.w ≡ a.e = omega arith in
+    (at.loop-w.invariant.1, subst (λ (n : ℕ). Upto (with_down a.k (mem a.src.now)) n at.loop-w.dst) e at.loop-w.invariant.2)
 
-pub down-fast-spec : {M : Type 1} → statement M
-down-fast-spec =
+pub down_fast_spec : {M : Type 1} → statement M
+down_fast_spec =
     tie.close
     (tie.spec
     invariant-loop

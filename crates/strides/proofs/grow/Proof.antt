@@ -7,37 +7,37 @@ use borrow.Author.Rules.{rules}
 use Rattle.strides.proofs.grow.Statement.{statement}
 use Rattle.strides.proofs.grow.Tie as tie
 
-add-lesser : tie.Need-overflow-add-lesser
+add-lesser : tie.Need-overflow_add-e
 add-lesser c = search rules
 
-lesser-requires : tie.Need-lesser-requires
+lesser-requires : tie.Need-lesser-m-requires
 lesser-requires c κs = search rules
 
-sub_part : tie.Need-overflow-sub-part
+sub_part : tie.Need-slice_bounds-part-count
 sub_part c = search rules
 
-part-part-start : tie.Need-slice-bounds-part-start
+part-part-start : tie.Need-slice_bounds-part-start
 part-part-start c = search rules
 
-part-part-end : tie.Need-slice-bounds-part-end
+part-part-end : tie.Need-slice_bounds-part-end
 part-part-end c = search rules
 
-sub-room : tie.Need-overflow-sub-room
+sub-room : tie.Need-slice_bounds-room-count
 sub-room c = search rules
 
-part-room-start : tie.Need-slice-bounds-room-start
+part-room-start : tie.Need-slice_bounds-room-start
 part-room-start c = search rules
 
-part-room-end : tie.Need-slice-bounds-room-end
+part-room-end : tie.Need-slice_bounds-room-end
 part-room-end c = search rules
 
-step-up-requires : tie.Need-step-up-requires
+step-up-requires : tie.Need-step_up-requires
 step-up-requires c κs = search rules
 
-same_length : tie.Need-same-length
+same_length : tie.Need-shape_of-a
 same_length c = search rules
 
-same-length-2 : tie.Need-same-length-2
+same-length-2 : tie.Need-shape_of-spare
 same-length-2 c = search rules
 
 returns : tie.Need-returns
@@ -45,8 +45,8 @@ returns c =
     let stepped = c.before.before.before.before in
     let limit = stepped.before.before.before in
     let start = limit.before.before.before in
-    let m = limit.lesser.result - 0 in
-    grown start.args.a.now stepped.step-up.new.0 start.args.e m (omega arith) (λ l. omega arith) start.requires.1 stepped.step-up.ensures (stepped.step-up.auto.0 ∙ length-take-le m start.args.a.now (omega arith))
+    let m = limit.lesser-m.result - 0 in
+    grown start.args.a.now stepped.step_up.new.a start.args.e m (omega arith) (λ l. omega arith) start.requires.1 stepped.step_up.ensures (stepped.step_up.auto.a ∙ length-take-le m start.args.a.now (omega arith))
 
 pub grow_spec : {M : Type 1} → statement M
 grow_spec =

@@ -4,35 +4,35 @@ use borrow.Author.Rules.{rules}
 use Rattle.strides.proofs.spread_down.Statement.{statement}
 use Rattle.strides.proofs.spread_down.Tie as tie
 
-returns : tie.Need-returns
+returns : tie.Need-returns-then-spare-len
 returns c = (refl, refl, λ h l. absurd (omega arith))
 
-sub-room : tie.Need-overflow-sub-room
+sub-room : tie.Need-slice_bounds-room-count
 sub-room c = search rules
 
-part-room-start : tie.Need-slice-bounds-room-start
+part-room-start : tie.Need-slice_bounds-room-start
 part-room-start c = search rules
 
-part-room-end : tie.Need-slice-bounds-room-end
+part-room-end : tie.Need-slice_bounds-room-end
 part-room-end c = search rules
 
-down-all-requires : tie.Need-down-all-requires
+down-all-requires : tie.Need-down_all-requires
 down-all-requires c κs = search rules
 
-same_length : tie.Need-same-length
+same_length : tie.Need-shape_of-a
 same_length c = search rules
 
-same-length-2 : tie.Need-same-length-2
+same-length-2 : tie.Need-shape_of-spare
 same-length-2 c = search rules
 
-returns-2 : tie.Need-returns-2
+returns-2 : tie.Need-returns-then-n-gt0
 returns-2 c = search rules
 
-returns-3 : tie.Need-returns-3
+returns-3 : tie.Need-returns-else-n-gt0
 returns-3 c = (refl, refl, λ h l. absurd (omega arith))
 
-pub spread-down-spec : {M : Type 1} → statement M
-spread-down-spec =
+pub spread_down_spec : {M : Type 1} → statement M
+spread_down_spec =
     tie.close
     (tie.spec
     returns

@@ -5,26 +5,26 @@ use borrow.Author.Rules.{rules}
 use Rattle.strides.proofs.step_down.Statement.{statement}
 use Rattle.strides.proofs.step_down.Tie as tie
 
-join-down-requires : tie.Need-join-down-requires
+join-down-requires : tie.Need-join_down-requires
 join-down-requires c κs = search rules
 
 copy-requires : tie.Need-copy-requires
 copy-requires c κs = search rules
 
-same_length : tie.Need-same-length
+same_length : tie.Need-shape_of-a
 same_length c = search rules
 
-same-length-2 : tie.Need-same-length-2
+same-length-2 : tie.Need-shape_of-spare
 same-length-2 c = search rules
 
 returns : tie.Need-returns
 returns c =
-    let copied = c.before.before in
-    let joined = copied.before.before.before.before.before in
-    let start = joined.before.before.before.before.before in
-    let a = start.args in
-    is-is (with_down a.k (mem a.a.now)) a.spare.now joined.join-down.new.0 a.a.now copied.copy.new.0 joined.join-down.ensures start.requires copied.copy.ensures
+    let copied = c in
+    let joined = copied in
+    let start = joined in
+    let a = start.before.before.before.before.before.before.before.before.before.before.args in
+    is-is (with_down a.k (mem a.a.now)) a.spare.now joined.before.before.before.before.before.before.join_down.new.dst a.a.now copied.before.before.copy.new.dst joined.before.before.before.before.before.before.join_down.ensures start.before.before.before.before.before.before.before.before.before.before.requires copied.before.before.copy.ensures
 
-pub step-down-spec : {M : Type 1} → statement M
-step-down-spec =
+pub step_down_spec : {M : Type 1} → statement M
+step_down_spec =
     tie.close (tie.spec join-down-requires copy-requires same_length same-length-2 returns)

@@ -10,53 +10,53 @@ use borrow.Author.Rules.{rules}
 use Rattle.strides.proofs.up_slow.Statement.{statement}
 use Rattle.strides.proofs.up_slow.Tie as tie
 
-abbrev invariant-loop : tie.invariant-loop
+abbrev invariant-loop : tie.invariant-loop-w
 invariant-loop dst₀ src k e w₀ dst w = (w ≤ e) × (length dst ≡ length dst₀) × Upto (with_up k (mem src)) w dst
 
-abbrev decreases-loop : tie.decreases-loop
+abbrev decreases-loop : tie.decreases-loop-w
 decreases-loop dst₀ src k e w₀ dst w = e - w
 
-loop-holds : tie.Need-loop-init invariant-loop decreases-loop
+loop-holds : tie.Need-loop-w-init invariant-loop decreases-loop
 loop-holds c = (omega arith, refl, record { all = λ i l. absurd (omega arith) })
 
-word-up-requires : tie.Need-word-up-requires invariant-loop decreases-loop
+word-up-requires : tie.Need-word_up-requires invariant-loop decreases-loop
 word-up-requires c κs = search rules
 
-mul-dst : tie.Need-overflow-mul-dst invariant-loop decreases-loop
+mul-dst : tie.Need-offset_bounds-dst-w invariant-loop decreases-loop
 mul-dst c = search rules
 
-slice-write-dst : tie.Need-slice-write-dst invariant-loop decreases-loop
+slice-write-dst : tie.Need-bounds-dst-w invariant-loop decreases-loop
 slice-write-dst c = search rules
 
-add-w : tie.Need-overflow-add-w invariant-loop decreases-loop
+add-w : tie.Need-overflow_add-w invariant-loop decreases-loop
 add-w c = search rules
 
-loop-less : tie.Need-loop-smaller invariant-loop decreases-loop
+loop-less : tie.Need-loop-w-smaller invariant-loop decreases-loop
 loop-less c = search rules
 
-loop-again : tie.Need-loop-preserved invariant-loop decreases-loop
+loop-again : tie.Need-loop-w-preserved invariant-loop decreases-loop
 loop-again c =
     let at = c.before.before in
     let a = at.before.before.before.args in
-    let w = at.loop.w in
-    let x = c.word-up.result in (
+    let w = at.loop-w.w in
+    let x = c.word_up.result in (
       omega arith,
-      length-set at.loop.dst w x ∙ at.loop.invariant.1,
-      upto_more (with_up a.k (mem a.src.now)) at.loop.dst w x (omega (arith, at.before.before.before.requires)) c.word-up.ensures at.loop.invariant.2,
+      length-set at.loop-w.dst w x ∙ at.loop-w.invariant.1,
+      upto_more (with_up a.k (mem a.src.now)) at.loop-w.dst w x (omega (arith, at.before.before.before.requires)) c.word_up.ensures at.loop-w.invariant.2,
     )
 
-same_length : tie.Need-same-length invariant-loop decreases-loop
+same_length : tie.Need-shape_of-dst invariant-loop decreases-loop
 same_length c = search rules
 
 returns : tie.Need-returns invariant-loop decreases-loop
 returns c =
     let at = c.before in
     let a = at.before.before.before.args in
-    let e : at.loop.w ≡ a.e = omega arith in
-    (at.loop.invariant.1, subst (λ (n : ℕ). Upto (with_up a.k (mem a.src.now)) n at.loop.dst) e at.loop.invariant.2)
+    let e : at.loop-w.w ≡ a.e = omega arith in
+    (at.loop-w.invariant.1, subst (λ (n : ℕ). Upto (with_up a.k (mem a.src.now)) n at.loop-w.dst) e at.loop-w.invariant.2)
 
-pub up-slow-spec : {M : Type 1} → statement M
-up-slow-spec =
+pub up_slow_spec : {M : Type 1} → statement M
+up_slow_spec =
     tie.close
     (tie.spec
     invariant-loop

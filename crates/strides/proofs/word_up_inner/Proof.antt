@@ -7,40 +7,40 @@ use borrow.Author.Rules.{rules}
 use Rattle.strides.proofs.word_up_inner.Statement.{statement}
 use Rattle.strides.proofs.word_up_inner.Tie as tie
 
-mul-result : tie.Need-overflow-mul-result
+mul-result : tie.Need-offset_bounds-s-w
 mul-result c = search rules
 
-shared-slice-read-result : tie.Need-shared-slice-read-result
+shared-slice-read-result : tie.Need-bounds-s-w
 shared-slice-read-result c = search rules
 
-sub-result : tie.Need-overflow-sub-result
+sub-result : tie.Need-overflow_sub-result
 sub-result c = search rules
 
-mul-result-2 : tie.Need-overflow-mul-result-2
+mul-result-2 : tie.Need-offset_bounds-s-w-2
 mul-result-2 c = search rules
 
-shared-slice-read-result-2 : tie.Need-shared-slice-read-result-2
+shared-slice-read-result-2 : tie.Need-bounds-s-w-2
 shared-slice-read-result-2 c = search rules
 
-shl-result : tie.Need-overflow-shl-result
+shl-result : tie.Need-overflow_shl-result
 shl-result c = search rules
 
-add-result : tie.Need-overflow-add-result
+add-result : tie.Need-overflow_add-result
 add-result c = search rules
 
-sub-result-2 : tie.Need-overflow-sub-result-2
+sub-result-2 : tie.Need-overflow_sub-result-2
 sub-result-2 c = search rules
 
-mul-result-3 : tie.Need-overflow-mul-result-3
+mul-result-3 : tie.Need-offset_bounds-s-w-3
 mul-result-3 c = search rules
 
-shared-slice-read-result-3 : tie.Need-shared-slice-read-result-3
+shared-slice-read-result-3 : tie.Need-bounds-s-w-3
 shared-slice-read-result-3 c = search rules
 
-sub-result-3 : tie.Need-overflow-sub-result-3
+sub-result-3 : tie.Need-overflow_sub-result-3
 sub-result-3 c = search rules
 
-shr-result : tie.Need-overflow-shr-result
+shr-result : tie.Need-overflow_shr-result-2
 shr-result c = search rules
 
 returns : tie.Need-returns
@@ -50,12 +50,12 @@ returns c =
     let s = a.s.now in
     let w = a.w in
     let q = a.k / 64 in
-    with_up_lem s w a.k _ refl (first.shared-slice-known.given w).fits _ _
-    (before-bits s w q _ (omega (arith, first.before.requires.0)) refl (c.before.shared-slice-known2.given (w - q)).fits)
-    (before-bits s w (q + 1) _ first.before.requires.0 refl (c.shared-slice-known3.given (w - (q + 1))).fits)
+    with_up_lem s w a.k _ refl (first.shared_slice_known-1.given w).fits _ _
+    (before-bits s w q _ (omega (arith, first.before.requires.0)) refl (c.before.shared_slice_known-2-1.given (w - q)).fits)
+    (before-bits s w (q + 1) _ first.before.requires.0 refl (c.shared_slice_known-3-1.given (w - (q + 1))).fits)
 
-pub word-up-inner-spec : {M : Type 1} → statement M
-word-up-inner-spec =
+pub word_up_inner_spec : {M : Type 1} → statement M
+word_up_inner_spec =
     tie.close
     (tie.spec
     mul-result

@@ -15,65 +15,65 @@ use borrow.Author.Rules.{rules}
 use Rattle.tables.proofs.encode_kinds.Statement.{statement}
 use Rattle.tables.proofs.encode_kinds.Tie as tie
 
-abbrev invariant-loop : tie.invariant-loop
+abbrev invariant-loop : tie.invariant-loop-i
 invariant-loop out₀ t version width n i₀ out i = (i ≤ n) × (length out ≡ length out₀) × (width ≡ kind_width version)
     × ((head room : List ℕ) → length head ≡ 8 → table_limit ≤ length room → out₀ ≡ over head room → out ≡ over (head ++ joined (kind_bytes t) i) room)
 
-abbrev decreases-loop : tie.decreases-loop
+abbrev decreases-loop : tie.decreases-loop-i
 decreases-loop out₀ t version width n i₀ out i = n - i
 
-kind-width-requires : tie.Need-kind-width-requires invariant-loop decreases-loop
+kind-width-requires : tie.Need-kind_width-width-requires invariant-loop decreases-loop
 kind-width-requires c κs = search rules
 
-cast-width : tie.Need-overflow-cast-width invariant-loop decreases-loop
+cast-width : tie.Need-overflow_cast-width invariant-loop decreases-loop
 cast-width c = search rules
 
-loop-holds : tie.Need-loop-init invariant-loop decreases-loop
-loop-holds c = (omega arith, refl, c.kind-width.ensures, λ head room h k e. e ∙ ap (λ (l : List ℕ). over l room) (sym (joined_none head (kind_bytes c.before.before.args.t1))))
+loop-holds : tie.Need-loop-i-init invariant-loop decreases-loop
+loop-holds c = (omega arith, refl, c.kind_width-width.ensures, λ head room h k e. e ∙ ap (λ (l : List ℕ). over l room) (sym (joined_none head (kind_bytes c.before.before.args.t))))
 
-cast-k : tie.Need-overflow-cast-k invariant-loop decreases-loop
+cast-k : tie.Need-overflow_cast-k invariant-loop decreases-loop
 cast-k c = search rules
 
-element-copy-out-t14 : tie.Need-element-copy-out-t14 invariant-loop decreases-loop
+element-copy-out-t14 : tie.Need-bounds-t-k invariant-loop decreases-loop
 element-copy-out-t14 c = search rules
 
-element-copy-out-t17 : tie.Need-element-copy-out-t17 invariant-loop decreases-loop
+element-copy-out-t17 : tie.Need-bounds-t-k-in-loop-i invariant-loop decreases-loop
 element-copy-out-t17 c = search rules
 
-element-copy-out-t20 : tie.Need-element-copy-out-t20 invariant-loop decreases-loop
+element-copy-out-t20 : tie.Need-bounds-t-k-in-loop-i-2 invariant-loop decreases-loop
 element-copy-out-t20 c = search rules
 
-sub-place : tie.Need-overflow-sub-place invariant-loop decreases-loop
+sub-place : tie.Need-slice_bounds-place-count invariant-loop decreases-loop
 sub-place c = search rules
 
-part-place-start : tie.Need-slice-bounds-place-start invariant-loop decreases-loop
+part-place-start : tie.Need-slice_bounds-place-start invariant-loop decreases-loop
 part-place-start c = search rules
 
-part-place-end : tie.Need-slice-bounds-place-end invariant-loop decreases-loop
-part-place-end c = omega (arith, (two_or_three c.before.before.before.before.before.before.before.before.args.t1.version).1, c.before.before.before.before.before.loop.invariant.2)
+part-place-end : tie.Need-slice_bounds-place-end invariant-loop decreases-loop
+part-place-end c = omega (arith, (two_or_three c.before.before.before.before.before.before.before.args.t.version).1, c.before.before.before.before.loop-i.invariant.2)
 
-kind-at-requires : tie.Need-kind-at-requires invariant-loop decreases-loop
+kind-at-requires : tie.Need-kind_at-requires invariant-loop decreases-loop
 kind-at-requires c κs = search rules
 
-cast-place : tie.Need-overflow-cast-place invariant-loop decreases-loop
+cast-place : tie.Need-overflow_cast-kind_at invariant-loop decreases-loop
 cast-place c = search rules
 
 place-requires : tie.Need-place-requires invariant-loop decreases-loop
 place-requires c κs = search rules
 
-add-i : tie.Need-overflow-add-i invariant-loop decreases-loop
+add-i : tie.Need-overflow_add-i invariant-loop decreases-loop
 add-i c = search rules
 
-loop-less : tie.Need-loop-smaller invariant-loop decreases-loop
+loop-less : tie.Need-loop-i-smaller invariant-loop decreases-loop
 loop-less c = search rules
 
-loop-again : tie.Need-loop-preserved invariant-loop decreases-loop
+loop-again : tie.Need-loop-i-preserved invariant-loop decreases-loop
 unfolding kind_bytes
 loop-again c =
-    let t = c.before.before.before.before.before.before.before.before.before.before.before.before.before.before.args.t1 in
-    let l = c.before.before.before.before.before.before.before.before.before.before.before.loop in
+    let t = c.before.before.before.before.before.before.before.before.before.before.before.before.before.args.t in
+    let l = c.before.before.before.before.before.before.before.before.before.before.loop-i in
     let row = kind_bytes t l.i in
-    let width = c.before.before.before.before.before.before.before.before.before.before.before.before.kind-width.result in
+    let width = c.before.before.before.before.before.before.before.before.before.before.before.kind_width-width.result in
     let all : width - 0 ≡ kind_width t.version = omega (arith, l.invariant.2) in
     let record_is : take (width - 0) (kind_fields t l.i) ≡ row =
     ap (λ (n : ℕ). take n (kind_fields t l.i)) all in (
@@ -87,17 +87,17 @@ loop-again c =
           ∙ placed_row head (kind_bytes t) room l.i (kind_at t.version l.i) (kinds-long t head l.i h) (omega (arith, kind-room t l.i (omega arith))),
     )
 
-same_length : tie.Need-same-length invariant-loop decreases-loop
+same_length : tie.Need-shape_of-out invariant-loop decreases-loop
 same_length c = search rules
 
 returns : tie.Need-returns invariant-loop decreases-loop
 returns c =
-    let t = c.before.before.before.before.args.t1 in
-    let all : c.before.loop.i ≡ t.kinds = omega arith in
-    λ head room h k e. c.before.loop.invariant.3 head room h k e ∙ ap (λ n. over (head ++ joined (kind_bytes t) n) room) all
+    let t = c.before.before.before.before.args.t in
+    let all : c.before.loop-i.i ≡ t.kinds = omega arith in
+    λ head room h k e. c.before.loop-i.invariant.3 head room h k e ∙ ap (λ n. over (head ++ joined (kind_bytes t) n) room) all
 
-pub encode-kinds-spec : {M : Type 1} → statement M
-encode-kinds-spec =
+pub encode_kinds_spec : {M : Type 1} → statement M
+encode_kinds_spec =
     tie.close
     (tie.spec
     invariant-loop

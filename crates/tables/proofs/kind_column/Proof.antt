@@ -13,38 +13,38 @@ use Rattle.tables.proofs.kind_column.Tie as tie
 byte-requires : tie.Need-byte-requires
 byte-requires c κs = search rules
 
-kind-width-requires : tie.Need-kind-width-requires
+kind-width-requires : tie.Need-kind_width-width-requires
 kind-width-requires c κs = search rules
 
-add-bytes-column : tie.Need-overflow-add-bytes-column
+add-bytes-column : tie.Need-overflow_add-field
 add-bytes-column c = search rules
 
 byte-requires-2 : tie.Need-byte-requires-2
 byte-requires-2 c κs = search rules
 
-cast-bytes-column : tie.Need-overflow-cast-bytes-column
+cast-bytes-column : tie.Need-overflow_cast-byte
 cast-bytes-column c = search rules
 
-slice-aggregate-bytes-column : tie.Need-slice-aggregate-bytes-column
+slice-aggregate-bytes-column : tie.Need-slice_bounds-bytes_column-end
 slice-aggregate-bytes-column c = search rules
 
-bytes-column-requires : tie.Need-bytes-column-requires
+bytes-column-requires : tie.Need-bytes_column-requires
 bytes-column-requires c κs = search rules
 
 returns : tie.Need-returns
 returns c =
     let a = c.before.before.before.before.before.before.before.args in
     let b = a.b.now in
-    let w = c.before.before.before.before.kind-width.result in
-    let n = c.before.before.before.byte2.result in
-    let wide : w ≡ kind_width (version_at b) = c.before.before.before.before.kind-width.ensures ∙ ap kind_width c.before.before.before.before.before.byte.ensures.0 in
+    let w = c.before.before.before.before.kind_width-width.result in
+    let n = c.before.before.before.byte-2.result in
+    let wide : w ≡ kind_width (version_at b) = c.before.before.before.before.kind_width-width.ensures ∙ ap kind_width c.before.before.before.before.before.byte.ensures.0 in
     let f : ℕ → ℕ = λ i. byte_at b (8 + a.field + w * i) in
     let g : ℕ → ℕ = λ i. byte_at b (kind_at (version_at b) i + a.field) in
     let same : (i : ℕ) → 8 + a.field + w * i ≡ kind_at (version_at b) i + a.field = λ i. omega (arith, ap (λ (k : ℕ). k * i) wide) in
-    c.before.bytes-column.ensures ∙ filled_zeros f n kind_limit _ (omega arith) refl ∙ ap (padded kind_limit) (tab-same f g n (λ i h. ap (byte_at b) (same i)) ∙ ap (tab g) c.before.before.before.byte2.ensures.0)
+    c.before.bytes_column.ensures ∙ filled_zeros f n kind_limit _ (omega arith) refl ∙ ap (padded kind_limit) (tab-same f g n (λ i h. ap (byte_at b) (same i)) ∙ ap (tab g) c.before.before.before.byte-2.ensures.0)
 
-pub kind-column-spec : {M : Type 1} → statement M
-kind-column-spec =
+pub kind_column_spec : {M : Type 1} → statement M
+kind_column_spec =
     tie.close
     (tie.spec
     byte-requires

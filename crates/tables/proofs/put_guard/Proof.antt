@@ -8,31 +8,31 @@ use borrow.Author.Rules.{rules}
 use Rattle.tables.proofs.put_guard.Statement.{statement}
 use Rattle.tables.proofs.put_guard.Tie as tie
 
-mul-from : tie.Need-overflow-mul-from
+mul-from : tie.Need-overflow_mul-from
 mul-from c = search rules
 
 smaller-requires : tie.Need-smaller-requires
 smaller-requires c κs = search rules
 
-add-to : tie.Need-overflow-add-to
+add-to : tie.Need-overflow_add-to
 add-to c = search rules
 
-sub-place : tie.Need-overflow-sub-place
+sub-place : tie.Need-slice_bounds-place-count
 sub-place c = search rules
 
-part-place-start : tie.Need-slice-bounds-place-start
+part-place-start : tie.Need-slice_bounds-place-start
 part-place-start c = search rules
 
-part-place-end : tie.Need-slice-bounds-place-end
+part-place-end : tie.Need-slice_bounds-place-end
 part-place-end c = search rules
 
 place-requires : tie.Need-place-requires
 place-requires c κs = search rules
 
-sub-result : tie.Need-overflow-sub-result
+sub-result : tie.Need-overflow_sub-result
 sub-result c = search rules
 
-same_length : tie.Need-same-length
+same_length : tie.Need-shape_of-out
 same_length c = search rules
 
 returns : tie.Need-returns
@@ -43,8 +43,8 @@ returns c = let a = c.before.before.before.before.before.before.before.before.ar
       omega arith,
     )
 
-pub put-guard-spec : {M : Type 1} → statement M
-put-guard-spec =
+pub put_guard_spec : {M : Type 1} → statement M
+put_guard_spec =
     tie.close
     (tie.spec
     mul-from

@@ -5,34 +5,34 @@ use borrow.Author.Rules.{rules}
 use Rattle.tables.proofs.table_parts.Statement.{statement}
 use Rattle.tables.proofs.table_parts.Tie as tie
 
-kind-column-requires : tie.Need-kind-column-requires
+kind-column-requires : tie.Need-kind_column-directions-requires
 kind-column-requires c κs = ((scan_bounds _ c.before.requires.0).0, omega arith)
 
-kind-column-requires-2 : tie.Need-kind-column-requires-2
+kind-column-requires-2 : tie.Need-kind_column-airtimes-requires
 kind-column-requires-2 c κs = ((scan_bounds _ c.before.before.requires.0).0, omega arith)
 
-transition-column-requires : tie.Need-transition-column-requires
+transition-column-requires : tie.Need-transition_column-sources-requires
 transition-column-requires c κs = ((scan_bounds _ c.before.before.before.requires.0).1, omega arith)
 
-transition-column-requires-2 : tie.Need-transition-column-requires-2
+transition-column-requires-2 : tie.Need-transition_column-targets-requires
 transition-column-requires-2 c κs = ((scan_bounds _ c.before.before.before.before.requires.0).1, omega arith)
 
-transition-column-requires-3 : tie.Need-transition-column-requires-3
+transition-column-requires-3 : tie.Need-transition_column-triggers-requires
 transition-column-requires-3 c κs = ((scan_bounds _ c.before.before.before.before.before.requires.0).1, omega arith)
 
-transition-column-requires-4 : tie.Need-transition-column-requires-4
+transition-column-requires-4 : tie.Need-transition_column-sets-requires
 transition-column-requires-4 c κs = ((scan_bounds _ c.before.before.before.before.before.before.requires.0).1, omega arith)
 
-transition-column-requires-5 : tie.Need-transition-column-requires-5
+transition-column-requires-5 : tie.Need-transition_column-clears-requires
 transition-column-requires-5 c κs = ((scan_bounds _ c.before.before.before.before.before.before.before.requires.0).1, omega arith)
 
-transition-column-requires-6 : tie.Need-transition-column-requires-6
+transition-column-requires-6 : tie.Need-transition_column-resets-requires
 transition-column-requires-6 c κs = ((scan_bounds _ c.before.before.before.before.before.before.before.before.requires.0).1, omega arith)
 
-transition-column-requires-7 : tie.Need-transition-column-requires-7
+transition-column-requires-7 : tie.Need-transition_column-lengths-requires
 transition-column-requires-7 c κs = ((scan_bounds _ c.before.before.before.before.before.before.before.before.before.requires.0).1, omega arith)
 
-guard-places-requires : tie.Need-guard-places-requires
+guard-places-requires : tie.Need-guard_places-guards-requires
 guard-places-requires c κs = c.before.before.before.before.before.before.before.before.before.before.requires.0
 
 byte-requires : tie.Need-byte-requires
@@ -58,26 +58,26 @@ unfolding table_parts
 returns c = λ i.
     record {
       version = c.before.before.before.before.before.byte.ensures.0 i;
-      states = c.before.before.before.before.byte2.ensures.0 i;
-      variables = c.before.before.before.byte3.ensures.0 i;
-      clocks = c.before.before.byte4.ensures.0 i;
-      kinds = c.before.byte5.ensures.0 i;
-      transitions = c.byte6.ensures.0 i;
-      directions = c.before.before.before.before.before.before.before.before.before.before.before.before.before.before.before.kind-column.ensures i;
-      airtimes = c.before.before.before.before.before.before.before.before.before.before.before.before.before.before.kind-column2.ensures i;
+      states = c.before.before.before.before.byte-2.ensures.0 i;
+      variables = c.before.before.before.byte-3.ensures.0 i;
+      clocks = c.before.before.byte-4.ensures.0 i;
+      kinds = c.before.byte-5.ensures.0 i;
+      transitions = c.byte-6.ensures.0 i;
+      directions = c.before.before.before.before.before.before.before.before.before.before.before.before.before.before.before.kind_column-directions.ensures i;
+      airtimes = c.before.before.before.before.before.before.before.before.before.before.before.before.before.before.kind_column-airtimes.ensures i;
       devices = c.before.before.before.before.before.before.before.before.before.before.before.before.before.before.before.before.before.requires.1 i;
-      sources = c.before.before.before.before.before.before.before.before.before.before.before.before.before.transition-column.ensures i;
-      targets = c.before.before.before.before.before.before.before.before.before.before.before.before.transition-column2.ensures i;
-      triggers = c.before.before.before.before.before.before.before.before.before.before.before.transition-column3.ensures i;
-      sets = c.before.before.before.before.before.before.before.before.before.before.transition-column4.ensures i;
-      clears = c.before.before.before.before.before.before.before.before.before.transition-column5.ensures i;
-      resets = c.before.before.before.before.before.before.before.before.transition-column6.ensures i;
-      lengths = c.before.before.before.before.before.before.before.transition-column7.ensures i;
-      guards = c.before.before.before.before.before.before.guard-places.ensures i;
+      sources = c.before.before.before.before.before.before.before.before.before.before.before.before.before.transition_column-sources.ensures i;
+      targets = c.before.before.before.before.before.before.before.before.before.before.before.before.transition_column-targets.ensures i;
+      triggers = c.before.before.before.before.before.before.before.before.before.before.before.transition_column-triggers.ensures i;
+      sets = c.before.before.before.before.before.before.before.before.before.before.transition_column-sets.ensures i;
+      clears = c.before.before.before.before.before.before.before.before.before.transition_column-clears.ensures i;
+      resets = c.before.before.before.before.before.before.before.before.transition_column-resets.ensures i;
+      lengths = c.before.before.before.before.before.before.before.transition_column-lengths.ensures i;
+      guards = c.before.before.before.before.before.before.guard_places-guards.ensures i;
     }
 
-pub table-parts-spec : {M : Type 1} → statement M
-table-parts-spec =
+pub table_parts_spec : {M : Type 1} → statement M
+table_parts_spec =
     tie.close
     (tie.spec
     kind-column-requires

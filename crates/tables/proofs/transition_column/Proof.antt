@@ -12,78 +12,78 @@ use borrow.Author.Rules.{rules}
 use Rattle.tables.proofs.transition_column.Statement.{statement}
 use Rattle.tables.proofs.transition_column.Tie as tie
 
-abbrev invariant-loop : tie.invariant-loop
+abbrev invariant-loop : tie.invariant-loop-i
 invariant-loop b field n column₀ at₀ i₀ column at i = (i ≤ n) × (n ≤ transition_limit) × (at ≤ 773 + 262 * i) × (at ≡ transition_at b i) × (column ≡ tab (λ j. byte_at b (transition_at b j + field)) i ++ drop i column₀)
 
-abbrev decreases-loop : tie.decreases-loop
+abbrev decreases-loop : tie.decreases-loop-i
 decreases-loop b field n column₀ at₀ i₀ column at i = n - i
 
-byte-requires : tie.Need-byte-requires invariant-loop decreases-loop
+byte-requires : tie.Need-byte-n-requires invariant-loop decreases-loop
 byte-requires c κs = search rules
 
-cast-n : tie.Need-overflow-cast-n invariant-loop decreases-loop
+cast-n : tie.Need-overflow_cast-n invariant-loop decreases-loop
 cast-n c = search rules
 
-transitions-at-requires : tie.Need-transitions-at-requires invariant-loop decreases-loop
+transitions-at-requires : tie.Need-transitions_at-at-requires invariant-loop decreases-loop
 transitions-at-requires c κs = search rules
 
-cast-at : tie.Need-overflow-cast-at invariant-loop decreases-loop
+cast-at : tie.Need-overflow_cast-at invariant-loop decreases-loop
 cast-at c = search rules
 
-loop-holds : tie.Need-loop-init invariant-loop decreases-loop
+loop-holds : tie.Need-loop-i-init invariant-loop decreases-loop
 unfolding tab
-loop-holds c = (omega arith, omega arith, omega (arith, c.transitions-at.ensures.1), c.transitions-at.ensures.0, refl)
+loop-holds c = (omega arith, omega arith, omega (arith, c.transitions_at-at.ensures.1), c.transitions_at-at.ensures.0, refl)
 
-add-byte : tie.Need-overflow-add-byte invariant-loop decreases-loop
+add-byte : tie.Need-overflow_add-at invariant-loop decreases-loop
 add-byte c = search rules
 
-byte-requires-2 : tie.Need-byte-requires-2 invariant-loop decreases-loop
+byte-requires-2 : tie.Need-byte-requires invariant-loop decreases-loop
 byte-requires-2 c κs = search rules
 
-array-write-column : tie.Need-array-write-column invariant-loop decreases-loop
+array-write-column : tie.Need-bounds-column-i invariant-loop decreases-loop
 array-write-column c = search rules
 
-add_at : tie.Need-overflow-add-at invariant-loop decreases-loop
+add_at : tie.Need-overflow_add-at-in-loop-i invariant-loop decreases-loop
 add_at c = search rules
 
-add-byte-2 : tie.Need-overflow-add-byte-2 invariant-loop decreases-loop
+add-byte-2 : tie.Need-overflow_add-at-in-loop-i-2 invariant-loop decreases-loop
 add-byte-2 c = search rules
 
-byte-requires-3 : tie.Need-byte-requires-3 invariant-loop decreases-loop
+byte-requires-3 : tie.Need-byte-requires-in-loop-i invariant-loop decreases-loop
 byte-requires-3 c κs = search rules
 
-cast-at-2 : tie.Need-overflow-cast-at-2 invariant-loop decreases-loop
+cast-at-2 : tie.Need-overflow_cast-at-in-loop-i invariant-loop decreases-loop
 cast-at-2 c = search rules
 
-add-at-2 : tie.Need-overflow-add-at-2 invariant-loop decreases-loop
+add-at-2 : tie.Need-overflow_add-at-in-loop-i-3 invariant-loop decreases-loop
 add-at-2 c = search rules
 
-add-i : tie.Need-overflow-add-i invariant-loop decreases-loop
+add-i : tie.Need-overflow_add-i invariant-loop decreases-loop
 add-i c = search rules
 
-loop-less : tie.Need-loop-smaller invariant-loop decreases-loop
+loop-less : tie.Need-loop-i-smaller invariant-loop decreases-loop
 loop-less c = search rules
 
-loop-again : tie.Need-loop-preserved invariant-loop decreases-loop
+loop-again : tie.Need-loop-i-preserved invariant-loop decreases-loop
 loop-again c = let a = c.before.before.before.before.before.before.before.args in
-    let l = c.before.before.before.loop in
+    let l = c.before.before.before.loop-i in
     let b = a.b.now in (
       omega arith,
       omega arith,
       omega arith,
-      next_at b l.at l.i c.byte3.result l.invariant.3 c.byte3.ensures.0,
-      ap (λ (k : List ℕ). set k l.i c.before.byte2.result) l.invariant.4
-          ∙ rw (c.before.byte2.ensures.0, l.invariant.3) (column_more (λ j. byte_at b (transition_at b j + a.field)) _ l.i (omega arith)),
+      next_at b l.at l.i c.byte-in-loop-i.result l.invariant.3 c.byte-in-loop-i.ensures.0,
+      ap (λ (k : List ℕ). set k l.i c.before.byte.result) l.invariant.4
+          ∙ rw (c.before.byte.ensures.0, l.invariant.3) (column_more (λ j. byte_at b (transition_at b j + a.field)) _ l.i (omega arith)),
     )
 
 returns : tie.Need-returns invariant-loop decreases-loop
 returns c = let a = c.before.before.before.before.before.args in
     let f : ℕ → ℕ = λ j. byte_at a.b.now (transition_at a.b.now j + a.field) in
-    let all : c.before.loop.i ≡ c.before.before.before.byte.result = omega arith in
-    c.before.loop.invariant.4 ∙ column_padded f c.before.loop.i transition_limit ∙ ap (λ n. padded transition_limit (tab f n)) (all ∙ c.before.before.before.byte.ensures.0)
+    let all : c.before.loop-i.i ≡ c.before.before.before.byte-n.result = omega arith in
+    c.before.loop-i.invariant.4 ∙ column_padded f c.before.loop-i.i transition_limit ∙ ap (λ n. padded transition_limit (tab f n)) (all ∙ c.before.before.before.byte-n.ensures.0)
 
-pub transition-column-spec : {M : Type 1} → statement M
-transition-column-spec =
+pub transition_column_spec : {M : Type 1} → statement M
+transition_column_spec =
     tie.close
     (tie.spec
     invariant-loop

@@ -29,14 +29,12 @@ returns : tie.Need-returns-then-rows-most_rows
 unfolding verdict_lines row_lines
 returns c =
     let s = c.before.before.before.before in
-    let v = s.before.before.before.before.verdict.given in
-    let many : most_rows One < v.0.1.0 = omega (arith, c.if-rows-most_rows.true) in
-    rw (v.1, lt-leb _ _ many) (wrote-more s.short_line-next.ensures (wrote_none s.short_line-next.new.text s.short_line-next.result))
+    let many : most_rows One < s.before.before.before.before.in-Accepted.rows = omega (arith, c.if-rows-most_rows.true) in
+    rw (s.before.before.before.before.in-Accepted.is, lt-leb _ _ many) (wrote-more s.short_line-next.ensures (wrote_none s.short_line-next.new.text s.short_line-next.result))
 
 row-lines-requires : tie.Need-row_lines-requires
 row-lines-requires c κs =
-    let v = c.before.before.before.before.before.before.before.before.before.verdict.given in
-    (omega arith, omega (arith, line-length accepted_word v.0.0 v.0.1.0))
+    (omega arith, omega (arith, line-length accepted_word c.before.before.before.before.before.before.before.before.before.in-Accepted.cost c.before.before.before.before.before.before.before.before.before.in-Accepted.rows))
 
 enum-known-verdict-2 : tie.Need-enum_known-verdict-in-Rejected-1
 enum-known-verdict-2 c = search rules
@@ -66,9 +64,8 @@ returns-2 : tie.Need-returns-else-rows-most_rows
 unfolding verdict_lines
 returns-2 c =
     let s = c.before.before.before.before.before.before.before.before in
-    let v = s.before.before.before.before.verdict.given in
-    let few : v.0.1.0 ≤ most_rows One = omega (arith, c.before.before.before.before.if-rows-most_rows.false) in
-    rw (v.1, le-leb _ _ few) (wrote-more s.short_line-next.ensures c.before.before.row_lines.ensures)
+    let few : s.before.before.before.before.in-Accepted.rows ≤ most_rows One = omega (arith, c.before.before.before.before.if-rows-most_rows.false) in
+    rw (s.before.before.before.before.in-Accepted.is, le-leb _ _ few) (wrote-more s.short_line-next.ensures c.before.before.row_lines.ensures)
 
 same-length-3 : tie.Need-shape_of-text-in-Rejected
 same-length-3 c = search rules

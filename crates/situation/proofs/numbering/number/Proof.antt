@@ -6,85 +6,85 @@ use Rattle.situation.proofs.Digits.{below}
 use Rattle.situation.proofs.numbering.number.Statement.{statement}
 use Rattle.situation.proofs.numbering.number.Tie as tie
 
-short-requires : tie.Need-short-requires
+short-requires : tie.Need-short-first-requires
 short-requires c κs = search rules
 
-short-requires-2 : tie.Need-short-requires-2
+short-requires-2 : tie.Need-short-second-requires
 short-requires-2 c κs = search rules
 
-cast-over : tie.Need-overflow-cast-over
+cast-over : tie.Need-overflow_cast-s
 cast-over c = search rules
 
-cast-over-2 : tie.Need-overflow-cast-over-2
+cast-over-2 : tie.Need-overflow_cast-h
 cast-over-2 c = search rules
 
-cast-over-3 : tie.Need-overflow-cast-over-3
+cast-over-3 : tie.Need-overflow_cast-s-2
 cast-over-3 c = search rules
 
-over-requires : tie.Need-over-requires
+over-requires : tie.Need-over-window-requires
 over-requires c κs = search rules
 
 -- the numbers of the digits, from the highest down
-abbrev entry : tie.After-short2 → tie.Start
+abbrev entry : tie.After-short-second → tie.Start
 entry c = c.before.before.before.before.before.before.before.before
 
-window-below : (c : tie.After-over) → c.over.result < 65536
+window-below : (c : tie.After-over-window) → c.over-window.result < 65536
 window-below c =
     let s = entry c.before.before in
     let a = s.args in
     omega (arith, below 256 256 a.t2.window a.h.windows a.t2.air (omega (arith, s.good)) (omega (arith, s.good)) (omega (arith, s.good)))
 
-state-below : (c : tie.After-over2) → c.over2.result < 16777216
+state-below : (c : tie.After-over-state) → c.over-state.result < 16777216
 state-below c =
     let above = c.before.before in
     let s = entry above.before.before in
     let a = s.args in
-    omega (arith, below 256 65536 a.t2.state a.h.states above.over.result (omega (arith, s.good)) (omega (arith, s.good)) (window-below above))
+    omega (arith, below 256 65536 a.t2.state a.h.states above.over-window.result (omega (arith, s.good)) (omega (arith, s.good)) (window-below above))
 
-variables-below : (c : tie.After-over3) → c.over3.result < 4294967296
+variables-below : (c : tie.After-over-variables) → c.over-variables.result < 4294967296
 variables-below c =
     let above = c.before.before in
     let s = entry above.before.before.before.before in
     let a = s.args in
-    omega (arith, below 256 16777216 a.t2.variables a.h.masks above.over2.result (omega (arith, s.good)) (omega (arith, s.good)) (state-below above))
+    omega (arith, below 256 16777216 a.t2.variables a.h.masks above.over-state.result (omega (arith, s.good)) (omega (arith, s.good)) (state-below above))
 
-second_below : (c : tie.After-over4) → c.over4.result < 281474976710656
+second_below : (c : tie.After-over) → c.over.result < 281474976710656
 second_below c =
     let above = c.before in
     let reads = above.before.before.before.before.before.before in
     let s = entry reads in
-    omega (arith, below 65536 4294967296 reads.short2.result s.args.h.second above.over3.result (omega (arith, reads.short2)) (omega (arith, s.good)) (variables-below above))
+    omega (arith, below 65536 4294967296 reads.short-second.result s.args.h.second above.over-variables.result (omega (arith, reads.short-second)) (omega (arith, s.good)) (variables-below above))
 
-cast-over-4 : tie.Need-overflow-cast-over-4
+cast-over-4 : tie.Need-overflow_cast-s-3
 cast-over-4 c = search rules
 
-cast-over-5 : tie.Need-overflow-cast-over-5
+cast-over-5 : tie.Need-overflow_cast-h-2
 cast-over-5 c = search rules
 
-over-requires-2 : tie.Need-over-requires-2
+over-requires-2 : tie.Need-over-state-requires
 over-requires-2 c κs = omega (arith, window-below c.before)
 
-cast-over-6 : tie.Need-overflow-cast-over-6
+cast-over-6 : tie.Need-overflow_cast-s-4
 cast-over-6 c = search rules
 
-cast-over-7 : tie.Need-overflow-cast-over-7
+cast-over-7 : tie.Need-overflow_cast-h-3
 cast-over-7 c = search rules
 
-over-requires-3 : tie.Need-over-requires-3
+over-requires-3 : tie.Need-over-variables-requires
 over-requires-3 c κs = omega (arith, state-below c.before)
 
-over-requires-4 : tie.Need-over-requires-4
+over-requires-4 : tie.Need-over-requires
 over-requires-4 c κs = omega (arith, variables-below c)
 
-over-requires-5 : tie.Need-over-requires-5
+over-requires-5 : tie.Need-over-requires-2
 over-requires-5 c κs = second_below c
 
 returns : tie.Need-returns
 unfolding number_by
 returns c = cc
 
-pub number-spec : {M : Type 1} → statement M
-number-spec =
+pub number_spec : {M : Type 1} → statement M
+number_spec =
     tie.close
     (tie.spec
     short-requires

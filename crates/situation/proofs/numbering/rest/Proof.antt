@@ -4,16 +4,16 @@ use Rattle.situation.specs.Numbering.{rest_by}
 use Rattle.situation.proofs.numbering.rest.Statement.{statement}
 use Rattle.situation.proofs.numbering.rest.Tie as tie
 
-div-result : tie.Need-nonzero-div-result
+div-result : tie.Need-nonzero_div-result
 div-result c = search rules
 
-returns : tie.Need-returns
+returns : tie.Need-returns-then-radix-eq0
 unfolding rest_by
-returns c = simp (eq-eqb _ _ c.if1.true)
+returns c = simp (eq-eqb _ _ c.if-radix-eq0.true)
 
-returns-2 : tie.Need-returns-2
+returns-2 : tie.Need-returns-else-radix-eq0
 unfolding rest_by
-returns-2 c = simp (ne_eqb _ _ c.if1.false)
+returns-2 c = simp (ne_eqb _ _ c.if-radix-eq0.false)
 
-pub rest-spec : {M : Type 1} → statement M
-rest-spec = tie.close (tie.spec div-result returns returns-2)
+pub rest_spec : {M : Type 1} → statement M
+rest_spec = tie.close (tie.spec div-result returns returns-2)
