@@ -11,7 +11,7 @@ no-row-requires c κs = search rules
 returns : tie.Need-returns
 returns c =
     let r = c.no_row in (
-      record { fired = omega arith; last = omega (arith, r.type-inv); clocks = refl; first = omega arith; second = omega arith },
+      record { fired = omega arith; last = omega (arith, r.type_inv); clocks = refl; first = omega arith; second = omega arith },
       λ recording i. record { before = r.ensures i; left = recording; now = 0; config = record { state = 0; variables = 0; clocks = 0 ∷ 0 ∷ [] }; free = 0; window = 0 },
     )
 

@@ -43,14 +43,14 @@ returns c = let a = c.before.before.before.before.before.before.before.before.be
     let m = ruled_from a.rule a.table.now a.offsets.now in
     let l = c.before.before.before.before.before.loop-i in
     ahead_broken a.edition m a.recording.now a.witness.now l.s l.changed l.i l.invariant.2 c.before.before.before.row_at-e.result c.before.before.accounted-step.result
-    (omega (arith, l.invariant.0, c.before.before.before.before.loop-i-test.true)) c.before.before.before.row_at-e.ensures c.before.before.accounted-step.ensures (c.if-not-step.true)
+    (omega (arith, l.invariant.0, c.before.before.before.before.loop-i-test.true)) c.before.before.before.row_at-e.ensures c.before.before.accounted-step.ensures (not-true _ c.if-not-step.true)
 
 change-by-requires : tie.Need-change_by-changed-requires invariant-loop decreases-loop
 change-by-requires c κs = search rules
 
 add-changed : tie.Need-overflow_add-changed invariant-loop decreases-loop
 add-changed c = let l = c.before.before.before.before.before.before.loop-i in
-    omega (arith, l.invariant.2.few, c.before.before.before.before.before.loop-i-test.true, c.change_by-changed.ensures.1, c.before.before.before.before.before.before.before.before.count_at-count.type-inv)
+    omega (arith, l.invariant.2.few, c.before.before.before.before.before.loop-i-test.true, c.change_by-changed.ensures.1, c.before.before.before.before.before.before.before.before.count_at-count.type_inv)
 
 add-i : tie.Need-overflow_add-i invariant-loop decreases-loop
 add-i c = search rules
@@ -63,7 +63,7 @@ loop-again c = let a = c.before.before.before.before.before.before.before.before
     let m = ruled_from a.rule a.table.now a.offsets.now in
     let l = c.before.before.before.before.before.before.before.loop-i in
     let g = c.before.before.before.before.accounted-step.ensures in
-    let t = c.before.before.if-not-step.false in (
+    let t = not-false _ c.before.before.if-not-step.false in (
       l.invariant.0,
       g.bounded t,
       ahead_more a.edition m a.recording.now a.witness.now l.s l.changed l.i l.invariant.2 c.before.before.before.before.before.row_at-e.result c.before.before.before.before.accounted-step.result (omega (arith, l.invariant.0, c.before.before.before.before.before.before.loop-i-test.true)) c.before.before.before.before.before.row_at-e.ensures g c.before.change_by-changed.result c.before.change_by-changed.ensures.0 t c.before.change_by-changed.ensures.1,

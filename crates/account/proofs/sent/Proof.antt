@@ -53,7 +53,7 @@ returns-2 c =
     (sent_unfired (within a.rule) (monitor_from a.table.now a.offsets.now) ps a.s a.e a.next asked.is_guess-guess.result (asked.is_guess-guess.ensures a.offsets.now)
     (sym allowed.before.allows.ensures ∙ allowed.if-not-allows.false)
     waits.waited-ready.result waits.waited-ready.ensures fired.fire-then.result fired.fire-then.ensures
-    (c.before.if-not-then.true))
+    (not-true _ c.before.if-not-then.true))
 
 free-after-requires : tie.Need-free_after-free-requires
 free-after-requires c κs = search rules
@@ -74,7 +74,7 @@ returns-3 c =
     sent-fired (within a.rule) (monitor_from a.table.now a.offsets.now) ps a.s a.e a.next asked.is_guess-guess.result (asked.is_guess-guess.ensures a.offsets.now)
     (sym allowed.before.allows.ensures ∙ allowed.if-not-allows.false)
     waits.waited-ready.result waits.waited-ready.ensures fired.fire-then.result fired.fire-then.ensures
-    c.before.free_after-free.result c.window_behind.result start.requires (fires.if-not-then.false)
+    c.before.free_after-free.result c.window_behind.result start.requires (not-false _ fires.if-not-then.false)
     (c.before.free_after-free.ensures a.offsets.now) c.window_behind.ensures
 
 pub sent_spec : {M : Type 1} → statement M

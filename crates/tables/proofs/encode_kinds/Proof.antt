@@ -78,7 +78,7 @@ loop-again c =
     let record_is : take (width - 0) (kind_fields t l.i) ≡ row =
     ap (λ (n : ℕ). take n (kind_fields t l.i)) all in (
       omega arith,
-      c.before.before.place.auto.1.0 ∙ l.invariant.1,
+      c.before.before.place.auto.room ∙ l.invariant.1,
       l.invariant.2,
       λ head room h k e.
           c.before.before.place.ensures

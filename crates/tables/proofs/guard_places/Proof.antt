@@ -80,7 +80,7 @@ loop-again c = let b = c.before.before.before.before.before.before.before.before
       l.invariant.1,
       omega arith,
       next_at b l.at l.i c.before.before.before.before.byte.result l.invariant.3 c.before.before.before.before.byte.ensures.0,
-      c.before.place.auto.1.0 ∙ l.invariant.4,
+      c.before.place.auto.room ∙ l.invariant.4,
       c.before.place.ensures ∙ guard_turn b c.before.before.before.before.before.before.before.before.before.before.requires l.i l.at c.before.before.before.before.byte.result within l.invariant.3 c.before.before.before.before.byte.ensures.0 l.guards l.invariant.5,
     )
 

@@ -1,3 +1,5 @@
+use mathlib.Core.Bool.{not}
+use Rattle.std.proofs.Common.{ap}
 use mathlib.Core.Path.{sym, ◌∙◌}
 use Rattle.model.proofs.AnswerLaws.{table_reads}
 use Rattle.frame.proofs.Answers.{turn-stops, turn-goes, sound-is}
@@ -24,7 +26,7 @@ no-table-requires c κs = search rules
 
 returns : tie.Need-returns-then-not-sound
 returns c = let b = c.before.before.before.before.before.before.before.args.b.now in
-    let is = turn-stops _ _ _ _ _ (read_all b) (read_scan b c.before.before.before.before.before.device_column-devices.result c.before.before.before.before.before.device_column-devices.ensures _ c.before.before.before.scan_with-scan.ensures) c.before.before.sound.ensures c.before.if-not-sound.true in
+    let is = turn-stops _ _ _ _ _ (read_all b) (read_scan b c.before.before.before.before.before.device_column-devices.result c.before.before.before.before.before.device_column-devices.ensures _ c.before.before.before.scan_with-scan.ensures) c.before.before.sound.ensures (ap not c.before.if-not-sound.true) in
     table_reads _ _ (read_refused b _ _ is (sym c.before.before.sound.ensures ∙ c.before.if-not-sound.true) c.no_table.ensures)
 
 table-parts-requires : tie.Need-table_parts-parts-requires
@@ -44,13 +46,13 @@ no-table-requires-2 c κs = search rules
 
 returns-2 : tie.Need-returns-then-not-sound-2
 returns-2 c = let b = c.before.before.before.before.before.before.before.before.before.before.before.args.b.now in
-    let all = turn-goes _ _ _ _ _ (read_all b) (read_scan b c.before.before.before.before.before.before.before.before.before.device_column-devices.result c.before.before.before.before.before.before.before.before.before.device_column-devices.ensures _ c.before.before.before.before.before.before.before.scan_with-scan.ensures) c.before.before.before.before.before.before.sound.ensures c.before.before.before.before.before.if-not-sound.false in
+    let all = turn-goes _ _ _ _ _ (read_all b) (read_scan b c.before.before.before.before.before.before.before.before.before.device_column-devices.result c.before.before.before.before.before.before.before.before.before.device_column-devices.ensures _ c.before.before.before.before.before.before.before.scan_with-scan.ensures) c.before.before.before.before.before.before.sound.ensures (ap not c.before.before.before.before.before.if-not-sound.false) in
     let is = whole_of b _ _ all c.before.before.before.before.table_parts-parts.ensures c.before.before.before.whole_answer-whole.ensures in
     table_reads _ _ (read_refused b _ _ is (sym c.before.before.sound-2.ensures ∙ c.before.if-not-sound-2.true) c.no_table-then-not-sound-2.ensures)
 
 returns-3 : tie.Need-returns
 returns-3 c = let b = c.before.before.before.before.before.before.before.before.before.before.args.b.now in
-    let all = turn-goes _ _ _ _ _ (read_all b) (read_scan b c.before.before.before.before.before.before.before.before.device_column-devices.result c.before.before.before.before.before.before.before.before.device_column-devices.ensures _ c.before.before.before.before.before.before.scan_with-scan.ensures) c.before.before.before.before.before.sound.ensures c.before.before.before.before.if-not-sound.false in
+    let all = turn-goes _ _ _ _ _ (read_all b) (read_scan b c.before.before.before.before.before.before.before.before.device_column-devices.result c.before.before.before.before.before.before.before.before.device_column-devices.ensures _ c.before.before.before.before.before.before.scan_with-scan.ensures) c.before.before.before.before.before.sound.ensures (ap not c.before.before.before.before.if-not-sound.false) in
     let is = whole_of b _ _ all c.before.before.before.table_parts-parts.ensures c.before.before.whole_answer-whole.ensures in
     table_reads _ _ (read_sound b _ _ is (sound-is _ (sym c.before.sound-2.ensures ∙ c.if-not-sound-2.false)) c.before.before.before.table_parts-parts.ensures)
 

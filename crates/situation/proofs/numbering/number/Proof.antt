@@ -26,34 +26,34 @@ over-requires c κs = search rules
 
 -- the numbers of the digits, from the highest down
 abbrev entry : tie.After-short-second → tie.Start
-entry c = c.before.before.before.before.before.before.before.before
+entry c = c.before.before.before.before.before.before
 
 window-below : (c : tie.After-over-window) → c.over-window.result < 65536
 window-below c =
     let s = entry c.before.before in
     let a = s.args in
-    omega (arith, below 256 256 a.t2.window a.h.windows a.t2.air (omega (arith, s.good)) (omega (arith, s.good)) (omega (arith, s.good)))
+    omega (arith, below 256 256 a.s.window a.h.windows a.s.air (omega arith) (omega arith) (omega arith))
 
 state-below : (c : tie.After-over-state) → c.over-state.result < 16777216
 state-below c =
     let above = c.before.before in
     let s = entry above.before.before in
     let a = s.args in
-    omega (arith, below 256 65536 a.t2.state a.h.states above.over-window.result (omega (arith, s.good)) (omega (arith, s.good)) (window-below above))
+    omega (arith, below 256 65536 a.s.state a.h.states above.over-window.result (omega arith) (omega arith) (window-below above))
 
 variables-below : (c : tie.After-over-variables) → c.over-variables.result < 4294967296
 variables-below c =
     let above = c.before.before in
     let s = entry above.before.before.before.before in
     let a = s.args in
-    omega (arith, below 256 16777216 a.t2.variables a.h.masks above.over-state.result (omega (arith, s.good)) (omega (arith, s.good)) (state-below above))
+    omega (arith, below 256 16777216 a.s.variables a.h.masks above.over-state.result (omega arith) (omega arith) (state-below above))
 
 second_below : (c : tie.After-over) → c.over.result < 281474976710656
 second_below c =
     let above = c.before in
     let reads = above.before.before.before.before.before.before in
     let s = entry reads in
-    omega (arith, below 65536 4294967296 reads.short-second.result s.args.h.second above.over-variables.result (omega (arith, reads.short-second)) (omega (arith, s.good)) (variables-below above))
+    omega (arith, below 65536 4294967296 reads.short-second.result s.args.h.second above.over-variables.result (omega arith) (omega arith) (variables-below above))
 
 cast-over-4 : tie.Need-overflow_cast-s-3
 cast-over-4 c = search rules
