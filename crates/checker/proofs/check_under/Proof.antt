@@ -9,5 +9,5 @@ checked-requires c κs = search rules
 returns : tie.Need-returns
 returns c = checks-under _ _ _ _ _ _ c.checked.ensures
 
-pub check-under-spec : {M : Type 1} → statement M
-check-under-spec = tie.close (tie.spec checked-requires returns)
+pub check_under_spec : {M : Type 1} → statement M
+check_under_spec = tie.close (tie.spec checked-requires returns)

@@ -9,56 +9,56 @@ use Rattle.firings.proofs.Planes.{each_none, each_more}
 use Rattle.firings.proofs.carry_each.Statement.{statement}
 use Rattle.firings.proofs.carry_each.Tie as tie
 
-abbrev invariant-loop : tie.invariant-loop
+abbrev invariant-loop : tie.invariant-loop-v
 invariant-loop p variables sets clears here to guard planes src dst₀ masks plane v₀ dst v =
     (v ≤ masks) × Joined (carried_each p src planes variables sets clears here to guard v) dst₀ dst
 
-abbrev decreases-loop : tie.decreases-loop
+abbrev decreases-loop : tie.decreases-loop-v
 decreases-loop p variables sets clears here to guard planes src dst₀ masks plane v₀ dst v = masks - v
 
-abbrev entry : tie.At-loop invariant-loop decreases-loop → tie.Start invariant-loop decreases-loop
+abbrev entry : tie.At-loop-v invariant-loop decreases-loop → tie.Start invariant-loop decreases-loop
 entry c = c.before.before.before.before.before
 
-cast-plane : tie.Need-overflow-cast-plane invariant-loop decreases-loop
+cast-plane : tie.Need-overflow_cast-plane invariant-loop decreases-loop
 cast-plane c = search rules
 
-loop-holds : tie.Need-loop-init invariant-loop decreases-loop
+loop-holds : tie.Need-loop-v-init invariant-loop decreases-loop
 loop-holds c =
     let a = c.before.before.before.before.args in
     (omega arith, each_none a.p a.src.now a.planes.now a.variables a.sets a.clears a.here a.to a.guard a.dst.now)
 
-variables-after-requires : tie.Need-variables-after-requires invariant-loop decreases-loop
+variables-after-requires : tie.Need-variables_after-changed-requires invariant-loop decreases-loop
 variables-after-requires c κs = search rules
 
-cast-carry : tie.Need-overflow-cast-carry invariant-loop decreases-loop
+cast-carry : tie.Need-overflow_cast-v invariant-loop decreases-loop
 cast-carry c = search rules
 
-mul-carry : tie.Need-overflow-mul-carry invariant-loop decreases-loop
+mul-carry : tie.Need-overflow_mul-plane invariant-loop decreases-loop
 mul-carry c = let s = entry c.before.before in record { fits = planes_fit _ _ (omega (arith, s.good)) (omega (arith, s.good)) }
 
-add-carry : tie.Need-overflow-add-carry invariant-loop decreases-loop
+add-carry : tie.Need-overflow_add-here invariant-loop decreases-loop
 add-carry c =
     let s = entry c.before.before in
     record { fits = planes_end _ _ (omega (arith, s.good)) (omega (arith, s.good)) _ (omega (arith, s.pre.0)) }
 
-cast-carry-2 : tie.Need-overflow-cast-carry-2 invariant-loop decreases-loop
+cast-carry-2 : tie.Need-overflow_cast-changed invariant-loop decreases-loop
 cast-carry-2 c = search rules
 
-mul-carry-2 : tie.Need-overflow-mul-carry-2 invariant-loop decreases-loop
+mul-carry-2 : tie.Need-overflow_mul-plane-in-loop-v invariant-loop decreases-loop
 mul-carry-2 c = let s = entry c.before.before in record { fits = planes_fit _ _ (omega (arith, s.good)) (omega arith) }
 
-add-carry-2 : tie.Need-overflow-add-carry-2 invariant-loop decreases-loop
+add-carry-2 : tie.Need-overflow_add-to invariant-loop decreases-loop
 add-carry-2 c =
     let s = entry c.before.before in
     record { fits = planes_end _ _ (omega (arith, s.good)) (omega arith) _ s.pre.1 }
 
-cast-carry-3 : tie.Need-overflow-cast-carry-3 invariant-loop decreases-loop
+cast-carry-3 : tie.Need-overflow_cast-v-in-loop-v invariant-loop decreases-loop
 cast-carry-3 c = search rules
 
-mul-carry-3 : tie.Need-overflow-mul-carry-3 invariant-loop decreases-loop
+mul-carry-3 : tie.Need-overflow_mul-plane-in-loop-v-2 invariant-loop decreases-loop
 mul-carry-3 c = let s = entry c.before.before in record { fits = planes_fit _ _ (omega (arith, s.good)) (omega (arith, s.good)) }
 
-add-carry-3 : tie.Need-overflow-add-carry-3 invariant-loop decreases-loop
+add-carry-3 : tie.Need-overflow_add-guard invariant-loop decreases-loop
 add-carry-3 c =
     let s = entry c.before.before in
     record { fits = planes_end _ _ (omega (arith, s.good)) (omega (arith, s.good)) _ (omega (arith, s.pre.2)) }
@@ -72,13 +72,13 @@ carry-requires c κs =
       omega (arith, s.good),
     )
 
-add-v : tie.Need-overflow-add-v invariant-loop decreases-loop
+add-v : tie.Need-overflow_add-v invariant-loop decreases-loop
 add-v c = search rules
 
-loop-less : tie.Need-loop-smaller invariant-loop decreases-loop
+loop-less : tie.Need-loop-v-smaller invariant-loop decreases-loop
 loop-less c = search rules
 
-loop-again : tie.Need-loop-preserved invariant-loop decreases-loop
+loop-again : tie.Need-loop-v-preserved invariant-loop decreases-loop
 loop-again c =
     let after = c.before.before in
     let change = after.before.before in
@@ -86,23 +86,23 @@ loop-again c =
     let a = (entry at-loop).args in (
       omega arith,
       each_more a.p a.src.now a.planes.now a.variables a.sets a.clears a.here a.to a.guard
-          at-loop.loop.v change.variables-after.result a.dst.now at-loop.loop.dst after.carry.new.1.1.1.1.1.1.1.0
-          change.variables-after.ensures at-loop.loop.invariant.1 after.carry.ensures,
+          at-loop.loop-v.v change.variables_after-changed.result a.dst.now at-loop.loop-v.dst after.carry.new.dst
+          change.variables_after-changed.ensures at-loop.loop-v.invariant.1 after.carry.ensures,
     )
 
-same_length : tie.Need-same-length invariant-loop decreases-loop
-same_length c = search (rules, c.before.loop.invariant.1.size)
+same_length : tie.Need-shape_of-dst invariant-loop decreases-loop
+same_length c = search (rules, c.before.loop-v.invariant.1.size)
 
 returns : tie.Need-returns invariant-loop decreases-loop
 returns c =
     let at-loop = c.before in
     let a = (entry at-loop).args in
-    let done : at-loop.loop.v ≡ a.p.shape.masks = omega arith in
-    subst (λ (n : ℕ). Joined (carried_each a.p a.src.now a.planes.now a.variables a.sets a.clears a.here a.to a.guard n) a.dst.now at-loop.loop.dst) done
-    at-loop.loop.invariant.1
+    let done : at-loop.loop-v.v ≡ a.p.shape.masks = omega arith in
+    subst (λ (n : ℕ). Joined (carried_each a.p a.src.now a.planes.now a.variables a.sets a.clears a.here a.to a.guard n) a.dst.now at-loop.loop-v.dst) done
+    at-loop.loop-v.invariant.1
 
-pub carry-each-spec : {M : Type 1} → statement M
-carry-each-spec =
+pub carry_each_spec : {M : Type 1} → statement M
+carry_each_spec =
     tie.close
     (tie.spec
     invariant-loop

@@ -11,38 +11,38 @@ use Rattle.instants.specs.Firing.{guessed}
 use Rattle.firings.proofs.is_guess.Statement.{statement}
 use Rattle.firings.proofs.is_guess.Tie as tie
 
-enum_told : tie.Need-enum-told
+enum_told : tie.Need-enum_told-1
 enum_told c = search rules
 
-add-byte : tie.Need-overflow-add-byte
+add-byte : tie.Need-overflow_add-at
 add-byte c = search rules
 
 byte-requires : tie.Need-byte-requires
 byte-requires c κs = search rules
 
-device-of-requires : tie.Need-device-of-requires
+device-of-requires : tie.Need-device_of-requires
 device-of-requires c κs = search rules
 
-enum-told-2 : tie.Need-enum-told-2
+enum-told-2 : tie.Need-enum_told-in-Kind
 enum-told-2 c = search rules
 
-returns : tie.Need-returns
+returns : tie.Need-returns-in-Nothing
 unfolding transition_from
 returns c =
     let b = c.before.before in
-    let a = b.before.before.before.before.args in
+    let a = b.before.before.before.args in
     λ offsets.
     ap (λ (d : ℕ). eqb d a.p.shape.rule.device)
-    (c.before.device-of.ensures offsets ∙ ap (λ (k : ℕ). device (monitor_from a.table.now offsets) k) b.byte.ensures.0)
-    ∙ ap (λ (x : Heard). guessed (ruled_from a.p.shape a.table.now offsets) (heard_of x) (transition_from a.table.now a.at)) (sym b.before.enum_told.given.1)
+    (c.before.device_of.ensures offsets ∙ ap (λ (k : ℕ). device (monitor_from a.table.now offsets) k) b.byte.ensures.0)
+    ∙ ap (λ (x : Heard). guessed (ruled_from a.p.shape a.table.now offsets) (heard_of x) (transition_from a.table.now a.at)) (sym b.before.in-Nothing.is)
 
-returns-2 : tie.Need-returns-2
+returns-2 : tie.Need-returns-in-Kind
 returns-2 c =
-    let a = c.before.before.before.args in
+    let a = c.before.before.args in
     λ offsets.
-    ap (λ (x : Heard). guessed (ruled_from a.p.shape a.table.now offsets) (heard_of x) (transition_from a.table.now a.at)) (sym c.enum-told2.given.1)
+    ap (λ (x : Heard). guessed (ruled_from a.p.shape a.table.now offsets) (heard_of x) (transition_from a.table.now a.at)) (sym c.in-Kind.is)
 
-pub is-guess-spec : {M : Type 1} → statement M
-is-guess-spec =
+pub is_guess_spec : {M : Type 1} → statement M
+is_guess_spec =
     tie.close
     (tie.spec enum_told add-byte byte-requires device-of-requires enum-told-2 returns returns-2)

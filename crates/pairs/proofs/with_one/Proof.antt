@@ -6,41 +6,41 @@ use borrow.Author.Rules.{rules}
 use Rattle.pairs.proofs.with_one.Statement.{statement}
 use Rattle.pairs.proofs.with_one.Tie as tie
 
-enum-known-tried : tie.Need-enum-known-tried
+enum-known-tried : tie.Need-enum_known-tried
 enum-known-tried c = search rules
 
-enum_told : tie.Need-enum-told
+enum_told : tie.Need-enum_told-1
 enum_told c = search rules
 
-returns : tie.Need-returns
-returns c = let e : c.before.before.args.tried ≡ Unfit = cc in counted_unfit c.before.before.args.found c.before.before.args.tried e
+returns : tie.Need-returns-in_default
+returns c = let e : c.before.args.tried ≡ Unfit = cc in counted_unfit c.before.args.found c.before.args.tried e
 
-enum-told-2 : tie.Need-enum-told-2
+enum-told-2 : tie.Need-enum_told-in-Yes
 enum-told-2 c = search rules
 
-returns-2 : tie.Need-returns-2
-returns-2 c = let e : c.before.before.before.before.before.args.tried ≡ Answer Yes = cc in counted_yes c.before.before.before.before.before.args.found c.before.before.before.before.before.args.tried e
+returns-2 : tie.Need-returns-in-Yes
+returns-2 c = let e : c.before.before.args.tried ≡ Answer Yes = cc in counted_yes c.before.before.args.found c.before.before.args.tried e
 
-enum-told-3 : tie.Need-enum-told-3
+enum-told-3 : tie.Need-enum_told-in-NotYet
 enum-told-3 c = search rules
 
-add-t5 : tie.Need-overflow-add-t5
+add-t5 : tie.Need-overflow_add-result
 add-t5 c = search rules
 
-returns-3 : tie.Need-returns-3
-returns-3 c = let e : c.before.before.before.before.before.before.args.tried ≡ Answer NotYet = cc in counted-early c.before.before.before.before.before.before.args.found c.before.before.before.before.before.before.args.tried e
+returns-3 : tie.Need-returns-in-NotYet
+returns-3 c = let e : c.before.before.before.args.tried ≡ Answer NotYet = cc in counted-early c.before.before.before.args.found c.before.before.before.args.tried e
 
-enum-told-4 : tie.Need-enum-told-4
+enum-told-4 : tie.Need-enum_told-in-NoMore
 enum-told-4 c = search rules
 
-add-t6 : tie.Need-overflow-add-t6
+add-t6 : tie.Need-overflow_add-result-in-NoMore
 add-t6 c = search rules
 
-returns-4 : tie.Need-returns-4
-returns-4 c = let e : c.before.before.before.before.before.before.args.tried ≡ Answer NoMore = cc in counted-late c.before.before.before.before.before.before.args.found c.before.before.before.before.before.before.args.tried e
+returns-4 : tie.Need-returns-in-NoMore
+returns-4 c = let e : c.before.before.before.args.tried ≡ Answer NoMore = cc in counted-late c.before.before.before.args.found c.before.before.before.args.tried e
 
-pub with-one-spec : {M : Type 1} → statement M
-with-one-spec =
+pub with_one_spec : {M : Type 1} → statement M
+with_one_spec =
     tie.close
     (tie.spec
     enum-known-tried

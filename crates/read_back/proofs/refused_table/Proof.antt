@@ -4,14 +4,14 @@ use Rattle.read_back.proofs.Kept.{no_table_read}
 use Rattle.read_back.proofs.refused_table.Statement.{statement}
 use Rattle.read_back.proofs.refused_table.Tie as tie
 
-slice-aggregate-read-table : tie.Need-slice-aggregate-read-table
+slice-aggregate-read-table : tie.Need-slice_bounds-read_table-end
 slice-aggregate-read-table c = search rules
 
-read-table-requires : tie.Need-read-table-requires
+read-table-requires : tie.Need-read_table-reading-requires
 read-table-requires c κs = search rules
 
 returns : tie.Need-returns
-returns c = (refl, ap (λ (x : _). x.parts) c.before.read_table.ensures.0 ∙ no_table_read)
+returns c = (refl, ap (λ (x : _). x.parts) c.before.read_table-reading.ensures.0 ∙ no_table_read)
 
-pub refused-table-spec : {M : Type 1} → statement M
-refused-table-spec = tie.close (tie.spec slice-aggregate-read-table read-table-requires returns)
+pub refused_table_spec : {M : Type 1} → statement M
+refused_table_spec = tie.close (tie.spec slice-aggregate-read-table read-table-requires returns)

@@ -7,5 +7,5 @@ returns : tie.Need-returns
 unfolding no_recording
 returns c = refl
 
-pub no-recording-spec : {M : Type 1} → statement M
-no-recording-spec = tie.close (tie.spec returns)
+pub no_recording_spec : {M : Type 1} → statement M
+no_recording_spec = tie.close (tie.spec returns)

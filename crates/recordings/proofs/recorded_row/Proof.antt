@@ -6,48 +6,48 @@ use borrow.Author.Rules.{rules}
 use Rattle.recordings.proofs.recorded_row.Statement.{statement}
 use Rattle.recordings.proofs.recorded_row.Tie as tie
 
-mul-word : tie.Need-overflow-mul-word
+mul-word : tie.Need-overflow_mul-i
 mul-word c = search rules
 
-add-word : tie.Need-overflow-add-word
+add-word : tie.Need-overflow_add-i
 add-word c = search rules
 
-word-requires : tie.Need-word-requires
+word-requires : tie.Need-word-time-requires
 word-requires c κs = search rules
 
-returns : tie.Need-returns
+returns : tie.Need-returns-then-time-lt1
 unfolding recorded_row
-returns c = rw (← c.before.word.ensures.0, lt-leb _ _ c.if1.true)
+returns c = rw (← c.before.word-time.ensures.0, lt-leb _ _ c.if-time-lt1.true)
 
 byte-requires : tie.Need-byte-requires
 byte-requires c κs = search rules
 
-mul-byte : tie.Need-overflow-mul-byte
+mul-byte : tie.Need-overflow_mul-i-2
 mul-byte c = search rules
 
-add-byte : tie.Need-overflow-add-byte
+add-byte : tie.Need-overflow_add-i-2
 add-byte c = search rules
 
 byte-requires-2 : tie.Need-byte-requires-2
 byte-requires-2 c κs = search rules
 
-returns-2 : tie.Need-returns-2
+returns-2 : tie.Need-returns-then-byte
 unfolding recorded_row
-returns-2 c = rw (← c.before.before.before.before.word.ensures.0, le-leb _ _ c.before.before.before.if1.false, le-leb c.before.before.before.before.word.result time_limit (omega arith), ← c.before.before.byte.ensures.0, ← c.before.byte2.ensures.0, le-ltb _ _ c.if2.true)
+returns-2 c = rw (← c.before.before.before.before.word-time.ensures.0, le-leb _ _ c.before.before.before.if-time-lt1.false, le-leb c.before.before.before.before.word-time.result time_limit (omega arith), ← c.before.before.byte.ensures.0, ← c.before.byte-2.ensures.0, le-ltb _ _ c.if-byte.true)
 
-clear-of-before-requires : tie.Need-clear-of-before-requires
+clear-of-before-requires : tie.Need-clear_of_before-requires
 clear-of-before-requires c κs = search rules
 
-returns-3 : tie.Need-returns-3
+returns-3 : tie.Need-returns-then-not-clear_of_before
 unfolding recorded_row
-returns-3 c = rw (← c.before.before.before.before.before.before.word.ensures.0, le-leb _ _ c.before.before.before.before.before.if1.false, le-leb c.before.before.before.before.before.before.word.result time_limit (omega arith), ← c.before.before.before.before.byte.ensures.0, ← c.before.before.before.byte2.ensures.0, lt-ltb _ _ c.before.before.if2.false, ← c.before.clear-of-before.ensures, not-true c.before.clear-of-before.result c.if3.true)
+returns-3 c = rw (← c.before.before.before.before.before.before.word-time.ensures.0, le-leb _ _ c.before.before.before.before.before.if-time-lt1.false, le-leb c.before.before.before.before.before.before.word-time.result time_limit (omega arith), ← c.before.before.before.before.byte.ensures.0, ← c.before.before.before.byte-2.ensures.0, lt-ltb _ _ c.before.before.if-byte.false, ← c.before.clear_of_before.ensures, c.if-not-clear_of_before.true)
 
-returns-4 : tie.Need-returns-4
+returns-4 : tie.Need-returns
 unfolding recorded_row
-returns-4 c = rw (← c.before.before.before.before.before.before.word.ensures.0, le-leb _ _ c.before.before.before.before.before.if1.false, le-leb c.before.before.before.before.before.before.word.result time_limit (omega arith), ← c.before.before.before.before.byte.ensures.0, ← c.before.before.before.byte2.ensures.0, lt-ltb _ _ c.before.before.if2.false, ← c.before.clear-of-before.ensures, not-false c.before.clear-of-before.result c.if3.false)
+returns-4 c = rw (← c.before.before.before.before.before.before.word-time.ensures.0, le-leb _ _ c.before.before.before.before.before.if-time-lt1.false, le-leb c.before.before.before.before.before.before.word-time.result time_limit (omega arith), ← c.before.before.before.before.byte.ensures.0, ← c.before.before.before.byte-2.ensures.0, lt-ltb _ _ c.before.before.if-byte.false, ← c.before.clear_of_before.ensures, c.if-not-clear_of_before.false)
 
-pub recorded-row-spec : {M : Type 1} → statement M
-recorded-row-spec =
+pub recorded_row_spec : {M : Type 1} → statement M
+recorded_row_spec =
     tie.close
     (tie.spec
     mul-word

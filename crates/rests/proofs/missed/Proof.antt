@@ -16,47 +16,47 @@ use Rattle.rests.proofs.missed.Tie as tie
 nowhere-requires : tie.Need-nowhere-requires
 nowhere-requires c κs = search rules
 
-returns : tie.Need-returns
+returns : tie.Need-returns-then-s-gt0
 returns c =
     let a = c.before.before.before.before.args in
-    λ offsets. c.nowhere.ensures ∙ missed_taken a.h (ruled_from a.h a.table.now offsets) a.kind a.s (λ e. omega (arith, c.before.if1.true, e))
+    λ offsets. c.nowhere.ensures ∙ missed_taken a.h (ruled_from a.h a.table.now offsets) a.kind a.s (λ e. omega (arith, c.before.if-s-gt0.true, e))
 
-to-unit-requires : tie.Need-to-unit-requires
+to-unit-requires : tie.Need-to_unit-requires
 to-unit-requires c κs = search rules
 
-nowhere-requires-2 : tie.Need-nowhere-requires-2
+nowhere-requires-2 : tie.Need-nowhere-requires-then-not-to_unit
 nowhere-requires-2 c κs = search rules
 
-returns-2 : tie.Need-returns-2
+returns-2 : tie.Need-returns-then-not-to_unit
 returns-2 c =
     let a = c.before.before.before.before.before.before.args in
     λ offsets.
-    c.nowhere2.ensures
-    ∙ missed_not a.h (ruled_from a.h a.table.now offsets) a.kind a.s (omega (arith, c.before.before.before.if1.false))
-    (sym (c.before.before.to-unit.ensures offsets) ∙ not-true _ c.before.if2.true)
+    c.nowhere-then-not-to_unit.ensures
+    ∙ missed_not a.h (ruled_from a.h a.table.now offsets) a.kind a.s (omega (arith, c.before.before.before.if-s-gt0.false))
+    (sym (c.before.before.to_unit.ensures offsets) ∙ c.before.if-not-to_unit.true)
 
-airtime-of-requires : tie.Need-airtime-of-requires
+airtime-of-requires : tie.Need-airtime_of-air-requires
 airtime-of-requires c κs = search rules
 
-config-of-requires : tie.Need-config-of-requires
+config-of-requires : tie.Need-config_of-requires
 config-of-requires c κs = search rules
 
-ticked-requires : tie.Need-ticked-requires
+ticked-requires : tie.Need-ticked-to-requires
 ticked-requires c κs = search rules
 
-returns-3 : tie.Need-returns-3
+returns-3 : tie.Need-returns
 returns-3 c =
     let a = c.before.before.before.before.before.before.before.before.args in
     λ offsets.
     let m = ruled_from a.h a.table.now offsets in
     ap (λ (x : Situation). record { leads = true; to = x })
-    (c.ticked.ensures
-    ∙ ap (λ (air : ℕ). ticked_by a.h c.before.config-of.result air a.s.window) (c.before.before.airtime-of.ensures offsets)
-    ∙ ap (λ (d : Config). ticked_by a.h d (airtime m a.kind) a.s.window) c.before.config-of.ensures)
-    ∙ missed-row a.h m a.kind a.s (omega (arith, c.before.before.before.before.before.if1.false)) (sym (c.before.before.before.before.to-unit.ensures offsets) ∙ not-false _ c.before.before.before.if2.false)
+    (c.ticked-to.ensures
+    ∙ ap (λ (air : ℕ). ticked_by a.h c.before.config_of.result air a.s.window) (c.before.before.airtime_of-air.ensures offsets)
+    ∙ ap (λ (d : Config). ticked_by a.h d (airtime m a.kind) a.s.window) c.before.config_of.ensures)
+    ∙ missed-row a.h m a.kind a.s (omega (arith, c.before.before.before.before.before.if-s-gt0.false)) (sym (c.before.before.before.before.to_unit.ensures offsets) ∙ c.before.before.before.if-not-to_unit.false)
 
-pub missed-spec : {M : Type 1} → statement M
-missed-spec =
+pub missed_spec : {M : Type 1} → statement M
+missed_spec =
     tie.close
     (tie.spec
     nowhere-requires

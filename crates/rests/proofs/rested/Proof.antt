@@ -12,40 +12,39 @@ use borrow.Author.Rules.{rules}
 use Rattle.rests.proofs.rested.Statement.{statement}
 use Rattle.rests.proofs.rested.Tie as tie
 
-enum_told : tie.Need-enum-told
+enum_told : tie.Need-enum_told-1
 enum_told c = search rules
 
 still-requires : tie.Need-still-requires
 still-requires c κs = search rules
 
-enum-known-heard : tie.Need-enum-known-heard
+enum-known-heard : tie.Need-enum_known-heard
 enum-known-heard c = search rules
 
 missed-requires : tie.Need-missed-requires
 missed-requires c κs = search rules
 
-returns : tie.Need-returns
+returns : tie.Need-returns-in-Nothing
 returns c =
-    let a = c.before.before.before.before.args in
+    let a = c.before.before.before.args in
     λ offsets.
     let m = ruled_from a.h a.table.now offsets in
     ap (λ (x : Situation). record { leads = true; to = x }) c.still.ensures
     ∙ rested-nothing a.h m a.s
-    ∙ ap (λ (x : Heard). stepped a.h m (heard_of x) a.s rest) (sym c.before.enum_told.given.1)
+    ∙ ap (λ (x : Heard). stepped a.h m (heard_of x) a.s rest) (sym c.before.in-Nothing.is)
 
-returns-2 : tie.Need-returns-2
+returns-2 : tie.Need-returns-in-Kind
 returns-2 c =
-    let a = c.before.before.before.before.before.args in
-    let p = c.before.before.heard.given.0 in
-    let e : a.heard ≡ Kind p.0 = cc in
+    let a = c.before.before.before.args in
+    let e : a.heard ≡ Kind c.before.in-Kind.kind = cc in
     λ offsets.
     let m = ruled_from a.h a.table.now offsets in
     c.missed.ensures offsets
-    ∙ removed-row a.h m p.0 a.s
+    ∙ removed-row a.h m c.before.in-Kind.kind a.s
     ∙ ap (λ (x : Heard). stepped a.h m (heard_of x) a.s rest) (sym e)
 
-pub rested-spec : {M : Type 1} → statement M
-rested-spec =
+pub rested_spec : {M : Type 1} → statement M
+rested_spec =
     tie.close
     (tie.spec
     enum_told

@@ -33,17 +33,17 @@ module _ (table offsets : List ℕ) (h : Shape) (heard : Option ℕ) (s : Situat
       by none q = refl
       by (some x) q = cc
 
-next-requires : tie.Need-next-requires
+next-requires : tie.Need-next-n-requires
 next-requires c κs = search rules
 
 number-requires : tie.Need-number-requires
 number-requires c κs = search rules
 
-returns : tie.Need-returns
-returns c = ap {B = Option ℕ} some c.number.ensures ∙ arrived _ _ _ _ _ _ _ c.before.before.before.next.ensures c.before.before.if1.true
+returns : tie.Need-returns-then-n
+returns c = ap {B = Option ℕ} some c.number.ensures ∙ arrived _ _ _ _ _ _ _ c.before.before.before.next-n.ensures c.before.before.if-n.true
 
-returns-2 : tie.Need-returns-2
-returns-2 c = stayed _ _ _ _ _ _ _ c.before.next.ensures c.if1.false
+returns-2 : tie.Need-returns
+returns-2 c = stayed _ _ _ _ _ _ _ c.before.next-n.ensures c.if-n.false
 
-pub arrive-spec : {M : Type 1} → statement M
-arrive-spec = tie.close (tie.spec next-requires number-requires returns returns-2)
+pub arrive_spec : {M : Type 1} → statement M
+arrive_spec = tie.close (tie.spec next-requires number-requires returns returns-2)

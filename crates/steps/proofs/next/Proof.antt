@@ -10,32 +10,32 @@ use Rattle.steps.proofs.next.Tie as tie
 rested-requires : tie.Need-rested-requires
 rested-requires c κs = search rules
 
-returns : tie.Need-returns
-returns c = c.rested.ensures _ ∙ ap (stepped _ _ _ _) (sym (move_rest _ c.before.if1.true))
+returns : tie.Need-returns-then-k-eq-REST
+returns c = c.rested.ensures _ ∙ ap (stepped _ _ _ _) (sym (move_rest _ c.before.if-k-eq-REST.true))
 
 nowhere-requires : tie.Need-nowhere-requires
 nowhere-requires c κs = search rules
 
-returns-2 : tie.Need-returns-2
-returns-2 c = c.nowhere.ensures ∙ taken_nowhere _ _ _ _ _ c.before.before.before.if1.false c.before.if2.true
+returns-2 : tie.Need-returns-then-s-ne0
+returns-2 c = c.nowhere.ensures ∙ taken_nowhere _ _ _ _ _ c.before.before.before.if-k-eq-REST.false c.before.if-s-ne0.true
 
 kept-requires : tie.Need-kept-requires
 kept-requires c κs = search rules
 
-returns-3 : tie.Need-returns-3
-returns-3 c = c.kept.ensures ∙ ap (stepped _ _ _ _) (sym (move_of-keep _ c.before.if3.true))
+returns-3 : tie.Need-returns-then-k-lt-REST
+returns-3 c = c.kept.ensures ∙ ap (stepped _ _ _ _) (sym (move_of-keep _ c.before.if-k-lt-REST.true))
 
-sub-added : tie.Need-overflow-sub-added
+sub-added : tie.Need-overflow_sub-k
 sub-added c = search rules
 
 added-requires : tie.Need-added-requires
 added-requires c κs = search rules
 
-returns-4 : tie.Need-returns-4
-returns-4 c = c.added.ensures ∙ ap (stepped _ _ _ _) (sym (move_add _ (omega (arith, c.before.if3.false, c.before.before.before.before.if1.false))))
+returns-4 : tie.Need-returns
+returns-4 c = c.added.ensures ∙ ap (stepped _ _ _ _) (sym (move_add _ (omega (arith, c.before.if-k-lt-REST.false, c.before.before.before.before.if-k-eq-REST.false))))
 
-pub next-spec : {M : Type 1} → statement M
-next-spec =
+pub next_spec : {M : Type 1} → statement M
+next_spec =
     tie.close
     (tie.spec
     rested-requires
