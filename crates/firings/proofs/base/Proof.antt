@@ -13,12 +13,12 @@ entry c = c.before.before.before.before
 sets : (c : tie.After-airtime_of-air) → (entry c).args.p.gap * (c.before.before.byte-resets.result % 4) < 17179869184
 sets c =
     let s = entry c in
-    product 4294967296 4 s.args.p.gap (c.before.before.byte-resets.result % 4) (omega (arith, s.good)) (omega arith)
+    product 4294967296 4 s.args.p.gap (c.before.before.byte-resets.result % 4) (omega arith) (omega arith)
 
 airs : (c : tie.After-airtime_of-air) → (entry c).args.p.free * c.airtime_of-air.result < 1099511627776
 airs c =
     let s = entry c in
-    product 4294967296 256 s.args.p.free c.airtime_of-air.result (omega (arith, s.good)) (omega arith)
+    product 4294967296 256 s.args.p.free c.airtime_of-air.result (omega arith) (omega arith)
 
 add-byte : tie.Need-overflow_add-at
 add-byte c = search rules

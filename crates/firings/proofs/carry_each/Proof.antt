@@ -34,42 +34,42 @@ cast-carry : tie.Need-overflow_cast-v invariant-loop decreases-loop
 cast-carry c = search rules
 
 mul-carry : tie.Need-overflow_mul-plane invariant-loop decreases-loop
-mul-carry c = let s = entry c.before.before in record { fits = planes_fit _ _ (omega (arith, s.good)) (omega (arith, s.good)) }
+mul-carry c = let s = entry c.before.before in record { fits = planes_fit _ _ (omega arith) (omega arith) }
 
 add-carry : tie.Need-overflow_add-here invariant-loop decreases-loop
 add-carry c =
     let s = entry c.before.before in
-    record { fits = planes_end _ _ (omega (arith, s.good)) (omega (arith, s.good)) _ (omega (arith, s.pre.0)) }
+    record { fits = planes_end _ _ (omega arith) (omega arith) _ (omega (arith, s.requires.0)) }
 
 cast-carry-2 : tie.Need-overflow_cast-changed invariant-loop decreases-loop
 cast-carry-2 c = search rules
 
 mul-carry-2 : tie.Need-overflow_mul-plane-in-loop-v invariant-loop decreases-loop
-mul-carry-2 c = let s = entry c.before.before in record { fits = planes_fit _ _ (omega (arith, s.good)) (omega arith) }
+mul-carry-2 c = let s = entry c.before.before in record { fits = planes_fit _ _ (omega arith) (omega arith) }
 
 add-carry-2 : tie.Need-overflow_add-to invariant-loop decreases-loop
 add-carry-2 c =
     let s = entry c.before.before in
-    record { fits = planes_end _ _ (omega (arith, s.good)) (omega arith) _ s.pre.1 }
+    record { fits = planes_end _ _ (omega arith) (omega arith) _ s.requires.1 }
 
 cast-carry-3 : tie.Need-overflow_cast-v-in-loop-v invariant-loop decreases-loop
 cast-carry-3 c = search rules
 
 mul-carry-3 : tie.Need-overflow_mul-plane-in-loop-v-2 invariant-loop decreases-loop
-mul-carry-3 c = let s = entry c.before.before in record { fits = planes_fit _ _ (omega (arith, s.good)) (omega (arith, s.good)) }
+mul-carry-3 c = let s = entry c.before.before in record { fits = planes_fit _ _ (omega arith) (omega arith) }
 
 add-carry-3 : tie.Need-overflow_add-guard invariant-loop decreases-loop
 add-carry-3 c =
     let s = entry c.before.before in
-    record { fits = planes_end _ _ (omega (arith, s.good)) (omega (arith, s.good)) _ (omega (arith, s.pre.2)) }
+    record { fits = planes_end _ _ (omega arith) (omega arith) _ (omega (arith, s.requires.2)) }
 
 carry-requires : tie.Need-carry-requires invariant-loop decreases-loop
 carry-requires c κs =
     let s = entry c.before.before.before in (
-      planes_near _ _ (omega (arith, s.good)) (omega (arith, s.good)) _ (omega (arith, s.pre.0)),
-      planes_near _ _ (omega (arith, s.good)) (omega arith) _ s.pre.1,
-      planes_near _ _ (omega (arith, s.good)) (omega (arith, s.good)) _ (omega (arith, s.pre.2)),
-      omega (arith, s.good),
+      planes_near _ _ (omega arith) (omega arith) _ (omega (arith, s.requires.0)),
+      planes_near _ _ (omega arith) (omega arith) _ s.requires.1,
+      planes_near _ _ (omega arith) (omega arith) _ (omega (arith, s.requires.2)),
+      omega arith,
     )
 
 add-v : tie.Need-overflow_add-v invariant-loop decreases-loop

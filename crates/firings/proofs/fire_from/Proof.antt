@@ -51,7 +51,7 @@ cast-run-2 : tie.Need-overflow_cast-run-then-keeps
 cast-run-2 c = search rules
 
 mul-run : tie.Need-overflow_mul-run
-mul-run c = let s = entry c.before.before.before in record { fits = planes_fit _ _ (omega (arith, s.good)) (omega (arith, s.good)) }
+mul-run c = let s = entry c.before.before.before in record { fits = planes_fit _ _ (omega arith) (omega arith) }
 
 carry-requires : tie.Need-carry-requires
 carry-requires c κs =
@@ -60,8 +60,8 @@ carry-requires c κs =
     let to = read.before.before.before in (
       omega (arith, to.before.place-here.ensures.1),
       omega (arith, to.there-to.ensures.1),
-      omega (arith, s.pre.1),
-      planes_long _ _ (omega (arith, s.good)) (omega (arith, s.good)),
+      omega (arith, s.requires.1),
+      planes_long _ _ (omega arith) (omega arith),
     )
 
 carry-each-requires : tie.Need-carry_each-requires
@@ -89,7 +89,7 @@ fires c offsets dst =
     let source = behind.before.before in
     each_fired a.p (ruled_from a.p.shape a.table.now offsets) a.guess (transition_from a.table.now a.at) a.w a.src.now a.planes.now a.guard
     source.byte-source.result a.shared behind.window_behind-window.result here.place-here.result to.there-to.result many.byte-count.result sets.byte-sets.result c.byte-clears.result
-    a.dst.now dst source.byte-source.ensures.0 here.place-here.ensures.0 (s.pre.3 offsets) behind.window_behind-window.ensures to.there-to.ensures.0
+    a.dst.now dst source.byte-source.ensures.0 here.place-here.ensures.0 (s.requires.3 offsets) behind.window_behind-window.ensures to.there-to.ensures.0
     many.byte-count.ensures.0 sets.byte-sets.ensures.0 c.byte-clears.ensures.0
 
 same_length : tie.Need-shape_of-dst-then-keeps

@@ -13,12 +13,12 @@ use Rattle.firings.proofs.fire_one.Tie as tie
 abbrev entry : tie.After-is_live → tie.Start
 entry c = c.before.before.before.before.before.before.before.before
 
-live : (c : tie.After-is_live) → let a = (entry c).args in bit a.p.live (transition_from a.table.now c.before.before.short.result).source ≡ c.is_live.result
+live : (c : tie.After-is_live) → let a = (entry c).args in bit a.p.live (transition_from a.table.now c.before.before.short-at.result).source ≡ c.is_live.result
 unfolding transition_from
 live c = let a = (entry c).args in ap (bit a.p.live) (sym c.before.byte.ensures.0) ∙ sym c.is_live.ensures
 
 far : (c : tie.After-is_live) → (entry c).args.p.apart * (entry c).args.j < 274877906944
-far c = let s = entry c in product 4294967296 64 s.args.p.apart s.args.j (omega (arith, s.good)) s.pre
+far c = let s = entry c in product 4294967296 64 s.args.p.apart s.args.j (omega arith) s.requires
 
 short-requires : tie.Need-short-at-requires
 short-requires c κs = search rules

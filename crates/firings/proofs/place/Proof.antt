@@ -17,21 +17,21 @@ rows c =
     let s = entry c in
     let a = s.args in
     let h = a.p.shape in
-    below 256 256 a.state h.states a.w (omega (arith, s.good)) (omega (arith, s.good)) (omega (arith, s.good))
+    below 256 256 a.state h.states a.w (omega arith) (omega arith) (omega arith)
 
 planes : (c : tie.After-struct_known-3-1) → let a = (entry c).args in a.v + a.p.shape.masks * (a.state + a.p.shape.states * a.w) < 16777216
 planes c =
     let s = entry c in
     let a = s.args in
     let h = a.p.shape in
-    below 256 65536 a.v h.masks (a.state + h.states * a.w) (omega (arith, s.good)) (omega (arith, s.good)) (rows c)
+    below 256 65536 a.v h.masks (a.state + h.states * a.w) (omega arith) (omega arith) (rows c)
 
 whole : (c : tie.After-struct_known-3-1) → let a = (entry c).args in a.p.plane * (a.v + a.p.shape.masks * (a.state + a.p.shape.states * a.w)) < 72057594037927936
 whole c =
     let s = entry c in
     let a = s.args in
     let h = a.p.shape in
-    product 4294967296 16777216 a.p.plane (a.v + h.masks * (a.state + h.states * a.w)) (omega (arith, s.good)) (planes c)
+    product 4294967296 16777216 a.p.plane (a.v + h.masks * (a.state + h.states * a.w)) (omega arith) (planes c)
 
 cast-result : tie.Need-overflow_cast-result
 cast-result c = search rules

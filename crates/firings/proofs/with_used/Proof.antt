@@ -14,7 +14,7 @@ use Rattle.firings.proofs.with_used.Tie as tie
 abbrev entry : tie.After-is_live → tie.Start
 entry c = c.before.before.before.before.before
 
-live : (c : tie.After-is_live) → let a = (entry c).args in bit a.p.live (transition_from a.table.now c.before.before.short.result).source ≡ c.is_live.result
+live : (c : tie.After-is_live) → let a = (entry c).args in bit a.p.live (transition_from a.table.now c.before.before.short-at.result).source ≡ c.is_live.result
 unfolding transition_from
 live c = let a = (entry c).args in ap (bit a.p.live) (sym c.before.byte.ensures.0) ∙ sym c.is_live.ensures
 

@@ -22,12 +22,12 @@ ruled s = ruled_from s.args.h s.args.table.now s.args.offsets.now
 -- the kind on which the transition fires is that of the monitor under the rule
 
 abbrev entry : tie.After-trigger_from-trigger → tie.Start
-entry c = c.before.before.before.before.before
+entry c = c.before.before.before.before
 
-triggered : (c : tie.After-trigger_from-trigger) → let s = entry c in trigger_from (ruled s) s.args.s.state s.args.j ≡ trigger_kind c.trigger-from.result
+triggered : (c : tie.After-trigger_from-trigger) → let s = entry c in trigger_from (ruled s) s.args.s.state s.args.j ≡ trigger_kind c.trigger_from-trigger.result
 triggered c =
     let a = (entry c).args in
-    sym (c.trigger-from.ensures ∙ trigger-under (within a.h.rule) (monitor_from a.table.now a.offsets.now) a.s.state a.j)
+    sym (c.trigger_from-trigger.ensures ∙ trigger-under (within a.h.rule) (monitor_from a.table.now a.offsets.now) a.s.state a.j)
 
 enum_told : tie.Need-enum_told-1
 enum_told c = search rules

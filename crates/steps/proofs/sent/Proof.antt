@@ -23,7 +23,7 @@ abbrev entry : tie.After-fire-f → tie.Start
 entry c = c.before.before.before.before.before.before.before
 
 allowed : (c : tie.After-fire-f) → let s = entry c in allows (ruled s).rule s.args.s.window s.args.guess ≡ true
-allowed c = sym c.before.before.before.allows.ensures ∙ not-false _ c.before.before.if1.false
+allowed c = sym c.before.before.before.allows.ensures ∙ c.before.before.if-not-allows.false
 
 answered : (c : tie.After-fire-f)
     → let s = entry c in let from = c.before.config_of.result in c.fire-f.result ≡ firing from (fires (ruled s) s.args.j s.args.kind from)
@@ -70,7 +70,7 @@ returns-2 c =
     (c.ticked-to.ensures
     ∙ ap (λ (air : ℕ). ticked_by a.h to air c.before.before.window_behind-window.result) (c.before.airtime_of.ensures a.offsets.now)
     ∙ ap (ticked_by a.h to (airtime (ruled s) a.kind)) c.before.before.window_behind-window.ensures)
-    ∙ sent-fired a.h (ruled s) a.guess a.j a.kind a.s s.pre (allowed f)
+    ∙ sent-fired a.h (ruled s) a.guess a.j a.kind a.s s.requires (allowed f)
     f.before.config_of.result f.before.config_of.ensures f.fire-f.result (answered f) c.before.before.before.before.if-f.true
 
 nowhere-requires-2 : tie.Need-nowhere-requires-2
@@ -82,7 +82,7 @@ returns-3 c =
     let s = entry f in
     let a = s.args in
     c.nowhere-2.ensures
-    ∙ sent_unfired a.h (ruled s) a.guess a.j a.kind a.s s.pre (allowed f)
+    ∙ sent_unfired a.h (ruled s) a.guess a.j a.kind a.s s.requires (allowed f)
     f.before.config_of.result f.before.config_of.ensures f.fire-f.result (answered f) c.before.if-f.false
 
 pub sent_spec : {M : Type 1} → statement M
