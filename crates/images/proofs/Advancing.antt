@@ -26,7 +26,7 @@ use Rattle.images.specs.Buffers.{Lengths, Sized}
 use Rattle.images.specs.Living.{is_live}
 use Rattle.images.specs.Planning.{PlanOf}
 use Rattle.images.proofs.Plans.{planned, living}
-use Rattle.images.proofs.Marking.{part_of, low_first, high_first_lem, low_second, high_second_lem}
+use Rattle.images.proofs.Marking.{part_of, low_first_lem, high_first_lem, low_second_lem, high_second_lem}
 
 -- what a test that is passed ensures, and that it is passed where it ensures so
 pub passed : {A : Type 0} (b : Bool) → not b ≡ false → (b ≡ true → A) → A
@@ -75,7 +75,7 @@ module _ (table offsets : List ℕ) (h : Shape) (size n : ℕ) (marks planes : L
   at_once m given none i l =
       forward_agrees given.ready (planned given.ready plan) planes given.guarded plan.back src none (live_in given plan src alive)
       (part_of marks 0 n) (part_of marks n (2 * n)) (part_of marks (2 * n) (3 * n)) (part_of marks (3 * n) (4 * n))
-      (low_first given.marked) (high_first_lem given.marked) (low_second given.marked) (high_second_lem given.marked) acc
+      (low_first_lem given.marked) (high_first_lem given.marked) (low_second_lem given.marked) (high_second_lem given.marked) acc
       (λ y k.
       gathered.all y (omega arith)
       ∙ ap (λ (x : Shape). rested p (ruled_from x table offsets) (heard_of p.heard) size src y || fired p table offsets src planes (transition_count table) y) plan.shape)

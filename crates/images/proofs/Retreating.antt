@@ -29,7 +29,7 @@ use Rattle.images.specs.Advanced.{Given, Within, RetreatedTo}
 use Rattle.images.specs.Planning.{PlanOf}
 use Rattle.images.specs.Unset.{Unset}
 use Rattle.images.proofs.Plans.{planned}
-use Rattle.images.proofs.Marking.{part_of, low_first, high_first_lem, low_second, high_second_lem}
+use Rattle.images.proofs.Marking.{part_of, low_first_lem, high_first_lem, low_second_lem, high_second_lem}
 use Rattle.images.proofs.SetLaws.{below_in, set_first, spread_same}
 use Rattle.images.proofs.Advancing.{Alive, live_in}
 
@@ -107,7 +107,7 @@ module _ (table offsets : List ℕ) (h : Shape) (size n : ℕ) (marks planes : L
       ∙ ap (λ (x : Shape). rested_back p (ruled_from x table offsets) (heard_of p.heard) size sets' i || fired p table offsets sets' planes (transition_count table) i) plan.shape
       ∙ backward_agrees given.ready (planned given.ready plan) planes given.guarded plan.back row next (live_in given plan row alive)
       (part_of marks 0 n) (part_of marks n (2 * n)) (part_of marks (2 * n) (3 * n)) (part_of marks (3 * n) (4 * n))
-      (low_first given.marked) (high_first_lem given.marked) (low_second given.marked) (high_second_lem given.marked) one two sets'
+      (low_first_lem given.marked) (high_first_lem given.marked) (low_second_lem given.marked) (high_second_lem given.marked) one two sets'
       (λ y k. second.all y (omega arith)) (λ y k. first.all y (omega arith)) kept set_one set_two set_three i l member
       ∙ ap (λ (x : Heard). backward m (heard_of x) (mem next) i) plan.heard
 

@@ -11,51 +11,51 @@ use Rattle.layers.proofs.Moves.{arrives_in, arrives_out, first-here, first-later
 use Rattle.layers.proofs.first_of.Statement.{statement}
 use Rattle.layers.proofs.first_of.Tie as tie
 
-abbrev invariant-loop : tie.invariant-loop
+abbrev invariant-loop : tie.invariant-loop-k
 invariant-loop table offsets h heard s moves scratch to k₀ k =
     let test = leads_to (arrive_from table offsets h (heard_of heard) s) scratch to.start to.size in
     first_from test (moves.hi - moves.lo) moves.lo ≡ first_from test (moves.hi - k) k
 
-abbrev decreases-loop : tie.decreases-loop
+abbrev decreases-loop : tie.decreases-loop-k
 decreases-loop table offsets h heard s moves scratch to k₀ k = moves.hi - k
 
-loop-holds : tie.Need-loop-init invariant-loop decreases-loop
+loop-holds : tie.Need-loop-k-init invariant-loop decreases-loop
 loop-holds c = refl
 
 leads-requires : tie.Need-leads-requires invariant-loop decreases-loop
 leads-requires c κs = search rules
 
-enum-known-z : tie.Need-enum-known-z invariant-loop decreases-loop
+enum-known-z : tie.Need-enum_known-z invariant-loop decreases-loop
 enum-known-z c = search rules
 
-returns : tie.Need-returns invariant-loop decreases-loop
+returns : tie.Need-returns-in-At invariant-loop decreases-loop
 returns c =
-    let called = c.before.before.before in
+    let called = c.before in
     let test = called.before in
-    let (here, there) = arrives_in _ _ _ (sym (ap arrival_of c.before.z.given.1) ∙ called.leads.ensures) in
-    (sym (test.before.before.loop.invariant ∙ first-here _ _ _ test.if1.true here), λ l. there)
+    let (here, there) = arrives_in _ _ _ (sym (ap arrival_of c.in-At.is) ∙ called.leads.ensures) in
+    (sym (test.before.before.loop-k.invariant ∙ first-here _ _ _ test.loop-k-test.true here), λ l. there)
 
-enum_told : tie.Need-enum-told invariant-loop decreases-loop
+enum_told : tie.Need-enum_told-1 invariant-loop decreases-loop
 enum_told c = search rules
 
-add-k : tie.Need-overflow-add-k invariant-loop decreases-loop
+add-k : tie.Need-overflow_add-k invariant-loop decreases-loop
 add-k c = search rules
 
-loop-less : tie.Need-loop-smaller invariant-loop decreases-loop
+loop-less : tie.Need-loop-k-smaller invariant-loop decreases-loop
 loop-less c = search rules
 
-loop-again : tie.Need-loop-preserved invariant-loop decreases-loop
+loop-again : tie.Need-loop-k-preserved invariant-loop decreases-loop
 loop-again c =
-    let called = c.before.before in
+    let called = c.before in
     let test = called.before in
-    test.before.before.loop.invariant
-    ∙ first-later _ _ _ test.if1.true (arrives_out _ _ (sym (ap arrival_of c.enum_told.given.1) ∙ called.leads.ensures))
+    test.before.before.loop-k.invariant
+    ∙ first-later _ _ _ test.loop-k-test.true (arrives_out _ _ (sym (ap arrival_of c.in-Nowhere.is) ∙ called.leads.ensures))
 
-returns-2 : tie.Need-returns-2 invariant-loop decreases-loop
-returns-2 c = (sym (c.before.before.loop.invariant ∙ first-end _ _ _ c.if1.false), λ l. absurd (omega (arith, c.if1.false)))
+returns-2 : tie.Need-returns invariant-loop decreases-loop
+returns-2 c = (sym (c.before.before.loop-k.invariant ∙ first-end _ _ _ c.loop-k-test.false), λ l. absurd (omega (arith, c.loop-k-test.false)))
 
-pub first-of-spec : {M : Type 1} → statement M
-first-of-spec =
+pub first_of_spec : {M : Type 1} → statement M
+first_of_spec =
     tie.close
     (tie.spec
     invariant-loop

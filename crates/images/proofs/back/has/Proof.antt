@@ -4,12 +4,12 @@ use borrow.Author.Rules.{rules}
 use Rattle.images.proofs.back.has.Statement.{statement}
 use Rattle.images.proofs.back.has.Tie as tie
 
-shr-result : tie.Need-overflow-shr-result
+shr-result : tie.Need-overflow_shr-result
 shr-result c = search rules
 
 returns : tie.Need-returns
 unfolding bit
 returns c = refl
 
-pub has-spec : {M : Type 1} → statement M
-has-spec = tie.close (tie.spec shr-result returns)
+pub has_spec : {M : Type 1} → statement M
+has_spec = tie.close (tie.spec shr-result returns)

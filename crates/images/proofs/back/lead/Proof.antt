@@ -11,13 +11,13 @@ use Rattle.images.proofs.back.lead.Tie as tie
 clear-requires : tie.Need-clear-requires
 clear-requires c κs = search rules
 
-rest-back-requires : tie.Need-rest-back-requires
+rest-back-requires : tie.Need-rest_back-requires
 rest-back-requires c κs = search rules
 
 fire-requires : tie.Need-fire-requires
 fire-requires c κs = search rules
 
-same_length : tie.Need-same-length
+same_length : tie.Need-shape_of-out
 same_length c = search rules
 
 returns : tie.Need-returns
@@ -28,8 +28,8 @@ returns c =
     let a = clear.before.before.before.before.before.before.before.args in
     let p = a.p in
     filled_two (rested_back p (ruled_from p.shape a.table.now a.offsets.now) (heard_of p.heard) a.size a.sets.now)
-    (fired p a.table.now a.offsets.now a.sets.now a.planes.now (transition_count a.table.now)) a.out.now clear.clear.new.0 rest.rest_back.new.1.1.1.1.0 fire.fire.new.1.1.1.1.1.0 clear.clear.ensures (rest.rest_back.ensures a.offsets.now) fire.fire.ensures
+    (fired p a.table.now a.offsets.now a.sets.now a.planes.now (transition_count a.table.now)) a.out.now clear.clear.new.a rest.rest_back.new.dst fire.fire.new.dst clear.clear.ensures (rest.rest_back.ensures a.offsets.now) fire.fire.ensures
 
-pub lead-spec : {M : Type 1} → statement M
-lead-spec =
+pub lead_spec : {M : Type 1} → statement M
+lead_spec =
     tie.close (tie.spec clear-requires rest-back-requires fire-requires same_length returns)

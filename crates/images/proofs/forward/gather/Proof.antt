@@ -11,13 +11,13 @@ use Rattle.images.proofs.forward.gather.Tie as tie
 clear-requires : tie.Need-clear-requires
 clear-requires c κs = search rules
 
-rest-forward-requires : tie.Need-rest-forward-requires
+rest-forward-requires : tie.Need-rest_forward-requires
 rest-forward-requires c κs = search rules
 
 fire-requires : tie.Need-fire-requires
 fire-requires c κs = search rules
 
-same_length : tie.Need-same-length
+same_length : tie.Need-shape_of-acc
 same_length c = search rules
 
 returns : tie.Need-returns
@@ -28,8 +28,8 @@ returns c =
     let a = clear.before.before.before.before.before.before.before.args in
     let p = a.p in
     filled_two (rested p (ruled_from p.shape a.table.now a.offsets.now) (heard_of p.heard) a.size a.cur.now)
-    (fired p a.table.now a.offsets.now a.cur.now a.planes.now (transition_count a.table.now)) a.acc.now clear.clear.new.0 rest.rest-forward.new.1.1.1.1.0 fire.fire.new.1.1.1.1.1.0 clear.clear.ensures (rest.rest-forward.ensures a.offsets.now) fire.fire.ensures
+    (fired p a.table.now a.offsets.now a.cur.now a.planes.now (transition_count a.table.now)) a.acc.now clear.clear.new.a rest.rest_forward.new.dst fire.fire.new.dst clear.clear.ensures (rest.rest_forward.ensures a.offsets.now) fire.fire.ensures
 
-pub gather-spec : {M : Type 1} → statement M
-gather-spec =
+pub gather_spec : {M : Type 1} → statement M
+gather_spec =
     tie.close (tie.spec clear-requires rest-forward-requires fire-requires same_length returns)

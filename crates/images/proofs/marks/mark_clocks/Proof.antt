@@ -11,16 +11,16 @@ use Rattle.images.proofs.MarkLaws.{marked_all}
 use Rattle.images.proofs.marks.mark_clocks.Statement.{statement}
 use Rattle.images.proofs.marks.mark_clocks.Tie as tie
 
-abbrev start : tie.After-is-sized → tie.Start
+abbrev start : tie.After-is_sized → tie.Start
 start c = c.before.before.before.before
 
-lengths : (c : tie.Else1) → let a = (start c.before).args in Lengths (length a.one.now) 0 (length a.marks.now) (length a.marks.now) (length a.one.now) (length a.two.now) a.h
-lengths c = c.before.is-sized.ensures.0 (not-false _ c.if1.false)
+lengths : (c : tie.Else-not-is_sized) → let a = (start c.before).args in Lengths (length a.one.now) 0 (length a.marks.now) (length a.marks.now) (length a.one.now) (length a.two.now) a.h
+lengths c = c.before.is_sized.ensures.0 (c.if-not-is_sized.false)
 
-is-sized-requires : tie.Need-is-sized-requires
+is-sized-requires : tie.Need-is_sized-requires
 is-sized-requires c κs = search rules
 
-returns : tie.Need-returns
+returns : tie.Need-returns-then-not-is_sized
 returns c =
     let s = start c.before in
     let a = s.args in (
@@ -30,8 +30,8 @@ returns c =
       λ m n f z.
           absurd
           (false≢true
-          (sym (not-true _ c.if1.true)
-          ∙ c.before.is-sized.ensures.1
+          (sym (c.if-not-is_sized.true)
+          ∙ c.before.is_sized.ensures.1
           (record {
             few = omega arith;
             narrow = omega arith;
@@ -44,20 +44,20 @@ returns c =
           }))),
     )
 
-first-clock-requires : tie.Need-first-clock-requires
+first-clock-requires : tie.Need-first_clock-first-requires
 first-clock-requires c κs = search rules
 
-second-clock-requires : tie.Need-second-clock-requires
+second-clock-requires : tie.Need-second_clock-second-requires
 second-clock-requires c κs = search rules
 
 clear-requires : tie.Need-clear-requires
 clear-requires c κs = search rules
 
-mark-clock-requires : tie.Need-mark-clock-requires
+mark-clock-requires : tie.Need-mark_clock-requires
 mark-clock-requires c κs =
     let clear = c.before.before.before.before.before in
     let l = lengths clear.before.before.before.before in
-    let first = clear.before.before.before.first-clock.ensures in (
+    let first = clear.before.before.before.first_clock-first.ensures in (
       record {
         few = l.few;
         four = clear.clear.ensures.size ∙ l.sets;
@@ -69,64 +69,64 @@ mark-clock-requires c κs =
       omega (arith, l.first),
     )
 
-mark-clock-requires-2 : tie.Need-mark-clock-requires-2
+mark-clock-requires-2 : tie.Need-mark_clock-requires-2
 mark-clock-requires-2 c κs =
     let one = c.before.before.before.before.before.before.before.before.before in
     let clear = one.before.before.before.before.before.before in
     let l = lengths clear.before.before.before.before in
-    let second = clear.before.before.second-clock.ensures in (
+    let second = clear.before.before.second_clock-second.ensures in (
       record {
         few = l.few;
-        four = one.mark-clock.ensures.1 ∙ clear.clear.ensures.size ∙ l.sets;
-        first = one.mark-clock.ensures.2;
-        second = one.mark-clock.ensures.3 ∙ l.spare;
+        four = one.mark_clock.ensures.1 ∙ clear.clear.ensures.size ∙ l.sets;
+        first = one.mark_clock.ensures.2;
+        second = one.mark_clock.ensures.3 ∙ l.spare;
       },
       omega arith,
       omega (arith, second.0, l.first),
       omega (arith, second.1, l.second),
     )
 
-same_length : tie.Need-same-length
+same_length : tie.Need-shape_of-marks
 same_length c = search rules
 
-same-length-2 : tie.Need-same-length-2
+same-length-2 : tie.Need-shape_of-one
 same-length-2 c = search rules
 
-same-length-3 : tie.Need-same-length-3
+same-length-3 : tie.Need-shape_of-two
 same-length-3 c = search rules
 
-returns-2 : tie.Need-returns-2
+returns-2 : tie.Need-returns
 returns-2 c =
     let two = c.before.before.before.before.before.before in
     let one = two.before.before.before.before.before.before.before.before.before.before in
     let clear = one.before.before.before.before.before.before in
     let a = (start clear.before.before.before.before.before).args in
     let l = lengths clear.before.before.before.before in
-    let first = clear.before.before.before.first-clock in
-    let second = clear.before.before.second-clock in (
-      two.mark-clock2.ensures.1 ∙ one.mark-clock.ensures.1 ∙ clear.clear.ensures.size,
-      two.mark-clock2.ensures.2 ∙ one.mark-clock.ensures.2,
-      two.mark-clock2.ensures.3 ∙ one.mark-clock.ensures.3,
+    let first = clear.before.before.before.first_clock-first in
+    let second = clear.before.before.second_clock-second in (
+      two.mark_clock-2.ensures.1 ∙ one.mark_clock.ensures.1 ∙ clear.clear.ensures.size,
+      two.mark_clock-2.ensures.2 ∙ one.mark_clock.ensures.2,
+      two.mark_clock-2.ensures.3 ∙ one.mark_clock.ensures.3,
       λ m n f z.
-          subst (λ (k : ℕ). Marked m k two.mark-clock2.new.0) z.first
+          subst (λ (k : ℕ). Marked m k two.mark_clock-2.new.marks) z.first
           (marked_all m (length a.one.now) first.result.weight first.result.values second.result.weight second.result.values
           first.ensures.0
           (first.ensures.1 ∙ f.first)
           (second.ensures.0 ∙ f.first)
           (second.ensures.1 ∙ f.second)
           a.marks.now
-          clear.clear.new.0
-          one.mark-clock.new.0
-          two.mark-clock2.new.0
+          clear.clear.new.a
+          one.mark_clock.new.marks
+          two.mark_clock-2.new.marks
           l.sets
           clear.clear.ensures
-          one.mark-clock.ensures.0
-          one.mark-clock.ensures.1
-          two.mark-clock2.ensures.0),
+          one.mark_clock.ensures.0
+          one.mark_clock.ensures.1
+          two.mark_clock-2.ensures.0),
     )
 
-pub mark-clocks-spec : {M : Type 1} → statement M
-mark-clocks-spec =
+pub mark_clocks_spec : {M : Type 1} → statement M
+mark_clocks_spec =
     tie.close
     (tie.spec
     is-sized-requires
