@@ -7,22 +7,22 @@ use Rattle.measures.proofs.Rows.{product}
 use Rattle.measures.proofs.is_roomy.Statement.{statement}
 use Rattle.measures.proofs.is_roomy.Tie as tie
 
-returns : tie.Need-returns
-returns c = (λ e. absurd (false≢true e), λ roomy. absurd (omega (arith, roomy.early, c.if1.true)))
+returns : tie.Need-returns-then-g-gt65535
+returns c = (λ e. absurd (false≢true e), λ roomy. absurd (omega (arith, roomy.early, c.if-g-gt65535.true)))
 
-returns-2 : tie.Need-returns-2
-returns-2 c = (λ e. absurd (false≢true e), λ roomy. absurd (omega (arith, roomy.narrow, c.if2.true)))
+returns-2 : tie.Need-returns-then-g-gt8192
+returns-2 c = (λ e. absurd (false≢true e), λ roomy. absurd (omega (arith, roomy.narrow, c.if-g-gt8192.true)))
 
-add-result : tie.Need-overflow-add-result
+add-result : tie.Need-overflow_add-result
 add-result c = search rules
 
-mul-result : tie.Need-overflow-mul-result
-mul-result c = product _ _ (omega (arith, c.before.before.if2.false)) (omega (arith, c.before.before.before.before.if1.false))
+mul-result : tie.Need-overflow_mul-result
+mul-result c = product _ _ (omega (arith, c.before.before.if-g-gt8192.false)) (omega (arith, c.before.before.before.before.if-g-gt65535.false))
 
-returns-3 : tie.Need-returns-3
+returns-3 : tie.Need-returns
 returns-3 c =
     let narrow = c.before.before in
-    (λ e. record { early = omega (arith, narrow.before.before.if1.false); narrow = omega (arith, narrow.if2.false); long = leb-true _ _ e }, λ roomy. le-leb _ _ roomy.long)
+    (λ e. record { early = omega (arith, narrow.before.before.if-g-gt65535.false); narrow = omega (arith, narrow.if-g-gt8192.false); long = leb-true _ _ e }, λ roomy. le-leb _ _ roomy.long)
 
-pub is-roomy-spec : {M : Type 1} → statement M
-is-roomy-spec = tie.close (tie.spec returns returns-2 add-result mul-result returns-3)
+pub is_roomy_spec : {M : Type 1} → statement M
+is_roomy_spec = tie.close (tie.spec returns returns-2 add-result mul-result returns-3)

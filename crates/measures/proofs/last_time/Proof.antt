@@ -5,35 +5,35 @@ use Rattle.measures.proofs.Ends.{end-time, no_end}
 use Rattle.measures.proofs.last_time.Statement.{statement}
 use Rattle.measures.proofs.last_time.Tie as tie
 
-word-requires : tie.Need-word-requires
+word-requires : tie.Need-word-count-requires
 word-requires c κs = search rules
 
-cast-count : tie.Need-overflow-cast-count
+cast-count : tie.Need-overflow_cast-count
 cast-count c = search rules
 
-returns : tie.Need-returns
-returns c = (no_end _ (sym c.before.word.ensures.0 ∙ c.if1.true), omega arith)
+returns : tie.Need-returns-then-count-eq0
+returns c = (no_end _ (sym c.before.word-count.ensures.0 ∙ c.if-count-eq0.true), omega arith)
 
-sub_word : tie.Need-overflow-sub-word
+sub_word : tie.Need-overflow_sub-count
 sub_word c = search rules
 
-mul-word : tie.Need-overflow-mul-word
+mul-word : tie.Need-overflow_mul-count
 mul-word c = search rules
 
-add-word : tie.Need-overflow-add-word
+add-word : tie.Need-overflow_add-count
 add-word c = search rules
 
-word-requires-2 : tie.Need-word-requires-2
+word-requires-2 : tie.Need-word-requires
 word-requires-2 c κs = search rules
 
-cast-result : tie.Need-overflow-cast-result
+cast-result : tie.Need-overflow_cast-result
 cast-result c = search rules
 
-returns-2 : tie.Need-returns-2
-returns-2 c = (c.word2.ensures.0 ∙ sym (end-time _ _ (omega (arith, c.before.before.word.ensures.0, c.before.if1.false))), c.word2.ensures.1)
+returns-2 : tie.Need-returns
+returns-2 c = (c.word.ensures.0 ∙ sym (end-time _ _ (omega (arith, c.before.before.word-count.ensures.0, c.before.if-count-eq0.false))), c.word.ensures.1)
 
-pub last-time-spec : {M : Type 1} → statement M
-last-time-spec =
+pub last_time_spec : {M : Type 1} → statement M
+last_time_spec =
     tie.close
     (tie.spec
     word-requires

@@ -7,19 +7,19 @@ use borrow.Author.Rules.{rules}
 use Rattle.memo.proofs.entry.begin.Statement.{statement}
 use Rattle.memo.proofs.entry.begin.Tie as tie
 
-mul-memo : tie.Need-overflow-mul-memo
+mul-memo : tie.Need-offset_bounds-memo-at
 mul-memo c = search rules
 
-slice-write-memo : tie.Need-slice-write-memo
+slice-write-memo : tie.Need-bounds-memo-at
 slice-write-memo c = search rules
 
-add-put : tie.Need-overflow-add-put
+add-put : tie.Need-overflow_add-at
 add-put c = search rules
 
 put-requires : tie.Need-put-requires
 put-requires c κs = search rules
 
-same_length : tie.Need-same-length
+same_length : tie.Need-shape_of-memo
 same_length c = let a = c.before.before.before.before.before.before.args in c.before.before.put.ensures.0.size ∙ length-set a.memo.now a.at a.tag
 
 returns : tie.Need-returns
@@ -32,6 +32,6 @@ returns c =
       put.put.ensures.1,
     )
 
-pub begin-spec : {M : Type 1} → statement M
-begin-spec =
+pub begin_spec : {M : Type 1} → statement M
+begin_spec =
     tie.close (tie.spec mul-memo slice-write-memo add-put put-requires same_length returns)

@@ -9,16 +9,16 @@ use Rattle.memo.proofs.entry.begin_both.Tie as tie
 begin-requires : tie.Need-begin-requires
 begin-requires c κs = search rules
 
-add-put : tie.Need-overflow-add-put
+add-put : tie.Need-overflow_add-at
 add-put c = search rules
 
-add-put-2 : tie.Need-overflow-add-put-2
+add-put-2 : tie.Need-overflow_add-at-2
 add-put-2 c = search rules
 
 put-requires : tie.Need-put-requires
 put-requires c κs = search rules
 
-same_length : tie.Need-same-length
+same_length : tie.Need-shape_of-memo
 same_length c = search rules
 
 returns : tie.Need-returns
@@ -32,6 +32,6 @@ returns c =
       put.put.ensures.1,
     )
 
-pub begin-both-spec : {M : Type 1} → statement M
-begin-both-spec =
+pub begin_both_spec : {M : Type 1} → statement M
+begin_both_spec =
     tie.close (tie.spec begin-requires add-put add-put-2 put-requires same_length returns)

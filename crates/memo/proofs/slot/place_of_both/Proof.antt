@@ -4,17 +4,17 @@ use borrow.Author.Rules.{rules}
 use Rattle.memo.proofs.slot.place_of_both.Statement.{statement}
 use Rattle.memo.proofs.slot.place_of_both.Tie as tie
 
-entries-requires : tie.Need-entries-requires
+entries-requires : tie.Need-entries-e-requires
 entries-requires c κs = search rules
 
-returns : tie.Need-returns
+returns : tie.Need-returns-then-e-eq0
 returns c = λ h. absurd (omega arith)
 
-returns-2 : tie.Need-returns-2
+returns-2 : tie.Need-returns-then-e-lt-FEW
 returns-2 c =
     let found = c.before.before in
     let a = found.before.before.before.args in
-    λ h. starts_first a.w found.entries.result a.long (omega arith) found.entries.ensures.1
+    λ h. starts_first a.w found.entries-e.result a.long (omega arith) found.entries-e.ensures.1
 
 mix-requires : tie.Need-mix-requires
 mix-requires c κs = search rules
@@ -25,20 +25,20 @@ mix-requires-2 c κs = search rules
 spread-requires : tie.Need-spread-requires
 spread-requires c κs = search rules
 
-mul-result : tie.Need-overflow-mul-result
+mul-result : tie.Need-overflow_mul-result
 mul-result c =
     let found = c.before.before.before.before.before in
     let a = found.before.before.before.args in
-    record { fits = omega (arith, before_next a.w c.spread.result found.entries.result c.spread.ensures, found.entries.ensures.1) }
+    record { fits = omega (arith, before_next a.w c.spread.result found.entries-e.result c.spread.ensures, found.entries-e.ensures.1) }
 
-returns-3 : tie.Need-returns-3
+returns-3 : tie.Need-returns
 returns-3 c =
     let found = c.before.before.before.before.before in
     let a = found.before.before.before.args in
-    λ h. starts_at a.w c.spread.result found.entries.result a.long c.spread.ensures found.entries.ensures.1
+    λ h. starts_at a.w c.spread.result found.entries-e.result a.long c.spread.ensures found.entries-e.ensures.1
 
-pub place-of-both-spec : {M : Type 1} → statement M
-place-of-both-spec =
+pub place_of_both_spec : {M : Type 1} → statement M
+place_of_both_spec =
     tie.close
     (tie.spec
     entries-requires

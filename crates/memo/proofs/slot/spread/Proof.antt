@@ -4,14 +4,14 @@ use borrow.Author.Rules.{rules}
 use Rattle.memo.proofs.slot.spread.Statement.{statement}
 use Rattle.memo.proofs.slot.spread.Tie as tie
 
-mul-k : tie.Need-overflow-mul-k
+mul-k : tie.Need-overflow_mul-k
 mul-k c = search rules
 
-mul-result : tie.Need-overflow-mul-result
+mul-result : tie.Need-overflow_mul-result
 mul-result c = record { fits = spread-fits _ _ (omega arith) (omega arith) }
 
 returns : tie.Need-returns
 returns c = spread-below _ _ (omega arith) (omega arith)
 
-pub spread-spec : {M : Type 1} → statement M
-spread-spec = tie.close (tie.spec mul-k mul-result returns)
+pub spread_spec : {M : Type 1} → statement M
+spread_spec = tie.close (tie.spec mul-k mul-result returns)
