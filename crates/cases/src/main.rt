@@ -14,8 +14,8 @@ ghost use Rattle.std.specs.Prelude.{◌+◌, ◌≤◌, length};
 use crate::calls::{Outcome, call};
 use batch::sums::sum;
 use batch::{Head, head_of, pattern};
-use libc::{STDIN_FILENO, STDOUT_FILENO};
 use model::Rule;
+use std::io::{Read, Write};
 
 // Puts a number and the byte behind it at a place of the line, and returns the next place.
 fn put(n: u64, behind: u8, line: &mut [u8], at: usize) -> usize
@@ -29,7 +29,7 @@ fn put(n: u64, behind: u8, line: &mut [u8], at: usize) -> usize
     at + count + 1
 }
 
-fn print(outcome: Outcome, sum: u64) -> bool {
+fn print<W: Write>(out: &mut W, outcome: Outcome, sum: u64) -> bool {
     let answer = outcome.numbers;
     let mut line = [0u8; 126];
     let second = put(answer.number, b' ', &mut line, 0);
@@ -38,24 +38,44 @@ fn print(outcome: Outcome, sum: u64) -> bool {
     let late = put(outcome.early, b' ', &mut line, early);
     let last = put(outcome.late, b' ', &mut line, late);
     let end = put(sum, b'\n', &mut line, last);
-    io::write_all(STDOUT_FILENO, &line[0..end])
+    out.write_all(&line[0..end]).is_ok()
 }
 
 // Ends the run with a line that no batch expects.
-fn stop(line: &[u8]) -> bool {
-    io::write_all(STDOUT_FILENO, line);
+fn stop<W: Write>(out: &mut W, line: &[u8]) -> bool {
+    let _written = out.write_all(line).is_ok();
     false
 }
 
-fn desk(input: &[u8]) -> bool {
+// Reads as many bytes as there is room for, or as there are.
+fn read_full<R: Read>(input: &mut R, room: &mut [u8]) -> usize
+    ensures { result ≤ length room.new }
+{
+    let mut got = 0;
+    while got < room.len() {
+        match input.read(&mut room[got..]) {
+            Err(_) => return got,
+            Ok(more) => {
+                if more == 0 {
+                    return got;
+                }
+                got += more;
+            }
+        }
+    }
+    got
+}
+
+fn desk<W: Write>(out: &mut W, input: &[u8]) -> bool {
     let mut scratch = [0u8; 65536];
     let mut room = [0u8; 23045];
     let mut text = [0u8; 400000];
     let count = lines::lines(input, &mut scratch, &mut room, &mut text);
-    io::write_all(STDOUT_FILENO, &text[0..count])
+    out.write_all(&text[0..count]).is_ok()
 }
 
-fn answer<'a>(
+fn answer<'a, W: Write>(
+    out: &mut W,
     which: u8,
     rule: Rule,
     budget: u32,
@@ -69,11 +89,12 @@ fn answer<'a>(
     pattern(room);
     let outcome = call(which, rule, budget, first, second, third, scratch, room);
     let total = sum(outcome.sum, scratch);
-    print(outcome, sum(total, room))
+    print(out, outcome, sum(total, room))
 }
 
 // The first file ends where the second begins, and that one where the third does.
-fn run(
+fn run<W: Write>(
+    out: &mut W,
     head: Head,
     files: &[u8],
     second: usize,
@@ -85,13 +106,14 @@ fn run(
 {
     let which = head.call;
     if which == 5 {
-        return desk(&files[0..second]);
+        return desk(out, &files[0..second]);
     }
     if 20 < which {
-        return stop(b"cases: there is no such call\n");
+        return stop(out, b"cases: there is no such call\n");
     }
     let rule = head.rule;
     answer(
+        out,
         which,
         rule,
         head.budget,
@@ -104,20 +126,28 @@ fn run(
 }
 
 // The limits of the lengths are what is lent.
-fn read_files(head: Head, files: &mut [u8], scratch: &mut [u8], room: &mut [u8]) -> bool {
+fn read_files<R: Read, W: Write>(
+    input: &mut R,
+    out: &mut W,
+    head: Head,
+    files: &mut [u8],
+    scratch: &mut [u8],
+    room: &mut [u8],
+) -> bool {
     let second = head.first as usize;
     let third = second + head.second as usize;
     let end = third + head.third as usize;
     let scratch_length = head.scratch as usize;
     let room_length = head.room as usize;
     if files.len() < end || scratch.len() < scratch_length || room.len() < room_length {
-        return stop(b"cases: a length is above its limit\n");
+        return stop(out, b"cases: a length is above its limit\n");
     }
     let part = &mut files[0..end];
-    if io::read_full(STDIN_FILENO, part) < end {
-        return stop(b"cases: a file is cut\n");
+    if read_full(input, part) < end {
+        return stop(out, b"cases: a file is cut\n");
     }
     run(
+        out,
         head,
         part,
         second,
@@ -128,29 +158,43 @@ fn read_files(head: Head, files: &mut [u8], scratch: &mut [u8], room: &mut [u8])
 }
 
 // Runs the next case, and answers whether to go on.
-fn one_case(files: &mut [u8], scratch: &mut [u8], room: &mut [u8]) -> bool {
+fn one_case<R: Read, W: Write>(
+    input: &mut R,
+    out: &mut W,
+    files: &mut [u8],
+    scratch: &mut [u8],
+    room: &mut [u8],
+) -> bool {
     let mut bytes = [0u8; 28];
-    let got = io::read_full(STDIN_FILENO, &mut bytes);
+    let got = read_full(input, &mut bytes);
     if got == 0 {
         return false;
     }
     if got < 28 {
-        return stop(b"cases: a head is cut\n");
+        return stop(out, b"cases: a head is cut\n");
     }
-    read_files(head_of(&bytes), files, scratch, room)
+    read_files(input, out, head_of(&bytes), files, scratch, room)
 }
 
 // A proved loop has to end, and nothing says that the input does: it counts its turns down from a number that no run uses up.
-fn all_cases(files: &mut [u8], scratch: &mut [u8], room: &mut [u8]) {
+fn all_cases<R: Read, W: Write>(
+    input: &mut R,
+    out: &mut W,
+    files: &mut [u8],
+    scratch: &mut [u8],
+    room: &mut [u8],
+) {
     let mut turns = u64::MAX;
-    while turns > 0 && one_case(files, scratch, room) {
+    while turns > 0 && one_case(input, out, files, scratch, room) {
         turns -= 1;
     }
 }
 
-fn main() {
+fn main(rt: HostRuntime) {
+    let mut input = rt.stdin();
+    let mut out = rt.stdout();
     let mut files = [0u8; 400000];
     let mut scratch = [0u8; 400000];
     let mut room = [0u8; 331000];
-    all_cases(&mut files, &mut scratch, &mut room);
+    all_cases(&mut input, &mut out, &mut files, &mut scratch, &mut room);
 }

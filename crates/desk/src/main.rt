@@ -5,7 +5,8 @@
 ghost use Rattle.std.specs.Prelude.{◌<◌, length};
 ghost use Rattle.desk.specs.Program.{Within, Printed};
 
-use libc::{STDERR_FILENO, STDIN_FILENO, STDOUT_FILENO};
+use std::env;
+use std::io::{self, IsTerminal, Read, Write};
 
 // What reading standard input came to.
 #[derive(Clone, Copy)]
@@ -16,22 +17,21 @@ enum Input {
 
 // Reads to the end of the input, or as far as there is room: one byte more than may be judged shows that it is too long.
 // A read that fails is never taken for the end.
-fn read_input(input: &mut [u8]) -> Input
+fn read_input<R: Read>(stdin: &mut R, input: &mut [u8]) -> Input
     requires { 8192 < length input.old }
     ensures { Within result input.new }
 {
     let mut got = 0;
     while got < input.len() {
-        let rest = &mut input[got..];
-        let answer = libc::read(STDIN_FILENO, rest);
-        if answer < 0 {
-            return Input::Failed;
+        match stdin.read(&mut input[got..]) {
+            Err(_) => return Input::Failed,
+            Ok(more) => {
+                if more == 0 {
+                    return Input::Whole { bytes: got };
+                }
+                got += more;
+            }
         }
-        let more = io::count(answer, rest);
-        if more == 0 {
-            return Input::Whole { bytes: got };
-        }
-        got += more;
     }
     Input::Whole { bytes: got }
 }
@@ -45,26 +45,24 @@ fn answer(input: &[u8], text: &mut [u8]) -> usize
     lines::lines(input, &mut scratch, &mut room, text)
 }
 
-fn main() {
-    if os::arg_count() > 1 || libc::isatty(STDIN_FILENO) == 1 {
-        io::write_all(
-            STDERR_FILENO,
+fn main(rt: HostRuntime) -> io::Result<()> {
+    let words = env::args(&rt)?.count();
+    let mut stdin = rt.stdin();
+    let mut stderr = rt.stderr();
+    if words > 1 || stdin.is_terminal() {
+        return stderr.write_all(
             b"usage: desk < HANDOVER   (a table, a recording and a four-byte budget, at most 8,192 bytes; see README.md)\n",
         );
-        return;
     }
     let mut input = [0u8; 8193];
-    let reading = read_input(&mut input);
+    let reading = read_input(&mut stdin, &mut input);
     let Input::Whole { bytes } = reading else {
-        io::write_all(STDERR_FILENO, b"desk: standard input could not be read\n");
-        return;
+        return stderr.write_all(b"desk: standard input could not be read\n");
     };
     let mut text = [0u8; 400000];
     let count = answer(&input[0..bytes], &mut text);
-    if !io::write_all(STDOUT_FILENO, &text[0..count]) {
-        io::write_all(
-            STDERR_FILENO,
-            b"desk: standard output could not be written\n",
-        );
+    if rt.stdout().write_all(&text[0..count]).is_err() {
+        return stderr.write_all(b"desk: standard output could not be written\n");
     }
+    Ok(())
 }

@@ -18,7 +18,7 @@ use Rattle.backward.proofs.PruneLayers.{PrunedTo, cursor-first, pruned-first, pr
 use Rattle.backward.proofs.prune.prune.Statement.{statement}
 use Rattle.backward.proofs.prune.prune.Tie as tie
 
-abbrev invariant-loop : tie.invariant-loop
+abbrev invariant-loop : tie.invariant-loop-t
 invariant-loop table offsets recording g marks planes scratch₀ next₀ row₀ sets₀ one₀ two₀ memo₀ from to cursor₀ t₀ scratch next row sets one two memo cursor t =
     (t ≤ g.last) × Kept scratch₀ scratch × Kept next₀ next × Kept row₀ row × Kept sets₀ sets × Kept one₀ one × Kept two₀ two × Kept memo₀ memo
     × (Setting table offsets recording g
@@ -29,46 +29,46 @@ invariant-loop table offsets recording g marks planes scratch₀ next₀ row₀ 
     × PrunedTo (monitor_by g table) recording scratch g.row g.size g.last t
     × Coming (monitor_by g table) g t scratch next row sets one two memo)
 
-abbrev decreases-loop : tie.decreases-loop
+abbrev decreases-loop : tie.decreases-loop-t
 decreases-loop table offsets recording g marks planes scratch₀ next₀ row₀ sets₀ one₀ two₀ memo₀ from to cursor₀ t₀ scratch next row sets one two memo cursor t = t
 
 -- the places before a place
 
-abbrev entry : tie.Else1 invariant-loop decreases-loop → tie.Start invariant-loop decreases-loop
+abbrev entry : tie.Else-not-is_roomy invariant-loop decreases-loop → tie.Start invariant-loop decreases-loop
 entry c = c.before.before.before.before.before.before.before.before.before.before.before.before.before.before
 
-abbrev forgot : tie.After-word invariant-loop decreases-loop → tie.After-forget invariant-loop decreases-loop
+abbrev forgot : tie.After-word-cursor invariant-loop decreases-loop → tie.After-forget invariant-loop decreases-loop
 forgot c = c.before.before.before
 
 abbrev loaded : tie.After-forget invariant-loop decreases-loop → tie.After-load invariant-loop decreases-loop
 loaded c = c.before.before.before.before
 
-abbrev left : tie.After-load invariant-loop decreases-loop → tie.Else1 invariant-loop decreases-loop
-left c = c.before.before.before.before.before.before
+abbrev left : tie.After-load invariant-loop decreases-loop → tie.Else-not-is_roomy invariant-loop decreases-loop
+left c = c.before.before.before.before.before
 
-roomy : (c : tie.Else1 invariant-loop decreases-loop) → let a = (entry c).args in Roomy a.g (length a.scratch.now)
-roomy c = c.before.is-roomy.ensures.0 (not-false _ c.if1.false)
+roomy : (c : tie.Else-not-is_roomy invariant-loop decreases-loop) → let a = (entry c).args in Roomy a.g (length a.scratch.now)
+roomy c = c.before.is_roomy.ensures.0 (c.if-not-is_roomy.false)
 
-is-roomy-requires : tie.Need-is-roomy-requires invariant-loop decreases-loop
+is-roomy-requires : tie.Need-is_roomy-requires invariant-loop decreases-loop
 is-roomy-requires c κs = search rules
 
-returns : tie.Need-returns invariant-loop decreases-loop
-returns c = (refl, refl, refl, refl, refl, refl, refl, λ set given long layers sized next row. absurd (false≢true (sym (not-true _ c.if1.true) ∙ c.before.is-roomy.ensures.1 (roomy_by set long))))
+returns : tie.Need-returns-then-not-is_roomy invariant-loop decreases-loop
+returns c = (refl, refl, refl, refl, refl, refl, refl, λ set given long layers sized next row. absurd (false≢true (sym (c.if-not-is_roomy.true) ∙ c.before.is_roomy.ensures.1 (roomy_by set long))))
 
-mul-from : tie.Need-overflow-mul-from invariant-loop decreases-loop
-mul-from c = omega (arith, row_fits (roomy c.before) {t = (entry c.before).args.g.last} (omega arith), (entry c.before).good)
+mul-from : tie.Need-overflow_mul-from invariant-loop decreases-loop
+mul-from c = omega (arith, row_fits (roomy c.before) {t = (entry c.before).args.g.last} (omega arith))
 
-add-to : tie.Need-overflow-add-to invariant-loop decreases-loop
-add-to c = omega (arith, row_fits (roomy c.before.before) {t = (entry c.before.before).args.g.last} (omega arith), (entry c.before.before).good)
+add-to : tie.Need-overflow_add-to invariant-loop decreases-loop
+add-to c = omega (arith, row_fits (roomy c.before.before) {t = (entry c.before.before).args.g.last} (omega arith))
 
-sub-load : tie.Need-overflow-sub-load invariant-loop decreases-loop
+sub-load : tie.Need-slice_bounds-load-count invariant-loop decreases-loop
 sub-load c = search rules
 
-part-load-start : tie.Need-slice-bounds-load-start invariant-loop decreases-loop
+part-load-start : tie.Need-slice_bounds-load-start invariant-loop decreases-loop
 part-load-start c = search rules
 
-part-load-end : tie.Need-slice-bounds-load-end invariant-loop decreases-loop
-part-load-end c = omega (arith, row_fits (roomy c.before.before.before) {t = (entry c.before.before.before).args.g.last} (omega arith), (entry c.before.before.before).good)
+part-load-end : tie.Need-slice_bounds-load-end invariant-loop decreases-loop
+part-load-end c = omega (arith, row_fits (roomy c.before.before) {t = (entry c.before.before).args.g.last} (omega arith))
 
 load-requires : tie.Need-load-requires invariant-loop decreases-loop
 load-requires c κs = search rules
@@ -76,13 +76,13 @@ load-requires c κs = search rules
 forget-requires : tie.Need-forget-requires invariant-loop decreases-loop
 forget-requires c κs = search rules
 
-word-requires : tie.Need-word-requires invariant-loop decreases-loop
+word-requires : tie.Need-word-cursor-requires invariant-loop decreases-loop
 word-requires c κs = search rules
 
-cast-cursor : tie.Need-overflow-cast-cursor invariant-loop decreases-loop
+cast-cursor : tie.Need-overflow_cast-cursor invariant-loop decreases-loop
 cast-cursor c = search rules
 
-loop-holds : tie.Need-loop-init invariant-loop decreases-loop
+loop-holds : tie.Need-loop-t-init invariant-loop decreases-loop
 loop-holds c =
     let a = (entry (left (loaded (forgot c)))).args in (
       omega arith,
@@ -94,32 +94,32 @@ loop-holds c =
       refl,
       refl,
       λ set given layers come. (
-        subst (λ (n : ℕ). Cursor a.recording.now n (a.g.last + 1)) (sym c.word.ensures.0) (cursor-first a.table.now a.offsets.now a.recording.now a.g set),
+        subst (λ (n : ℕ). Cursor a.recording.now n (a.g.last + 1)) (sym c.word-cursor.ensures.0) (cursor-first a.table.now a.offsets.now a.recording.now a.g set),
         pruned-first a.table.now a.offsets.now a.recording.now a.g set a.scratch.now layers,
         come,
       ),
     )
 
-sub-t : tie.Need-overflow-sub-t invariant-loop decreases-loop
+sub-t : tie.Need-overflow_sub-t invariant-loop decreases-loop
 sub-t c = search rules
 
-prune-at-requires : tie.Need-prune-at-requires invariant-loop decreases-loop
+prune-at-requires : tie.Need-prune_at-cursor-requires invariant-loop decreases-loop
 prune-at-requires c κs =
     let inside = c.before.before.before.before.before.before.before in
-    let inv = inside.before.loop.invariant in
-    (roomy-kept (roomy (left (loaded (forgot inside.before.before)))) inv.1, omega (arith, inv.0, inside.loop-test.true))
+    let inv = inside.before.loop-t.invariant in
+    (roomy-kept (roomy (left (loaded (forgot inside.before.before)))) inv.1, omega (arith, inv.0, inside.loop-t-test.true))
 
-loop-less : tie.Need-loop-smaller invariant-loop decreases-loop
+loop-less : tie.Need-loop-t-smaller invariant-loop decreases-loop
 loop-less c = search rules
 
-loop-again : tie.Need-loop-preserved invariant-loop decreases-loop
+loop-again : tie.Need-loop-t-preserved invariant-loop decreases-loop
 loop-again c =
     let called = c.before.before.before.before.before.before.before.before.before.before.before.before.before.before in
     let inside = called.before.before.before.before.before.before.before.before in
     let at-loop = inside.before in
-    let inv = at-loop.loop.invariant in
+    let inv = at-loop.loop-t.invariant in
     let a = (entry (left (loaded (forgot at-loop.before)))).args in
-    let done = called.prune-at.ensures in (
+    let done = called.prune_at-cursor.ensures in (
       omega (arith, inv.0),
       done.0 ∙ inv.1,
       done.1 ∙ inv.2,
@@ -131,37 +131,37 @@ loop-again c =
       λ set given layers first.
           let (cursor, pruned, come) = inv.8 set given layers first in
           let (at, empty, here) =
-          turning a.table.now a.offsets.now a.recording.now a.g set _ _ _ _ _ _ _ _ at-loop.loop.t (omega (arith, inside.loop-test.true)) inv.0 cursor pruned come in
+          turning a.table.now a.offsets.now a.recording.now a.g set _ _ _ _ _ _ _ _ at-loop.loop-t.t (omega (arith, inside.loop-t-test.true)) inv.0 cursor pruned come in
           let (cut, coming) = done.8 set given at empty here in
           let (next, rows) =
-          pruned_turn a.table.now a.offsets.now a.recording.now a.g set _ _ at-loop.loop.t _ _ (omega (arith, inside.loop-test.true)) inv.0 cursor pruned done.7 cut in
+          pruned_turn a.table.now a.offsets.now a.recording.now a.g set _ _ at-loop.loop-t.t _ _ (omega (arith, inside.loop-t-test.true)) inv.0 cursor pruned done.7 cut in
           (next, rows, coming),
     )
 
-same_length : tie.Need-same-length invariant-loop decreases-loop
-same_length c = c.before.loop.invariant.1
+same_length : tie.Need-shape_of-scratch invariant-loop decreases-loop
+same_length c = c.before.loop-t.invariant.1
 
-same-length-2 : tie.Need-same-length-2 invariant-loop decreases-loop
-same-length-2 c = c.before.loop.invariant.2 ∙ (loaded (forgot c.before.before)).load.ensures.size
+same-length-2 : tie.Need-shape_of-next invariant-loop decreases-loop
+same-length-2 c = c.before.loop-t.invariant.2 ∙ (loaded (forgot c.before.before)).load.ensures.size
 
-same-length-3 : tie.Need-same-length-3 invariant-loop decreases-loop
-same-length-3 c = c.before.loop.invariant.3
+same-length-3 : tie.Need-shape_of-row invariant-loop decreases-loop
+same-length-3 c = c.before.loop-t.invariant.3
 
-same-length-4 : tie.Need-same-length-4 invariant-loop decreases-loop
-same-length-4 c = c.before.loop.invariant.4
+same-length-4 : tie.Need-shape_of-sets invariant-loop decreases-loop
+same-length-4 c = c.before.loop-t.invariant.4
 
-same-length-5 : tie.Need-same-length-5 invariant-loop decreases-loop
-same-length-5 c = c.before.loop.invariant.5
+same-length-5 : tie.Need-shape_of-one invariant-loop decreases-loop
+same-length-5 c = c.before.loop-t.invariant.5
 
-same-length-6 : tie.Need-same-length-6 invariant-loop decreases-loop
-same-length-6 c = c.before.loop.invariant.6
+same-length-6 : tie.Need-shape_of-two invariant-loop decreases-loop
+same-length-6 c = c.before.loop-t.invariant.6
 
-same-length-7 : tie.Need-same-length-7 invariant-loop decreases-loop
-same-length-7 c = c.before.loop.invariant.7 ∙ (forgot c.before.before).forget.ensures.0
+same-length-7 : tie.Need-shape_of-memo invariant-loop decreases-loop
+same-length-7 c = c.before.loop-t.invariant.7 ∙ (forgot c.before.before).forget.ensures.0
 
-returns-2 : tie.Need-returns-2 invariant-loop decreases-loop
+returns-2 : tie.Need-returns invariant-loop decreases-loop
 returns-2 c =
-    let inv = c.before.loop.invariant in
+    let inv = c.before.loop-t.invariant in
     let none = forgot c.before.before in
     let last = loaded none in
     let a = (entry (left last)).args in (
@@ -179,8 +179,8 @@ returns-2 c =
           λ t l. rows.from t (omega arith) l,
     )
 
-pub prune-spec : {M : Type 1} → statement M
-prune-spec =
+pub prune_spec : {M : Type 1} → statement M
+prune_spec =
     tie.close
     (tie.spec
     invariant-loop

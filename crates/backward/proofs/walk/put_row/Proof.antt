@@ -9,22 +9,22 @@ use borrow.Author.Rules.{rules}
 use Rattle.backward.proofs.walk.put_row.Statement.{statement}
 use Rattle.backward.proofs.walk.put_row.Tie as tie
 
-row-bytes-requires : tie.Need-row-bytes-requires
+row-bytes-requires : tie.Need-row_bytes-bytes-requires
 row-bytes-requires c κs = search rules
 
-slice-aggregate-place : tie.Need-slice-aggregate-place
+slice-aggregate-place : tie.Need-slice_bounds-place-end
 slice-aggregate-place c = search rules
 
-mul-place : tie.Need-overflow-mul-place
+mul-place : tie.Need-overflow_mul-r
 mul-place c = search rules
 
 place-requires : tie.Need-place-requires
 place-requires c κs = search rules
 
-add-result : tie.Need-overflow-add-result
+add-result : tie.Need-overflow_add-result
 add-result c = search rules
 
-same_length : tie.Need-same-length
+same_length : tie.Need-shape_of-room
 same_length c = search rules
 
 returns : tie.Need-returns
@@ -34,12 +34,12 @@ returns c =
     let made = called.before.before.before in
     let a = made.before.before.args in
     record {
-      bytes = called.place.ensures ∙ ap (λ (l : List ℕ). placed l (5 * a.r) a.room.now) made.row-bytes.ensures;
+      bytes = called.place.ensures ∙ ap (λ (l : List ℕ). placed l (5 * a.r) a.room.now) made.row_bytes-bytes.ensures;
       count = omega arith;
     }
 
-pub put-row-spec : {M : Type 1} → statement M
-put-row-spec =
+pub put_row_spec : {M : Type 1} → statement M
+put_row_spec =
     tie.close
     (tie.spec
     row-bytes-requires

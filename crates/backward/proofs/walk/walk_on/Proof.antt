@@ -18,19 +18,19 @@ use borrow.Author.Rules.{rules}
 use Rattle.backward.proofs.walk.walk_on.Statement.{statement}
 use Rattle.backward.proofs.walk.walk_on.Tie as tie
 
-add-instant : tie.Need-overflow-add-instant
+add-instant : tie.Need-overflow_add-instant
 add-instant c = search rules
 
-heard-at-requires : tie.Need-heard-at-requires
+heard-at-requires : tie.Need-heard_at-heard-requires
 heard-at-requires c κs = search rules
 
-mul-start : tie.Need-overflow-mul-start
+mul-start : tie.Need-overflow_mul-start
 mul-start c = search rules
 
-add_start : tie.Need-overflow-add-start
+add_start : tie.Need-overflow_add-start
 add_start c = search rules
 
-mul-start-2 : tie.Need-overflow-mul-start-2
+mul-start-2 : tie.Need-overflow_mul-start-2
 mul-start-2 c =
     let start = c.before.before.before.before.before.before.before.before in
     let below : 8 * start.args.g.row * (start.args.t + 1) < 4294967296 =
@@ -38,34 +38,34 @@ mul-start-2 c =
     omega arith
 
 -- the least move leads on
-on : (c : tie.After-heard-at) (k : ℕ)
+on : (c : tie.After-heard_at-heard) (k : ℕ)
     → let a = c.before.before.before.before.before.before.args in
-    let step = step_at a.table.now a.offsets.now a.g.shape (heard_of c.heard-at.result) in
+    let step = step_at a.table.now a.offsets.now a.g.shape (heard_of c.heard_at-heard.result) in
     k ≡ least_into step a.scratch.now (8 * a.g.row * (a.t + 1)) a.g.size a.at.number
     → Ground a.table.now a.offsets.now a.recording.now a.scratch.now a.g
     → a.t < a.g.last
     → Stands (monitor_by a.g a.table.now) a.recording.now a.g.last a.t a.at.number a.at.cursor
-    → Leading (monitor_by a.g a.table.now) a.recording.now a.g.last a.t a.at.number k (heard_of c.heard-at.result) (step a.at.number k)
+    → Leading (monitor_by a.g a.table.now) a.recording.now a.g.last a.t a.at.number k (heard_of c.heard_at-heard.result) (step a.at.number k)
 on c k e ground more stands =
     let a = c.before.before.before.before.before.before.args in
     let set = ground.setting in
     leading a.table.now a.offsets.now a.recording.now a.g set a.scratch.now ground.pruned a.t a.at.number a.at.cursor
-    (heard_of c.heard-at.result) k more
-    (c.heard-at.ensures ∙ heard_recorded (monitor_by a.g a.table.now) a.recording.now set.sound.trace stands.cursor) e stands
+    (heard_of c.heard_at-heard.result) k more
+    (c.heard_at-heard.ensures ∙ heard_recorded (monitor_by a.g a.table.now) a.recording.now set.sound.trace stands.cursor) e stands
 
-least-into-requires : tie.Need-least-into-requires
+least-into-requires : tie.Need-least_into-least-requires
 least-into-requires c κs = search rules
 
-passed-requires : tie.Need-passed-requires
+passed-requires : tie.Need-passed-cursor-requires
 passed-requires c κs = search rules
 
-cast-put-move : tie.Need-overflow-cast-put-move
+cast-put-move : tie.Need-overflow_cast-instant
 cast-put-move c = search rules
 
-put-move-requires : tie.Need-put-move-requires
+put-move-requires : tie.Need-put_move-rows-requires
 put-move-requires c κs = let start = c.before.before.before.before.before.before.before.before.before.before.before in omega (arith, start.requires.1, start.requires.2)
 
-same_length : tie.Need-same-length
+same_length : tie.Need-shape_of-room
 same_length c = search rules
 
 returns : tie.Need-returns
@@ -76,21 +76,21 @@ returns c =
     let start = least.before.before.before.before.before.before.before.before.before in
     let a = start.args in
     let heard = least.before.before.before in
-    let wrote = called.put-move.ensures in (
+    let wrote = called.put_move-rows.ensures in (
       wrote.0,
       omega (arith, wrote.1, start.requires.2),
       λ ground more stands.
-          let led = on heard least.least-into.result.k least.least-into.ensures.0 ground more stands in
-          let has = has_plain a.g.shape.rule (monitor_at a.table.now) (heard_of heard.heard-at.result) (move_of least.least-into.result.k) led.fits in
-          onward led (least.least-into.ensures.1 led.few)
-          (subst (λ (j : ℕ). Cursor a.recording.now j (a.t + 1 + 1)) (sym went.passed.ensures)
+          let led = on heard least.least_into-least.result.k least.least_into-least.ensures.0 ground more stands in
+          let has = has_plain a.g.shape.rule (monitor_at a.table.now) (heard_of heard.heard_at-heard.result) (move_of least.least_into-least.result.k) led.fits in
+          onward led (least.least_into-least.ensures.1 led.few)
+          (subst (λ (j : ℕ). Cursor a.recording.now j (a.t + 1 + 1)) (sym went.passed-cursor.ensures)
           (passed_cursor (monitor_by a.g a.table.now) a.recording.now ground.setting.sound.trace stands.cursor))
-          (rows_put_same (sym (rows_plain a.g.shape.rule (monitor_at a.table.now) (heard_of heard.heard-at.result) (a.t + 1) (move_of least.least-into.result.k)))
+          (rows_put_same (sym (rows_plain a.g.shape.rule (monitor_at a.table.now) (heard_of heard.heard_at-heard.result) (a.t + 1) (move_of least.least_into-least.result.k)))
           (wrote.2 ground.triggers led.few has)),
     )
 
-pub walk-on-spec : {M : Type 1} → statement M
-walk-on-spec =
+pub walk_on_spec : {M : Type 1} → statement M
+walk_on_spec =
     tie.close
     (tie.spec
     add-instant

@@ -15,7 +15,7 @@ use Rattle.backward.proofs.WalkSteps.{Walked, walked_on, stands-first, walked_fi
 use Rattle.backward.proofs.walk.walk_rows.Statement.{statement}
 use Rattle.backward.proofs.walk.walk_rows.Tie as tie
 
-abbrev invariant-loop : tie.invariant-loop
+abbrev invariant-loop : tie.invariant-loop-t
 invariant-loop table offsets recording g scratch room₀ at₀ t₀ room at t =
     (t ≤ g.last) × Kept room₀ room × (at.rows ≤ t)
     × (Ground table offsets recording scratch g
@@ -24,13 +24,13 @@ invariant-loop table offsets recording g scratch room₀ at₀ t₀ room at t =
     → Stands (monitor_by g table) recording g.last t at.number at.cursor
     × Walked (monitor_by g table) recording g.last t at.number at.rows room₀ room)
 
-abbrev decreases-loop : tie.decreases-loop
+abbrev decreases-loop : tie.decreases-loop-t
 decreases-loop table offsets recording g scratch room₀ at₀ t₀ room at t = g.last - t
 
-abbrev entry : tie.At-loop invariant-loop decreases-loop → tie.Start invariant-loop decreases-loop
+abbrev entry : tie.At-loop-t invariant-loop decreases-loop → tie.Start invariant-loop decreases-loop
 entry c = c.before.before.before.before.before.before
 
-loop-holds : tie.Need-loop-init invariant-loop decreases-loop
+loop-holds : tie.Need-loop-t-init invariant-loop decreases-loop
 loop-holds c =
     let a = c.before.before.before.before.before.args in (
       omega arith,
@@ -45,54 +45,54 @@ loop-holds c =
           ),
     )
 
-walk-on-requires : tie.Need-walk-on-requires invariant-loop decreases-loop
+walk-on-requires : tie.Need-walk_on-at-requires invariant-loop decreases-loop
 walk-on-requires c κs =
     let inside = c.before in
     let at-loop = inside.before.before in
     let given = (entry at-loop).requires in
-    (given.0, omega (arith, given.1, inside.if1.true), at-loop.loop.invariant.2)
+    (given.0, omega (arith, given.1, inside.loop-t-test.true), at-loop.loop-t.invariant.2)
 
-add-t : tie.Need-overflow-add-t invariant-loop decreases-loop
+add-t : tie.Need-overflow_add-t invariant-loop decreases-loop
 add-t c = search rules
 
-loop-less : tie.Need-loop-smaller invariant-loop decreases-loop
+loop-less : tie.Need-loop-t-smaller invariant-loop decreases-loop
 loop-less c = search rules
 
-loop-again : tie.Need-loop-preserved invariant-loop decreases-loop
+loop-again : tie.Need-loop-t-preserved invariant-loop decreases-loop
 loop-again c =
     let called = c.before.before in
     let inside = called.before.before in
     let at-loop = inside.before.before in
     let a = (entry at-loop).args in
-    let inv = at-loop.loop.invariant in
-    let done = called.walk-on.ensures in (
-      omega (arith, inside.if1.true),
+    let inv = at-loop.loop-t.invariant in
+    let done = called.walk_on-at.ensures in (
+      omega (arith, inside.loop-t-test.true),
       done.0 ∙ inv.1,
       done.1,
       λ ground some_left long.
           let (stands, walked) = inv.3 ground some_left long in
-          let on = done.2 ground inside.if1.true stands in
+          let on = done.2 ground inside.loop-t-test.true stands in
           (on.stands, walked_on walked (rows-room a.table.now a.offsets.now a.recording.now a.g ground.setting a.room.now long) on),
     )
 
-same_length : tie.Need-same-length invariant-loop decreases-loop
-same_length c = c.before.before.loop.invariant.1
+same_length : tie.Need-shape_of-room invariant-loop decreases-loop
+same_length c = c.before.before.loop-t.invariant.1
 
 returns : tie.Need-returns invariant-loop decreases-loop
 returns c =
     let at-loop = c.before.before in
     let a = (entry at-loop).args in
-    let inv = at-loop.loop.invariant in (
+    let inv = at-loop.loop-t.invariant in (
       inv.1,
       omega (arith, inv.0, inv.2),
       λ ground some_left long.
-          let done : at-loop.loop.t ≡ a.g.last = omega (arith, inv.0, c.if1.false) in
+          let done : at-loop.loop-t.t ≡ a.g.last = omega (arith, inv.0, c.loop-t-test.false) in
           let all = walked_all a.table.now a.offsets.now a.recording.now a.g ground.setting (inv.3 ground some_left long).1 done in
           (omega (arith, all.count), rows_put_all all (rows-room a.table.now a.offsets.now a.recording.now a.g ground.setting a.room.now long)),
     )
 
-pub walk-rows-spec : {M : Type 1} → statement M
-walk-rows-spec =
+pub walk_rows_spec : {M : Type 1} → statement M
+walk_rows_spec =
     tie.close
     (tie.spec
     invariant-loop
