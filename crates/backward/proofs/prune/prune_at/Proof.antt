@@ -16,8 +16,8 @@ entry c = c.before.before.before.before.before.before.before.before.before.befor
 abbrev sized : tie.After-struct_known-1 → tie.After-back-before
 sized c = c.before.before.before
 
-abbrev retreated : tie.After-store-arg-1 → tie.After-retreat
-retreated c = c.before.before.before.before.before.before.before.before.before.before.before
+abbrev retreated : tie.After-slice_known-13-1 → tie.After-retreat
+retreated c = c.before.before.before.before.before.before.before.before.before.before
 
 abbrev loaded : tie.After-retreat → tie.After-load
 loaded c = c.before.before.before.before.before.before.before.before
@@ -85,7 +85,7 @@ same-length-2 : tie.Need-shape_of-next
 same-length-2 c = search rules
 
 same-length-3 : tie.Need-shape_of-row
-same-length-3 c = let kept = retreated c.before.before.before.before.before.before.before in kept.retreat.ensures.0 ∙ (loaded kept).load.ensures.size
+same-length-3 c = let kept = retreated c.before.before.before.before.before.before.before.before in kept.retreat.ensures.0 ∙ (loaded kept).load.ensures.size
 
 same-length-4 : tie.Need-shape_of-sets
 same-length-4 c = search rules
@@ -103,7 +103,7 @@ returns : tie.Need-returns
 returns c =
     let copied = c.before.before in
     let stored = copied.before.before.before.before in
-    let kept = retreated stored.before in
+    let kept = retreated stored.before.before in
     let read = loaded kept in
     let back = sized (from read) in
     let (roomy, more) = (entry back).requires in
@@ -118,7 +118,7 @@ returns c =
       back.back-before.ensures,
       λ set given cursor empty come.
           turned _ _ _ _ _ _ _ _ _ _ _ _ _ _ _ set given more roomy.long cursor empty come _ _ _ _ _ _ _ _ _ _
-          back.back-before.ensures (from read).before.before.heard-at.ensures read.load.ensures done stored.store.ensures copied.copy.ensures,
+          back.back-before.ensures (from read).before.before.heard_at-heard.ensures read.load.ensures done stored.store.ensures copied.copy.ensures,
     )
 
 pub prune_at_spec : {M : Type 1} → statement M

@@ -49,7 +49,7 @@ part-walk-rows-end : tie.Need-slice_bounds-walk_rows-end
 part-walk-rows-end c = search rules
 
 walk-rows-requires : tie.Need-walk_rows-rows-requires
-walk-rows-requires c κs = let head = placed c.before in (omega (arith, head.before.if-g-gt8192.false), omega (arith, (early head).if-g-gt65535.left))
+walk-rows-requires c κs = let head = placed c.before in (omega (arith, head.before.if-g-gt8192.false), omega (arith, (early head).if-g-gt65535.false))
 
 cast-put-frame : tie.Need-overflow_cast-rows
 cast-put-frame c =
