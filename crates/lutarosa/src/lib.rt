@@ -1,4 +1,4 @@
-// The static library's face (include/lutarosa.h): each function hands its bytes over and answers in document 01's numbers.
+// The library's face: each function hands its bytes over and answers in document 01's numbers. `lutarosa_c` exports each to C (include/lutarosa.h).
 
 #![tactic(auto)]
 
@@ -19,8 +19,7 @@ use numbers::{
 use rewrite::{rewrite_recording, rewrite_table, rewrite_witness};
 use rule::rule_of;
 
-#[unsafe(no_mangle)]
-pub extern "C" fn lutarosa_validate<'a>(
+pub fn lutarosa_validate<'a>(
     table: &'a [u8],
     recording: &'a [u8],
     budget: u32,
@@ -32,29 +31,25 @@ pub extern "C" fn lutarosa_validate<'a>(
     verdict_numbers(validate(Edition::One, table, recording, budget, scratch, room))
 }
 
-#[unsafe(no_mangle)]
-pub extern "C" fn lutarosa_check<'a>(table: &'a [u8], recording: &'a [u8], witness: &[u8]) -> Answer
+pub fn lutarosa_check<'a>(table: &'a [u8], recording: &'a [u8], witness: &[u8]) -> Answer
     ensures { Checked One table.now recording.now witness.now result }
 {
     checking_numbers(check_witness(Edition::One, table, recording, witness))
 }
 
-#[unsafe(no_mangle)]
-pub extern "C" fn lutarosa_rewrite_table(bytes: &[u8], room: &mut [u8]) -> Answer
+pub fn lutarosa_rewrite_table(bytes: &[u8], room: &mut [u8]) -> Answer
     ensures { Rewritten (table_answer bytes.now) bytes.now room.old room.new (rewrite_table bytes.now room.old) result }
 {
     writing_numbers(rewrite_table(bytes, room))
 }
 
-#[unsafe(no_mangle)]
-pub extern "C" fn lutarosa_rewrite_recording(table: &[u8], bytes: &[u8], room: &mut [u8]) -> Answer
+pub fn lutarosa_rewrite_recording(table: &[u8], bytes: &[u8], room: &mut [u8]) -> Answer
     ensures { Rewritten (recording_answer table.now bytes.now) bytes.now room.old room.new (rewrite_recording table.now bytes.now room.old) result }
 {
     writing_numbers(rewrite_recording(table, bytes, room))
 }
 
-#[unsafe(no_mangle)]
-pub extern "C" fn lutarosa_rewrite_witness(bytes: &[u8], room: &mut [u8]) -> Answer
+pub fn lutarosa_rewrite_witness(bytes: &[u8], room: &mut [u8]) -> Answer
     ensures { Rewritten (witness_answer One bytes.now) bytes.now room.old room.new (rewrite_witness One bytes.now room.old) result }
 {
     writing_numbers(rewrite_witness(Edition::One, bytes, room))
@@ -62,8 +57,7 @@ pub extern "C" fn lutarosa_rewrite_witness(bytes: &[u8], room: &mut [u8]) -> Ans
 
 // The same for edition 2 of the witness.
 
-#[unsafe(no_mangle)]
-pub extern "C" fn lutarosa_validate_edition2<'a>(
+pub fn lutarosa_validate_edition2<'a>(
     table: &'a [u8],
     recording: &'a [u8],
     budget: u32,
@@ -75,19 +69,13 @@ pub extern "C" fn lutarosa_validate_edition2<'a>(
     verdict_numbers(validate(Edition::Two, table, recording, budget, scratch, room))
 }
 
-#[unsafe(no_mangle)]
-pub extern "C" fn lutarosa_check_edition2<'a>(
-    table: &'a [u8],
-    recording: &'a [u8],
-    witness: &[u8],
-) -> Answer
+pub fn lutarosa_check_edition2<'a>(table: &'a [u8], recording: &'a [u8], witness: &[u8]) -> Answer
     ensures { Checked Two table.now recording.now witness.now result }
 {
     checking_numbers(check_witness(Edition::Two, table, recording, witness))
 }
 
-#[unsafe(no_mangle)]
-pub extern "C" fn lutarosa_rewrite_witness_edition2(bytes: &[u8], room: &mut [u8]) -> Answer
+pub fn lutarosa_rewrite_witness_edition2(bytes: &[u8], room: &mut [u8]) -> Answer
     ensures { Rewritten (witness_answer Two bytes.now) bytes.now room.old room.new (rewrite_witness Two bytes.now room.old) result }
 {
     writing_numbers(rewrite_witness(Edition::Two, bytes, room))
@@ -95,8 +83,7 @@ pub extern "C" fn lutarosa_rewrite_witness_edition2(bytes: &[u8], room: &mut [u8
 
 // The same under a measured loss rate (R-7), in either edition.
 
-#[unsafe(no_mangle)]
-pub extern "C" fn lutarosa_validate_rule<'a>(
+pub fn lutarosa_validate_rule<'a>(
     table: &'a [u8],
     recording: &'a [u8],
     budget: u32,
@@ -119,8 +106,7 @@ pub extern "C" fn lutarosa_validate_rule<'a>(
     ))
 }
 
-#[unsafe(no_mangle)]
-pub extern "C" fn lutarosa_check_rule<'a>(
+pub fn lutarosa_check_rule<'a>(
     table: &'a [u8],
     recording: &'a [u8],
     witness: &[u8],
@@ -139,8 +125,7 @@ pub extern "C" fn lutarosa_check_rule<'a>(
     ))
 }
 
-#[unsafe(no_mangle)]
-pub extern "C" fn lutarosa_validate_rule_edition2<'a>(
+pub fn lutarosa_validate_rule_edition2<'a>(
     table: &'a [u8],
     recording: &'a [u8],
     budget: u32,
@@ -163,8 +148,7 @@ pub extern "C" fn lutarosa_validate_rule_edition2<'a>(
     ))
 }
 
-#[unsafe(no_mangle)]
-pub extern "C" fn lutarosa_check_rule_edition2<'a>(
+pub fn lutarosa_check_rule_edition2<'a>(
     table: &'a [u8],
     recording: &'a [u8],
     witness: &[u8],

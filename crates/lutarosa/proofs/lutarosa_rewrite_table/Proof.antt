@@ -3,18 +3,18 @@ use Rattle.lutarosa.proofs.Handed.{rewritten}
 use Rattle.lutarosa.proofs.lutarosa_rewrite_table.Statement.{statement}
 use Rattle.lutarosa.proofs.lutarosa_rewrite_table.Tie as tie
 
-rewrite-table-requires : tie.Need-rewrite-table-requires
+rewrite-table-requires : tie.Need-rewrite_table-requires
 rewrite-table-requires c κs = search rules
 
-writing-numbers-requires : tie.Need-writing-numbers-requires
+writing-numbers-requires : tie.Need-writing_numbers-requires
 writing-numbers-requires c κs = search rules
 
-same_length : tie.Need-same-length
+same_length : tie.Need-shape_of-room
 same_length c = search rules
 
 returns : tie.Need-returns
-returns c = rewritten c.before.before.before.rewrite-table.ensures c.writing-numbers.ensures
+returns c = rewritten c.before.before.before.rewrite_table.ensures c.writing_numbers.ensures
 
-pub lutarosa-rewrite-table-spec : {M : Type 1} → statement M
-lutarosa-rewrite-table-spec =
+pub lutarosa_rewrite_table_spec : {M : Type 1} → statement M
+lutarosa_rewrite_table_spec =
     tie.close (tie.spec rewrite-table-requires writing-numbers-requires same_length returns)

@@ -9,41 +9,41 @@ use Rattle.engine.proofs.judge.judge_small.Reads as judge-small-reads
 use Rattle.engine.proofs.judge.judge_wide.Reads as judge-wide-reads
 
 -- src/judge.rt:312:9
-judge-small-requires : tie.Need-judge-small-requires
+judge-small-requires : tie.Need-judge_small-requires
 judge-small-requires c κs = search rules
 
 -- src/judge.rt:312:9
-same_length : tie.Need-same-length
+same_length : tie.Need-shape_of-scratch-then-g-le16
 same_length c = search rules
 
 -- src/judge.rt:312:9
-same-length-2 : tie.Need-same-length-2
+same-length-2 : tie.Need-shape_of-room-then-g-le16
 same-length-2 c = search rules
 
 -- src/judge.rt:312:9
-returns : tie.Need-returns
+returns : tie.Need-returns-then-g-le16
 returns c = search rules
 
 -- src/judge.rt:314:5
-judge-wide-requires : tie.Need-judge-wide-requires
+judge-wide-requires : tie.Need-judge_wide-requires
 judge-wide-requires c κs =
     let pre = c.before.before.before.before.before.before.before.before.requires in
-    (pre, (preparing _ _ _ pre.sound pre.decreases).few)
+    (pre, (preparing _ _ _ pre.sound pre.measured).few)
 
 -- src/judge.rt:299:1
-same-length-3 : tie.Need-same-length-3
+same-length-3 : tie.Need-shape_of-scratch
 same-length-3 c = search rules
 
 -- src/judge.rt:299:1
-same-length-4 : tie.Need-same-length-4
+same-length-4 : tie.Need-shape_of-room
 same-length-4 c = search rules
 
 -- src/judge.rt:299:1
-returns-2 : tie.Need-returns-2
+returns-2 : tie.Need-returns
 returns-2 c = search rules
 
-pub judge-spec : {M : Type 1} → statement M
-judge-spec =
+pub judge_spec : {M : Type 1} → statement M
+judge_spec =
     tie.close
     (tie.spec
     judge-small-requires

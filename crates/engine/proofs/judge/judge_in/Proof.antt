@@ -17,11 +17,11 @@ use Rattle.engine.proofs.judge.prepare.Reads as prepare-reads
 use Rattle.monitor.proofs.offsets.Reads as offsets-reads
 
 -- src/judge.rt:190:17
-offsets-requires : tie.Need-offsets-requires
+offsets-requires : tie.Need-offsets-found-requires
 offsets-requires c κs = search rules
 
 -- src/judge.rt:191:20
-slice-aggregate-prepare : tie.Need-slice-aggregate-prepare
+slice-aggregate-prepare : tie.Need-slice_bounds-prepare-end
 slice-aggregate-prepare c = search rules
 
 -- src/judge.rt:191:5
@@ -30,20 +30,20 @@ prepare-requires c κs =
     let found = c.before.before.before.before.before in
     let start = found.before.before.before.before.before.before.before.before.before.before.before.before.before in
     let (judging, rooms) = start.requires in
-    (subst (λ (l : List ℕ). Preparing start.args.table.now l start.args.g) (sym found.offsets.ensures) (preparing _ _ _ judging.sound judging.decreases), rooms.marked, rooms.guards)
+    (subst (λ (l : List ℕ). Preparing start.args.table.now l start.args.g) (sym found.offsets-found.ensures) (preparing _ _ _ judging.sound judging.measured), rooms.marked, rooms.guards)
 
 -- src/judge.rt:192:5
 clear-requires : tie.Need-clear-requires
 clear-requires c κs = search rules
 
 -- src/judge.rt:196:9
-slice-aggregate-pass : tie.Need-slice-aggregate-pass
+slice-aggregate-pass : tie.Need-slice_bounds-pass-end
 slice-aggregate-pass c = search rules
 
 -- src/judge.rt:193:9
-pass-requires : tie.Need-pass-requires
+pass-requires : tie.Need-pass-verdict-requires
 pass-requires c κs =
-    let cleared = c.before.before.before.before.before.before.before.before.before.before.before.before.before in
+    let cleared = c.before.before.before.before.before.before.before.before.before.before.before in
     let prepared = cleared.before.before.before.before.before.before.before.before.before.before in
     let found = prepared.before.before.before.before.before.before in
     let start = found.before.before.before.before.before.before.before.before.before.before.before.before.before in
@@ -52,11 +52,11 @@ pass-requires c κs =
     let long = ap length zero ∙ length-replicate {A = ℕ} _ 0 in (
       record {
         sound = judging.sound;
-        measured = judging.decreases;
+        measured = judging.measured;
         long = subst (λ (n : ℕ). start.args.g.row * (start.args.g.last + 1) ≤ n) (sym long) judging.long;
         roomy = judging.roomy;
       },
-      found.offsets.ensures,
+      found.offsets-found.ensures,
       zero ∙ ap (λ (n : ℕ). replicate n 0) (sym long),
       prepared.prepare.ensures.0,
       record {
@@ -74,55 +74,55 @@ clear-requires-2 : tie.Need-clear-requires-2
 clear-requires-2 c κs = search rules
 
 -- src/judge.rt:170:1
-same_length : tie.Need-same-length
+same_length : tie.Need-shape_of-scratch
 same_length c = search rules
 
 -- src/judge.rt:170:1
-same-length-2 : tie.Need-same-length-2
+same-length-2 : tie.Need-shape_of-room
 same-length-2 c = search rules
 
 -- src/judge.rt:170:1
-same-length-3 : tie.Need-same-length-3
-same-length-3 c = c.before.before.before.before.before.before.before.before.before.before.before.before.before.before.before.before.before.before.before.before.before.before.before.before.before.before.before.before.before.before.before.before.before.before.before.before.before.before.before.before.before.planes.given
+same-length-3 : tie.Need-shape_of-planes
+same-length-3 c = c.before.before.before.before.before.before.before.before.before.before.before.before.before.before.before.before.before.before.before.before.before.before.before.before.before.before.before.before.before.before.before.before.before.before.before.before.before.before.before.planes-1.given
 
 -- src/judge.rt:170:1
-same-length-4 : tie.Need-same-length-4
-same-length-4 c = c.before.before.before.before.before.before.before.before.before.before.before.before.before.before.before.before.before.before.before.before.before.before.before.before.before.before.before.before.before.before.before.before.before.before.before.before.before.before.before.before.before.before.before.marks.given
+same-length-4 : tie.Need-shape_of-marks
+same-length-4 c = c.before.before.before.before.before.before.before.before.before.before.before.before.before.before.before.before.before.before.before.before.before.before.before.before.before.before.before.before.before.before.before.before.before.before.before.before.before.before.before.before.before.marks-1.given
 
 -- src/judge.rt:170:1
-same-length-5 : tie.Need-same-length-5
+same-length-5 : tie.Need-shape_of-cur
 same-length-5 c = search rules
 
 -- src/judge.rt:170:1
-same-length-6 : tie.Need-same-length-6
+same-length-6 : tie.Need-shape_of-row
 same-length-6 c = search rules
 
 -- src/judge.rt:170:1
-same-length-7 : tie.Need-same-length-7
+same-length-7 : tie.Need-shape_of-sets
 same-length-7 c = search rules
 
 -- src/judge.rt:170:1
-same-length-8 : tie.Need-same-length-8
-same-length-8 c = c.before.before.before.before.before.before.before.before.before.one2.given ∙ c.before.before.before.before.before.before.before.before.before.before.before.before.before.before.before.before.before.before.before.before.before.before.before.before.before.before.before.before.before.before.before.before.before.before.before.before.before.before.before.one.given
+same-length-8 : tie.Need-shape_of-one
+same-length-8 c = c.before.before.before.before.before.before.before.before.before.one-2-1.given ∙ c.before.before.before.before.before.before.before.before.before.before.before.before.before.before.before.before.before.before.before.before.before.before.before.before.before.before.before.before.before.before.before.before.before.before.before.before.before.one-1.given
 
 -- src/judge.rt:170:1
-same-length-9 : tie.Need-same-length-9
+same-length-9 : tie.Need-shape_of-two
 same-length-9 c = search rules
 
 -- src/judge.rt:170:1
-same-length-10 : tie.Need-same-length-10
+same-length-10 : tie.Need-shape_of-memo
 same-length-10 c = search rules
 
 -- src/judge.rt:170:1
 returns : tie.Need-returns
 returns c =
     let concluded = c.before.before.before.before.before.before.before.before.before.before.before.before.before.before.before.before.before.before.before.before in
-    let cleared = concluded.before.before.before.before.before.before.before.before.before.before.before.before.before.before in
+    let cleared = concluded.before.before.before.before.before.before.before.before.before.before.before.before in
     let start = cleared.before.before.before.before.before.before.before.before.before.before.before.before.before.before.before.before.before.before.before.before.before.before.before.before.before.before.before.before.before in
-    settled _ _ _ _ _ _ start.requires.0 _ _ _ _ _ _ (ap length cleared.clear.ensures ∙ length-replicate {A = ℕ} _ 0) concluded.pass.ensures c.before.before.clear2.ensures
+    settled _ _ _ _ _ _ start.requires.0 _ _ _ _ _ _ (ap length cleared.clear.ensures ∙ length-replicate {A = ℕ} _ 0) concluded.pass-verdict.ensures c.before.before.clear-2.ensures
 
-pub judge-in-spec : {M : Type 1} → statement M
-judge-in-spec =
+pub judge_in_spec : {M : Type 1} → statement M
+judge_in_spec =
     tie.close
     (tie.spec
     offsets-requires
