@@ -1,7 +1,6 @@
 -- Edges of the definitions, by computation, that no law of this crate needs and P1 to P12 (`examples`) see only from afar.
-use Prim.Native.Nat.{ℕ}
 use mathlib.Core.Path.{◌≡◌, refl}
-use mathlib.Core.List.{List, [], ◌∷◌, map}
+use mathlib.Core.List.{[], ◌∷◌, map}
 use mathlib.Core.Bool.{true, false}
 use mathlib.Core.Option.{none, some, bind}
 use lib.Dec.{leb}

@@ -19,7 +19,6 @@ use Rattle.model.specs.Witness.{rows_at}
 use Rattle.model.specs.Rules.{checked, check_answer}
 use Rattle.model.specs.Same.{SameTable}
 use Rattle.model.specs.Versions.{SameOtherBytes, SameAnswers}
-use Rattle.model.specs.declared.Edition.{Edition}
 use Rattle.model.specs.declared.TableParts.{TableParts}
 use Rattle.model.specs.declared.Reading.{Reading}
 use Rattle.model.proofs.Places.{get_or_column}

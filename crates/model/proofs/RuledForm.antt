@@ -4,7 +4,7 @@ use mathlib.Core.Path.{◌≡◌}
 use mathlib.Core.List.{List, [], ◌∷◌}
 use lib.Dec.{leb}
 use Rattle.model.specs.Limits.{device_limit, window_limit, size_limit}
-use Rattle.model.specs.First.{unless, first_of}
+use Rattle.model.specs.First.{unless}
 use Rattle.model.specs.Guard.{Guard, always, at_most, at_least, variable, negation, conjunction}
 use Rattle.model.specs.Rule.{Rule}
 use Rattle.model.specs.Monitor.{Monitor, under}

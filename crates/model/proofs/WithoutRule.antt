@@ -1,9 +1,8 @@
 -- A rule with l = 1 and k = 1 changes no answer: 25 and 26 pass where the table is sound, and the step is that without a rule.
 use Prim.Native.Nat.{ℕ, ◌≤◌}
 use native.Mathlib.Omega.{arith}
-use mathlib.Core.Path.{◌≡◌, refl, sym, ap, ◌∙◌}
+use mathlib.Core.Path.{◌≡◌, refl, ap, ◌∙◌}
 use mathlib.Core.List.{List, [], ◌∷◌}
-use lib.Dec.{leb}
 use borrow.Author.Tests.{le-leb}
 use Rattle.model.specs.Limits.{device_limit, size_limit}
 use Rattle.model.specs.First.{first_of}
