@@ -140,7 +140,7 @@ def turned_source(text, new, stay):
 
 
 def turned_page(text, new):
-    return re.sub(r"`[^`\n]+`", lambda m: turned(m[0], new, set()) if "/" not in m[0] else m[0], text)
+    return re.sub(r"`([^`\n]+)`", lambda m: "`" + turned(m[1], new, set()) + "`" if "/" not in m[1] else m[0], text)
 
 
 def main(argv):
