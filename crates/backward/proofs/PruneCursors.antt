@@ -3,17 +3,15 @@ use Prim.Native.Nat.{ℕ, zero, suc, ◌+◌, ◌-◌, ◌≤◌, ◌<◌}
 use native.Mathlib.Decide.{dec_lt}
 use native.Mathlib.Omega.{arith}
 use mathlib.Core.Path.{◌≡◌, refl, sym, ap, ◌∙◌}
-use mathlib.Core.List.{List, [], ◌∷◌, ◌++◌}
+use mathlib.Core.List.{List}
 use mathlib.Core.Bool.{Bool, true, false, cond, false≢true}
 use mathlib.Core.Option.{none, some}
 use lib.Dec.{ltb, eqb}
 use borrow.Author.Tests.{eq-eqb, eqb-true}
-use Rattle.model.specs.Bytes.{tab}
 use Rattle.model.specs.Monitor.{Monitor}
-use Rattle.model.specs.Trace.{Packet, PacketTrace}
+use Rattle.model.specs.Trace.{PacketTrace}
 use Rattle.model.specs.Recording.{count_at, time_at, row_kind_at, packets_at, end_of}
 use Rattle.model.proofs.Basics.{and_right}
-use Rattle.model.proofs.RecordingForm.{packet_at, packets-tab}
 use Rattle.situation.specs.Rows.{is_at, heard_at, Cursor}
 use Rattle.situation.proofs.Cursors.{at_row, times_rise}
 use Rattle.measures.proofs.Ends.{end-time}

@@ -1,5 +1,5 @@
 -- Cutting the situations from which the end cannot be reached, row by row, from the last to the first.
-use Rattle.std.specs.Prelude.{ℕ, ◌+◌, ◌-◌, ◌*◌, ◌<◌, ◌≤◌, ◌≡◌, ◌⊎◌, List, Bool, true, false, cond, ◌&&◌, length, get_or, ltb}
+use Rattle.std.specs.Prelude.{ℕ, ◌+◌, ◌-◌, ◌*◌, ◌<◌, ◌≤◌, ◌≡◌, ◌⊎◌, List, Bool, false, cond, ◌&&◌, length, get_or, ltb}
 use Rattle.std.proofs.Math.Option.{Option}
 use Rattle.model.specs.Size
 use Rattle.model.specs.Monitor.{Monitor}

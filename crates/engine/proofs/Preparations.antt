@@ -1,5 +1,5 @@
 -- Marks and planes are what the passes work with.
-use Prim.Native.Nat.{ℕ, ◌+◌, ◌*◌, ◌/◌, ◌≤◌, ◌<◌}
+use Prim.Native.Nat.{ℕ, ◌+◌, ◌*◌, ◌/◌, ◌≤◌}
 use native.Mathlib.Nat.{mul_assoc}
 use native.Mathlib.Omega.{arith}
 use mathlib.Core.Path.{◌≡◌, ap, ◌∙◌}
@@ -7,7 +7,6 @@ use mathlib.Core.List.{List}
 use lib.ListN.{length}
 use Rattle.words.specs.Words.{mem}
 use Rattle.monitor.specs.From.{transition_from, transition_count}
-use Rattle.instants.specs.Grid.{plane, assignments}
 use Rattle.firings.specs.Ready.{Guarded, Marked, apart_by}
 use Rattle.firings.proofs.GuardLaws.{planned_guards}
 use Rattle.planes.specs.Numbering.{holds_by}

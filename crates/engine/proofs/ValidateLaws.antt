@@ -7,19 +7,16 @@ use mathlib.Core.List.{List, [], ◌∷◌, ◌++◌}
 use lib.ListN.{length, take, drop, replicate}
 use lib.Seq.{length-take-le}
 use lib.Dec.{leb}
-use borrow.Author.Tests.{le-leb}
-use Rattle.model.specs.Bytes.{tab}
 use Rattle.model.specs.First.{unless, first_of}
 use Rattle.model.specs.Size
 use Rattle.model.specs.Edition.{rows_place, latest_time}
 use Rattle.model.specs.Monitor.{Monitor}
-use Rattle.model.specs.Trace.{Packet}
 use Rattle.model.specs.Table.{monitor_at, table_parts}
 use Rattle.model.specs.Recording.{recording_answer, count_at, packets_at, end_of}
 use Rattle.model.specs.Ruled.{monitor_under, ruled_answer, SoundUnder}
 use Rattle.model.specs.Witness.{witness_bytes}
-use Rattle.model.specs.Numbers.{verdict_values, verdict_counts, ruled_values, ruled_counts, Values}
-use Rattle.model.specs.Validation.{refusal_of, validation_of, refusal, validation, refusal_under, validation_under, ruled, verdict, preferred, scratch_wanted, room_wanted, scratch_by, room_by, scratch_left, room_left}
+use Rattle.model.specs.Numbers.{verdict_values, verdict_counts, ruled_values, ruled_counts}
+use Rattle.model.specs.Validation.{refusal_of, validation_of, validation, validation_under, ruled, verdict, preferred, scratch_wanted, room_wanted, scratch_by, room_by, scratch_left, room_left}
 use Rattle.model.specs.Late.{RefusesLate, RefusesLateUnder}
 use Rattle.model.specs.Claims.{ValuesOf, Judged, JudgedUnder}
 use Rattle.model.specs.declared.Rule.{Rule}
@@ -34,7 +31,7 @@ use Rattle.model.specs.declared.RuledVerdict.{RuledVerdict}
 use Rattle.model.specs.declared.TableParts.{TableParts}
 use Rattle.model.specs.Rule.{no_rule}
 use Rattle.model.proofs.Basics.{and_then-left, and_then-right, length-tab}
-use Rattle.model.proofs.Tests.{test, le_test, sound_unsound}
+use Rattle.model.proofs.Tests.{test, le_test}
 use Rattle.model.proofs.RecordingForm.{packet_at, packets-tab}
 use Rattle.model.proofs.NumberLaws.{ruled-values, ruled-counts}
 use Rattle.model.proofs.Judgement.{sound-judged, sound_judged_under}

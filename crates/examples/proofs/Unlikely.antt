@@ -1,7 +1,7 @@
 -- R-7 by computation: rules on the small monitor, whose kinds from the unit have device 0 and whose ACK has device 1.
 use Prim.Native.Nat.{ℕ, ◌<◌, ◌≤◌}
 use native.Mathlib.Omega.{arith}
-use mathlib.Core.Path.{◌≡◌, refl, sym, subst}
+use mathlib.Core.Path.{◌≡◌, refl, subst}
 use mathlib.Core.List.{List, [], ◌∷◌, ◌++◌, map}
 use Rattle.model.specs.Rule.{rule_of}
 use Rattle.model.specs.Trace.{Possible, PossibleUnder}

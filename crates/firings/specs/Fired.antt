@@ -1,5 +1,5 @@
 -- What transitions put where, fired on whole planes of situations' numbers: from the planes of a set to those of others, or back.
-use Rattle.std.specs.Prelude.{ℕ, ◌+◌, ◌*◌, ◌%◌, min, List, Bool, cond, ◌&&◌, get_or}
+use Rattle.std.specs.Prelude.{ℕ, ◌+◌, ◌*◌, ◌%◌, List, Bool, cond, ◌&&◌, get_or}
 use Rattle.model.specs.Rule.{window_behind, allows}
 use Rattle.model.specs.Monitor.{Monitor, Transition, changed, airtime}
 use Rattle.words.specs.Words.{bit, up, below, meet, any_below}

@@ -34,7 +34,7 @@ use Rattle.firings.specs.Ready.{Ready}
 use Rattle.images.specs.Buffers.{Kept}
 use Rattle.images.specs.Advanced.{Within, AdvancedTo}
 use Rattle.measures.specs.declared.Measures.{Measures}
-use Rattle.measures.specs.Setting.{monitor_by, Setting, RowHolds, LayersUpTo}
+use Rattle.measures.specs.Setting.{monitor_by, RowHolds, LayersUpTo}
 use Rattle.measures.specs.Working.{Holds}
 use Rattle.measures.specs.Roomy.{Roomy}
 use Rattle.forward.specs.Forwarding.{Turn, Turned}

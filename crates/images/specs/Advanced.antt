@@ -1,5 +1,5 @@
 -- What an instant makes of a set of situations' numbers, where a table is sound.
-use Rattle.std.specs.Prelude.{ℕ, ◌*◌, ◌<◌, ◌≤◌, ◌≡◌, List, Bool, false, ◌&&◌, length}
+use Rattle.std.specs.Prelude.{ℕ, ◌*◌, ◌<◌, ◌≤◌, ◌≡◌, List, false, ◌&&◌, length}
 use Rattle.std.proofs.Math.Option.{Option}
 use Rattle.model.specs.Monitor.{Monitor}
 use Rattle.words.specs.Words.{mem}
@@ -7,7 +7,6 @@ use Rattle.situation.specs.declared.Shape.{Shape}
 use Rattle.instants.specs.Forward.{forward}
 use Rattle.instants.specs.Backward.{backward}
 use Rattle.firings.specs.Ready.{Ready, Marked, Guarded}
-use Rattle.images.specs.Buffers.{Sized}
 
 -- what an instant goes by
 pub record Given (m : Monitor) (table offsets : List ℕ) (h : Shape) (size n : ℕ) (marks planes : List ℕ) : Type 0 where

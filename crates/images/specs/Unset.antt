@@ -1,6 +1,6 @@
 -- The sets for each choice of clocks that are reset, from set 0.
 use Rattle.std.specs.Prelude.{ℕ, ◌*◌, ◌<◌, ◌≡◌, List, true, false, length}
-use Rattle.words.specs.Words.{mem, bit}
+use Rattle.words.specs.Words.{bit}
 use Rattle.firings.specs.Folded.{set_at, spread_by}
 
 -- set 0 stays; where the others were empty, those that are worth it are what leads into set 0

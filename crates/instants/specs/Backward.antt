@@ -1,7 +1,7 @@
 -- An instant backward: the situations' numbers from which some move and then one tick lead into a set.
 use Rattle.std.specs.Prelude.{ℕ, ◌+◌, ◌-◌, ◌*◌, ◌/◌, ◌%◌, Bool, cond, ◌&&◌, ◌||◌, ltb, eqb}
 use Rattle.std.proofs.Math.Option.{Option, none, some}
-use Rattle.model.specs.Monitor.{Monitor, Transition, to_unit, airtime}
+use Rattle.model.specs.Monitor.{Monitor, to_unit, airtime}
 use Rattle.words.specs.Words.{up, below}
 use Rattle.instants.specs.Digit.{raised, zeroed}
 use Rattle.instants.specs.Grid.{firsts, seconds, plane, free}

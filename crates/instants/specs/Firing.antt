@@ -1,12 +1,12 @@
 -- One transition fired from a window and variables: a plane of numbers goes to another plane, where the guard holds.
-use Rattle.std.specs.Prelude.{ℕ, ◌+◌, ◌*◌, ◌/◌, ◌%◌, Bool, true, false, cond, ◌&&◌, length, eqb}
+use Rattle.std.specs.Prelude.{ℕ, ◌+◌, ◌*◌, Bool, true, false, ◌&&◌, length, eqb}
 use Rattle.std.proofs.Math.Option.{Option, none, some}
 use Rattle.std.proofs.Math.ListN.{get_elem?}
 use Rattle.model.specs.Guard.{holds}
 use Rattle.model.specs.Rule.{masks, window_behind, allows}
 use Rattle.model.specs.Monitor.{Monitor, Transition, changed, airtime, is_guess}
-use Rattle.words.specs.Words.{up, below, any_below}
-use Rattle.instants.specs.Grid.{plane, plane_at, assignments, free, clocks_at}
+use Rattle.words.specs.Words.{any_below}
+use Rattle.instants.specs.Grid.{plane_at, assignments, free, clocks_at}
 
 -- where something is recorded, only transitions on its kind fire, and it is no guess; where nothing is, each transition adds a row of its own kind
 

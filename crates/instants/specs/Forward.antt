@@ -1,7 +1,7 @@
 -- An instant forward: what the moves and then one tick make of a set of situations' numbers.
 use Rattle.std.specs.Prelude.{ℕ, ◌+◌, ◌*◌, ◌%◌, Bool, ◌&&◌, ◌||◌, ltb, eqb}
 use Rattle.std.proofs.Math.Option.{Option, none, some}
-use Rattle.model.specs.Monitor.{Monitor, Transition, to_unit, airtime}
+use Rattle.model.specs.Monitor.{Monitor, to_unit, airtime}
 use Rattle.words.specs.Words.{up, below}
 use Rattle.instants.specs.Digit.{raised_set, zeroed_set}
 use Rattle.instants.specs.Grid.{firsts, seconds, plane, free}

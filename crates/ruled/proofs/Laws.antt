@@ -6,7 +6,7 @@ use mathlib.Core.List.{List}
 use mathlib.Core.Bool.{true, false, false≢true}
 use Rattle.model.specs.First.{and_then, is_sound}
 use Rattle.model.specs.Limits.{size_limit}
-use Rattle.model.specs.Monitor.{Monitor, under}
+use Rattle.model.specs.Monitor.{Monitor}
 use Rattle.model.specs.Size.{table_size, cap}
 use Rattle.model.specs.Table.{table_answer, table_parts, read_table, monitor_of, monitor_at}
 use Rattle.model.specs.Recording.{recording_scan, recording_answer}

@@ -4,7 +4,7 @@ use lib.Dec.{leb}
 use lib.ListN.{drop}
 use Rattle.model.specs.Recording.{packets_at}
 use Rattle.row_tests.specs.Under.{ruled_from}
-use borrow.Author.Tests.{not-true, not-false, lt-leb}
+use borrow.Author.Tests.{lt-leb}
 use mathlib.Core.Bool.{true, false}
 use mathlib.Core.Path.{refl, sym, ◌∙◌}
 use borrow.Author.Rules.{rules}

@@ -1,7 +1,6 @@
 use Rattle.account.proofs.Steps.{stepped_as, not_added, added-sent}
 use Rattle.model.specs.Recording.{packets_at}
 use Rattle.row_tests.specs.Under.{ruled_from}
-use borrow.Author.Tests.{not-true, not-false}
 use mathlib.Core.Path.{sym, ◌∙◌}
 use borrow.Author.Rules.{rules}
 use Rattle.account.proofs.add_row.Statement.{statement}

@@ -1,7 +1,6 @@
 use Rattle.account.proofs.Steps.{stepped_as, not_next_kept, kept-sent}
 use Rattle.model.specs.Recording.{packets_at}
 use Rattle.row_tests.specs.Under.{ruled_from}
-use borrow.Author.Tests.{not-true, not-false}
 use mathlib.Core.Path.{sym, ◌∙◌}
 use native.Mathlib.Omega.{arith}
 use borrow.Author.Rules.{rules}

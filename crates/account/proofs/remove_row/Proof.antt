@@ -2,7 +2,6 @@ use Rattle.account.proofs.Steps.{stepped_as, not_removed, removed-step}
 use Rattle.model.specs.Monitor.{to_unit}
 use Rattle.model.specs.Recording.{packets_at}
 use Rattle.row_tests.specs.Under.{ruled_from}
-use borrow.Author.Tests.{not-true, not-false}
 use mathlib.Core.Bool.{true, false}
 use mathlib.Core.Path.{refl, sym, ◌∙◌}
 use native.Mathlib.Omega.{arith}

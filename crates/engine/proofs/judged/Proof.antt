@@ -9,7 +9,6 @@ use Rattle.model.specs.Recording.{packets_at, end_of}
 use Rattle.model.specs.Ruled.{monitor_under, ruled_answer, SoundUnder}
 use Rattle.model.specs.Table.{table_parts}
 use Rattle.model.specs.Validation.{scratch_wanted, room_wanted, refusal_of}
-use Rattle.model.specs.declared.Reading.{Reading}
 use Rattle.measures.proofs.Rows.{product}
 use Rattle.engine.proofs.ValidateLaws.{unread, scratch-is, room-is, refused, by_lent, lent_enough, row-few, judging, judged_part}
 use Rattle.engine.proofs.judged.Statement.{statement}

@@ -1,14 +1,9 @@
-use Prim.Native.Nat.{ℕ, ◌+◌, ◌-◌, ◌≤◌}
-use native.Mathlib.Omega.{arith}
-use mathlib.Core.Path.{◌≡◌, sym, subst, ◌∙◌}
-use mathlib.Core.List.{List, []}
-use mathlib.Core.Logic.{⊎_elim}
-use borrow.Author.Rules.{rules}
+use Prim.Native.Nat.{ℕ, ◌-◌, ◌≤◌}
+use mathlib.Core.List.{List}
 use Rattle.words.specs.Words.{Joined}
 use Rattle.monitor.specs.From.{transition_from}
 use Rattle.situation.specs.Ruled.{ruled_from}
 use Rattle.firings.specs.Fired.{fired_by}
-use Rattle.firings.proofs.Planes.{windows_none, windows-more, windows-over}
 use Rattle.firings.proofs.fire_windows.Given as goal
 
 abbrev pub invariant-loop-w : goal.invariant-loop-w

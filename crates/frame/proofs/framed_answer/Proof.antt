@@ -1,4 +1,4 @@
-use borrow.Author.Tests.{le-leb, lt-leb, eq-eqb, ne_eqb, not-true, not-false}
+use borrow.Author.Tests.{le-leb, lt-leb, eq-eqb, ne_eqb}
 use Rattle.model.specs.Frame.{framed}
 use borrow.Author.Rules.{rules}
 use Rattle.frame.proofs.framed_answer.Statement.{statement}

@@ -1,12 +1,11 @@
 -- One recursion over a guard's bytes. The measure is the number of bytes that remain: a guard inside starts behind its code, and the second of a conjunction where the first ends.
-use Prim.Native.Nat.{◌+◌, ℕ, ◌<◌, ◌-◌}
+use Prim.Native.Nat.{◌+◌, ℕ, ◌-◌}
 use native.Mathlib.Omega.{arith}
 use mathlib.Core.Path.{◌≡◌, sym, ap, ◌∙◌}
 use Rattle.model.specs.Guard.{GuardRead, guard_at}
 use Rattle.guard.specs.Guards.{opposite, both}
 use Rattle.guard.specs.declared.Seen.TheVariants.{UpTo}
 use Rattle.guard.proofs.Guards.{guard_none, guard_out, guard_leaf, guard_not, guard_and, seen_none, seen_not, seen_and, seen-past}
-use borrow.Author.Rules.{rules}
 use Rattle.guard.proofs.+guard_seen.Goals as goal
 
 pub returns-then-depth-eq0 : goal.returns-then-depth-eq0

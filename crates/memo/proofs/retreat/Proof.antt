@@ -2,8 +2,6 @@ use native.Mathlib.Omega.{arith}
 use mathlib.Core.Path.{refl, ◌∙◌}
 use Rattle.situation.specs.Rows.{heard_of}
 use Rattle.memo.proofs.Entries.{recalled_back, kept_back}
-use lib.ListN.{length}
-use borrow.Author.Tests.{eqb-true, not-false}
 use borrow.Author.Rules.{rules}
 use Rattle.memo.proofs.retreat.Statement.{statement}
 use Rattle.memo.proofs.retreat.Tie as tie

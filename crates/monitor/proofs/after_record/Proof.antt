@@ -1,5 +1,5 @@
-use mathlib.Core.Path.{◌≡◌, sym, ◌∙◌}
-use lib.ListN.{length, length-map}
+use mathlib.Core.Path.{◌≡◌}
+use lib.ListN.{length}
 use Rattle.monitor.proofs.Records.{after_with}
 use borrow.Author.Rules.{rules}
 use Rattle.monitor.proofs.after_record.Statement.{statement}

@@ -1,15 +1,13 @@
 -- the first guard of a conjunction is there: where it ends, and room for two sets
 use native.Mathlib.Omega.{arith}
-use Prim.Native.Nat.{◌+◌, ◌-◌, ◌*◌, ◌≤◌, ℕ, ◌<◌}
-use mathlib.Core.Path.{◌≡◌, refl, sym, ◌∙◌}
+use Prim.Native.Nat.{◌+◌, ◌-◌, ◌*◌, ◌≤◌, ℕ}
+use mathlib.Core.Path.{refl, sym, ◌∙◌}
 use lib.ListN.{length}
-use Rattle.model.specs.Guard.{GuardRead, guard_at, conjunction}
+use Rattle.model.specs.Guard.{GuardRead, guard_at}
 use Rattle.guard.proofs.Guards.{guard_none, guard_out, guard_leaf, guard_not, guard_and}
-use Rattle.planes.specs.declared.Ended.TheVariants.{At}
 use Rattle.planes.proofs.Forms.{built_none, built_not, built_inside, built_and, read_within}
 use Rattle.planes.proofs.Room.{room_in, room_one, room_two, room_next, first-length, first_not, first_built, rest-length, rest-common}
 use borrow.Rule.Slice.PartMut.{same_len_mid}
-use borrow.Author.Rules.{rules}
 use Rattle.planes.proofs.+guard_set.Goals as goal
 
 pub returns-then-depth-eq0 : goal.returns-then-depth-eq0

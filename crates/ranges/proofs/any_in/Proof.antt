@@ -2,10 +2,6 @@ use native.Mathlib.Omega.{arith}
 use borrow.Author.Rules.{rules}
 use Rattle.ranges.proofs.any_in.Statement.{statement}
 use Rattle.ranges.proofs.any_in.Tie as tie
-use Rattle.ranges.proofs.any_in.Reads as reads
-use Rattle.ranges.proofs.any_in.Lts as lts
-use Rattle.ranges.proofs.any_long.Reads as any-long-reads
-use Rattle.ranges.proofs.any_rest.Reads as any-rest-reads
 
 -- src/range.rt:182:9
 any-rest-requires : tie.Need-any_rest-requires

@@ -3,10 +3,6 @@ use native.Mathlib.Omega.{arith}
 use borrow.Author.Rules.{rules}
 use Rattle.ranges.proofs.or_range.Statement.{statement}
 use Rattle.ranges.proofs.or_range.Tie as tie
-use Rattle.ranges.proofs.or_range.Reads as reads
-use Rattle.ranges.proofs.or_range.Lts as lts
-use Rattle.ranges.proofs.or_long.Reads as or-long-reads
-use Rattle.ranges.proofs.or_rest.Reads as or-rest-reads
 
 -- src/lib.rt:184:9
 or-rest-requires : tie.Need-or_rest-requires

@@ -4,7 +4,6 @@ use native.Mathlib.Omega.{arith}
 use native.Mathlib.Numerals.{add-one}
 use mathlib.Core.Path.{◌≡◌, refl, ◌∙◌}
 use lib.ListN.{length}
-use borrow.Author.Tests.{not-true}
 use borrow.Author.Rules.{rules}
 use Rattle.model.specs.Table.{monitor_of}
 use Rattle.reach.proofs.Closes.{Closing, closing_first, closing_next, closing_all, closing_still, transitions-many}

@@ -1,7 +1,6 @@
 -- `reach::lead` meets its contract.
 use native.Mathlib.Omega.{arith}
 use mathlib.Core.Path.{sym, ◌∙◌}
-use borrow.Author.Tests.{not-true, not-false}
 use borrow.Author.Rules.{rules}
 use Rattle.reach.proofs.Spreads.{tried_away, tried_already, tried_put}
 use Rattle.reach.proofs.lead.Statement.{statement}

@@ -1,6 +1,4 @@
 use native.Mathlib.Omega.{arith}
-use mathlib.Core.Path.{sym, ◌∙◌}
-use lib.ListN.{length-map}
 use borrow.Author.Rules.{rules}
 use Rattle.read_back.proofs.Kept.{table_fits, table_read, table_unwritten}
 use Rattle.read_back.proofs.table_back.Statement.{statement}

@@ -1,5 +1,5 @@
 use mathlib.Core.Path.{sym, ◌∙◌}
-use borrow.Author.Tests.{le-leb, lt-leb, not-true, not-false}
+use borrow.Author.Tests.{le-leb, lt-leb}
 use Rattle.model.specs.Recording.{recording_early}
 use Rattle.frame.proofs.Answers.{stops, goes}
 use borrow.Author.Rules.{rules}

@@ -1,5 +1,4 @@
 use mathlib.Core.Path.{sym, ◌∙◌}
-use borrow.Author.Tests.{not-true, not-false}
 use Rattle.model.specs.Recording.{recording_parts}
 use Rattle.model.proofs.AnswerLaws.{recording_reads}
 use Rattle.recordings.proofs.Recordings.{count_bound, read_refused, read_sound}

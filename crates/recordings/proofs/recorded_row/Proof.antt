@@ -1,4 +1,4 @@
-use borrow.Author.Tests.{le-leb, lt-leb, le-ltb, lt-ltb, not-true, not-false}
+use borrow.Author.Tests.{le-leb, lt-leb, le-ltb, lt-ltb}
 use native.Mathlib.Omega.{arith}
 use Rattle.model.specs.Limits.{time_limit}
 use Rattle.model.specs.Recording.{recorded_row}

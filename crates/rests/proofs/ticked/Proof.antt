@@ -1,5 +1,5 @@
-use mathlib.Core.Path.{◌≡◌, sym, ◌∙◌}
-use lib.ListN.{length, length-map}
+use mathlib.Core.Path.{◌≡◌}
+use lib.ListN.{length}
 use Rattle.rests.proofs.Ticks.{ticked_with}
 use borrow.Author.Rules.{rules}
 use Rattle.rests.proofs.ticked.Statement.{statement}

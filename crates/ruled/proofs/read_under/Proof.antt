@@ -1,6 +1,5 @@
 use mathlib.Core.Path.{sym, ◌∙◌}
 use Rattle.ruled.proofs.Laws.{table_refused, scan_refused, rule-answered}
-use borrow.Author.Tests.{not-true, not-false}
 use borrow.Author.Rules.{rules}
 use Rattle.ruled.proofs.read_under.Statement.{statement}
 use Rattle.ruled.proofs.read_under.Tie as tie

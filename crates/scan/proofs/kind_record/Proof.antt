@@ -1,4 +1,4 @@
-use borrow.Author.Tests.{le-leb, lt-leb, not-true, not-false}
+use borrow.Author.Tests.{le-leb, lt-leb}
 use Rattle.model.specs.Kinds.{kind_record}
 use borrow.Author.Rules.{rules}
 use Rattle.scan.proofs.kind_record.Statement.{statement}

@@ -1,4 +1,3 @@
-use borrow.Author.Tests.{not-true, not-false}
 use borrow.Author.Rules.{rules}
 use Rattle.scan.proofs.masks_fit.Statement.{statement}
 use Rattle.scan.proofs.masks_fit.Tie as tie

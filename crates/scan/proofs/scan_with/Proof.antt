@@ -1,5 +1,4 @@
 use mathlib.Core.Path.{sym, ◌∙◌}
-use borrow.Author.Tests.{not-true, not-false}
 use Rattle.model.specs.Table.{scan_with}
 use Rattle.model.proofs.Tests.{then_sound}
 use Rattle.frame.proofs.Answers.{stops, goes}

@@ -1,5 +1,4 @@
 use mathlib.Core.Path.{refl}
-use borrow.Author.Tests.{not-true, not-false}
 use Rattle.scan.proofs.Scans.{fields_row}
 use borrow.Author.Rules.{rules}
 use Rattle.scan.proofs.transition_fields.Statement.{statement}

@@ -1,4 +1,4 @@
-use borrow.Author.Tests.{le-leb, lt-leb, not-true, not-false}
+use borrow.Author.Tests.{le-leb, lt-leb}
 use mathlib.Core.Path.{sym, ◌∙◌}
 use Rattle.frame.proofs.Answers.{stops, goes}
 use Rattle.scan.proofs.Scans.{record_row}

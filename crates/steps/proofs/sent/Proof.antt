@@ -2,7 +2,6 @@ use Prim.Native.Nat.{ℕ}
 use mathlib.Core.Bool.{true}
 use mathlib.Core.Path.{◌≡◌, ap, sym, ◌∙◌}
 use borrow.Author.Rules.{rules}
-use borrow.Author.Tests.{not-true, not-false}
 use Rattle.model.specs.Rule.{allows}
 use Rattle.model.specs.Monitor.{Monitor, fires, airtime}
 use Rattle.model.specs.declared.Situation.{Situation}

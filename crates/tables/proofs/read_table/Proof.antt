@@ -4,7 +4,6 @@ use mathlib.Core.Path.{sym, ◌∙◌}
 use Rattle.model.proofs.AnswerLaws.{table_reads}
 use Rattle.frame.proofs.Answers.{turn-stops, turn-goes, sound-is}
 use Rattle.tables.proofs.Tables.{scan_bounds, read_all, read_scan, whole_of, read_refused, read_sound}
-use borrow.Author.Tests.{not-true, not-false}
 use borrow.Author.Rules.{rules}
 use Rattle.tables.proofs.read_table.Statement.{statement}
 use Rattle.tables.proofs.read_table.Tie as tie

@@ -1,6 +1,4 @@
 use mathlib.Core.Path.{sym, ◌∙◌}
-use lib.ListN.{length-map}
-use borrow.Author.Tests.{not-true, not-false}
 use Rattle.tables.proofs.Encoded.{writable_refused, writable_whole}
 use borrow.Author.Rules.{rules}
 use Rattle.tables.proofs.writable.Statement.{statement}

@@ -1,13 +1,12 @@
 use Prim.Native.Nat.{◌-◌}
 use native.Mathlib.Omega.{arith}
 use mathlib.Core.Path.{◌≡◌, refl, sym, ap, ◌∙◌}
-use lib.ListN.{replicate, length-map}
+use lib.ListN.{replicate}
 use Rattle.model.specs.First.{is_sound}
 use Rattle.model.specs.Table.{table_bytes, table_limit}
 use Rattle.model.proofs.AnswerLaws.{table_writes}
 use Rattle.tables.proofs.Encoded.{write-version, write-early, write-late, counts-within}
 use Rattle.frame.proofs.Written.{taken}
-use borrow.Author.Tests.{not-true, not-false}
 use borrow.Author.Rules.{rules}
 use Rattle.tables.proofs.write_table.Statement.{statement}
 use Rattle.tables.proofs.write_table.Tie as tie

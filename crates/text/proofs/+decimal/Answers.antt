@@ -1,6 +1,5 @@
-use Prim.Native.Nat.{ℕ, ◌-◌, ◌/◌, ◌<◌}
+use Prim.Native.Nat.{◌-◌, ◌/◌}
 use native.Mathlib.Omega.{arith}
-use borrow.Author.Rules.{rules}
 use Rattle.text.proofs.Stores.{wrote_none, wrote-more}
 use Rattle.text.proofs.Digits.{digits_none, digits_last, digits_more, digits-length}
 use Rattle.text.proofs.+decimal.Goals as goal

@@ -1,5 +1,4 @@
 use mathlib.Core.Path.{sym, ◌∙◌}
-use borrow.Author.Tests.{not-true, not-false}
 use Rattle.witness.proofs.Laws.{place_unformed, place-first, place-behind}
 use Rattle.witness.specs.Rows.{before_of}
 use borrow.Author.Rules.{rules}

@@ -2,7 +2,6 @@ use Prim.Native.Nat.{◌≤◌, ◌-◌}
 use native.Mathlib.Omega.{arith}
 use mathlib.Core.Option.{none}
 use mathlib.Core.Path.{◌≡◌, sym, ap, ◌∙◌}
-use borrow.Author.Tests.{not-true, not-false}
 use Rattle.model.specs.Bytes.{tab}
 use Rattle.model.specs.Witness.{misformed, bad_row, row_at}
 use Rattle.witness.proofs.Laws.{scan_at, scan_all, scan_next, scan_stops, scan_ends}

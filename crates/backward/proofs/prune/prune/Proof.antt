@@ -6,7 +6,6 @@ use mathlib.Core.Path.{refl, sym, subst, ◌∙◌}
 use mathlib.Core.Bool.{false≢true}
 use lib.ListN.{length}
 use borrow.Author.Rules.{rules}
-use borrow.Author.Tests.{not-true, not-false}
 use Rattle.situation.specs.Rows.{Cursor}
 use Rattle.images.specs.Buffers.{Kept}
 use Rattle.measures.specs.Roomy.{Roomy}

@@ -1,7 +1,6 @@
 -- `backward::walk::put_move` meets its contract.
 use native.Mathlib.Omega.{arith}
 use mathlib.Core.Path.{refl, sym}
-use borrow.Author.Rules.{rules}
 use Rattle.model.specs.Table.{monitor_at}
 use Rattle.situation.specs.Rows.{heard_of}
 use Rattle.backward.proofs.WalkRoom.{rows_put_same, rows_put_length}

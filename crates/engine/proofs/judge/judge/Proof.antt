@@ -1,12 +1,7 @@
-use native.Mathlib.Omega.{arith}
 use Rattle.measures.proofs.Grounds.{preparing}
 use borrow.Author.Rules.{rules}
 use Rattle.engine.proofs.judge.judge.Statement.{statement}
 use Rattle.engine.proofs.judge.judge.Tie as tie
-use Rattle.engine.proofs.judge.judge.Reads as reads
-use Rattle.engine.proofs.judge.judge.Lts as lts
-use Rattle.engine.proofs.judge.judge_small.Reads as judge-small-reads
-use Rattle.engine.proofs.judge.judge_wide.Reads as judge-wide-reads
 
 -- src/judge.rt:312:9
 judge-small-requires : tie.Need-judge_small-requires

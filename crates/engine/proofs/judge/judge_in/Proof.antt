@@ -1,6 +1,5 @@
 use Prim.Native.Nat.{ℕ, ◌+◌, ◌*◌, ◌≤◌}
-use native.Mathlib.Omega.{arith}
-use mathlib.Core.Path.{◌≡◌, sym, ap, subst, ◌∙◌}
+use mathlib.Core.Path.{sym, ap, subst, ◌∙◌}
 use mathlib.Core.List.{List}
 use lib.ListN.{length, replicate, length-replicate}
 use Rattle.measures.specs.Working.{Preparing}
@@ -9,12 +8,6 @@ use Rattle.engine.proofs.JudgeLaws.{settled}
 use borrow.Author.Rules.{rules}
 use Rattle.engine.proofs.judge.judge_in.Statement.{statement}
 use Rattle.engine.proofs.judge.judge_in.Tie as tie
-use Rattle.engine.proofs.judge.judge_in.Reads as reads
-use Rattle.engine.proofs.judge.judge_in.Lts as lts
-use Rattle.bits.proofs.clear.Reads as clear_reads
-use Rattle.engine.proofs.judge.pass.Reads as pass-reads
-use Rattle.engine.proofs.judge.prepare.Reads as prepare-reads
-use Rattle.monitor.proofs.offsets.Reads as offsets-reads
 
 -- src/judge.rt:190:17
 offsets-requires : tie.Need-offsets-found-requires

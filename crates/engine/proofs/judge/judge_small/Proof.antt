@@ -1,13 +1,7 @@
-use native.Mathlib.Omega.{arith}
-use lib.ListN.{length-replicate}
-use lib.Seq.{length-take-le}
 use borrow.Author.Rules.{rules}
 use Rattle.engine.proofs.JudgeLaws.{rooms, small}
 use Rattle.engine.proofs.judge.judge_small.Statement.{statement}
 use Rattle.engine.proofs.judge.judge_small.Tie as tie
-use Rattle.engine.proofs.judge.judge_small.Reads as reads
-use Rattle.engine.proofs.judge.judge_small.Lts as lts
-use Rattle.engine.proofs.judge.judge_in.Reads as judge-in-reads
 
 mul-four : tie.Need-overflow_mul-four
 mul-four c = search rules

@@ -1,15 +1,10 @@
-use Prim.Native.Nat.{ℕ, ◌+◌, ◌*◌, ◌≤◌}
 use native.Mathlib.Omega.{arith}
-use mathlib.Core.Path.{◌≡◌, sym, subst, ◌∙◌}
+use mathlib.Core.Path.{◌∙◌}
 use Rattle.measures.proofs.Rows.{product}
 use Rattle.engine.proofs.Preparations.{numbers-few, words-few, working}
 use borrow.Author.Rules.{rules}
 use Rattle.engine.proofs.judge.prepare.Statement.{statement}
 use Rattle.engine.proofs.judge.prepare.Tie as tie
-use Rattle.engine.proofs.judge.prepare.Reads as reads
-use Rattle.engine.proofs.judge.prepare.Lts as lts
-use Rattle.images.proofs.marks.mark_clocks.Reads as mark-clocks-reads
-use Rattle.planes.proofs.guards.Reads as guards-reads
 
 -- src/judge.rt:155:5
 mark-clocks-requires : tie.Need-mark_clocks-requires

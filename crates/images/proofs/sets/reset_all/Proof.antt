@@ -1,4 +1,3 @@
-use native.Mathlib.Omega.{arith}
 use mathlib.Core.Path.{◌∙◌}
 use Rattle.images.proofs.SetLaws.{reset_by}
 use borrow.Author.Rules.{rules}

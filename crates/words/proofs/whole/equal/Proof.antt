@@ -1,7 +1,7 @@
 use Prim.Native.Nat.{ℕ, ◌+◌, ◌-◌, ◌≤◌, ◌<◌}
 use native.Mathlib.Omega.{arith}
 use native.Mathlib.Decide.{dec_lt}
-use mathlib.Core.Path.{◌≡◌, refl, sym, ap, subst}
+use mathlib.Core.Path.{◌≡◌, refl, ap, subst}
 use mathlib.Core.List.{List}
 use mathlib.Core.Bool.{false≢true}
 use lib.ListN.{length, get_or}
@@ -9,8 +9,6 @@ use lib.Seq.{ext_get_or}
 use borrow.Author.Rules.{rules}
 use Rattle.words.proofs.whole.equal.Statement.{statement}
 use Rattle.words.proofs.whole.equal.Tie as tie
-use Rattle.words.proofs.whole.equal.Reads as reads
-use Rattle.words.proofs.whole.equal.Lts as lts
 
 abbrev invariant-loop : tie.invariant-loop-k
 invariant-loop a b k₀ k = (k ≤ length a) × (length a ≡ length b) × ((i : ℕ) → i < k → get_or a i 0 ≡ get_or b i 0)
