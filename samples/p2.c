@@ -3,7 +3,7 @@
  *    0 1 1
  *    00 08 01 00 01 00 00 01 00 00
  *
- * rt staticlib lutarosa
+ * tools/staticlib
  * gcc -std=c11 -Wall -Wextra -pedantic -Iinclude samples/p2.c target/staticlib/liblutarosa.a -o /tmp/p2 && /tmp/p2
  */
 #include <inttypes.h>

@@ -1,7 +1,7 @@
 /* A handover of a minute through the C interface, in edition 2 of the witness: judged, and the witness checked.
  * What scratch and room it takes is asked of the library: 30 and 31 name the bytes wanted.
  *
- * rt staticlib lutarosa
+ * tools/staticlib
  * gcc -std=c11 -Wall -Wextra -pedantic -Iinclude samples/r05.c target/staticlib/liblutarosa.a -o /tmp/r05
  * /tmp/r05 samples/small.table samples/r05.recording
  *

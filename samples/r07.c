@@ -1,7 +1,7 @@
 /* A measured loss rate through the C interface (R-7): one recording judged under five rules, and the witness that the
  * first of them leaves, which forbids nothing, checked against the third.
  *
- * rt staticlib lutarosa
+ * tools/staticlib
  * gcc -std=c11 -Wall -Wextra -pedantic -Iinclude samples/r07.c target/staticlib/liblutarosa.a -o /tmp/r07
  * /tmp/r07 samples/small.table samples/r07.recording
  *

@@ -5,8 +5,8 @@
 ghost use Rattle.std.specs.Prelude.{◌<◌, length};
 ghost use Rattle.desk.specs.Program.{Within, Printed};
 
-use std::env;
-use std::io::{self, IsTerminal, Read, Write};
+use std::env::{Env, FillError};
+use std::io::{IsTerminal, Read, Write};
 
 // What reading standard input came to.
 #[derive(Clone, Copy)]
@@ -45,24 +45,40 @@ fn answer(input: &[u8], text: &mut [u8]) -> usize
     lines::lines(input, &mut scratch, &mut room, text)
 }
 
-fn main(rt: HostRuntime) -> io::Result<()> {
-    let words = env::args(&rt)?.count();
+// Is there an argument behind the program's name? One that does not fit the buffer is one all the same.
+fn has_argument<E: Env>(rt: &E) -> bool {
+    let mut byte = [0u8; 1];
+    match rt.arg(1, &mut byte) {
+        Ok(_) => true,
+        Err(FillError::TooLong) => true,
+        Err(FillError::NotPresent) => false,
+    }
+}
+
+// A line on standard error. Where it cannot be written, nothing is left to say.
+fn complain<W: Write>(stderr: &mut W, line: &[u8]) {
+    let _written = stderr.write_all(line).is_ok();
+}
+
+fn main(rt: HostRuntime) {
     let mut stdin = rt.stdin();
     let mut stderr = rt.stderr();
-    if words > 1 || stdin.is_terminal() {
-        return stderr.write_all(
+    if has_argument(&rt) || stdin.is_terminal() {
+        complain(
+            &mut stderr,
             b"usage: desk < HANDOVER   (a table, a recording and a four-byte budget, at most 8,192 bytes; see README.md)\n",
         );
+        return;
     }
     let mut input = [0u8; 8193];
     let reading = read_input(&mut stdin, &mut input);
     let Input::Whole { bytes } = reading else {
-        return stderr.write_all(b"desk: standard input could not be read\n");
+        complain(&mut stderr, b"desk: standard input could not be read\n");
+        return;
     };
     let mut text = [0u8; 400000];
     let count = answer(&input[0..bytes], &mut text);
     if rt.stdout().write_all(&text[0..count]).is_err() {
-        return stderr.write_all(b"desk: standard output could not be written\n");
+        complain(&mut stderr, b"desk: standard output could not be written\n");
     }
-    Ok(())
 }
