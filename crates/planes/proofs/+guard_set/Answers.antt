@@ -1,12 +1,13 @@
--- the first guard of a conjunction is there: where it ends, and room for two sets
+-- One recursion over a guard's bytes, as in `guard`: each guard is built into the first words that are lent, the second of a conjunction into those behind them.
 use native.Mathlib.Omega.{arith}
-use Prim.Native.Nat.{◌+◌, ◌-◌, ◌*◌, ◌≤◌, ℕ}
+use Prim.Native.Nat.{◌+◌, ◌-◌, ◌≤◌, ℕ}
 use mathlib.Core.Path.{refl, sym, ◌∙◌}
 use lib.ListN.{length}
 use Rattle.model.specs.Guard.{GuardRead, guard_at}
 use Rattle.guard.proofs.Guards.{guard_none, guard_out, guard_leaf, guard_not, guard_and}
-use Rattle.planes.proofs.Forms.{built_none, built_not, built_inside, built_and, read_within}
-use Rattle.planes.proofs.Room.{room_in, room_one, room_two, room_next, first-length, first_not, first_built, rest-length, rest-common}
+use Rattle.planes.proofs.Forms.{built_none, built_not, built_inside, built_and}
+use Rattle.planes.proofs.Inside.{inside}
+use Rattle.planes.proofs.Room.{room_in, room_one, room_next, first-length, first_not, first_built, rest-length, rest-common}
 use borrow.Rule.Slice.PartMut.{same_len_mid}
 use Rattle.planes.proofs.+guard_set.Goals as goal
 
@@ -61,29 +62,29 @@ offset_bounds-stack-n t c = record { fits = omega (arith, c.requires.2) }
 
 pub slice_bounds-guard_set-count : goal.slice_bounds-guard_set-count
 slice_bounds-guard_set-count t c =
-    let w = read_within c.args.q.variables c.args.q.clocks c.args.b.now c.args.end (c.args.depth - 1) (c.args.at + 1) c.in-At.next (sym c.in-At.is ∙ c.guard_set-inner-then-code-eq5.ensures.ends) in
-    let room : 2 * c.args.n ≤ length c.guard_set-inner-then-code-eq5.new.stack = omega (arith, c.requires.0, c.guard_set-inner-then-code-eq5.auto.stack, room_two c.args.n c.args.depth c.args.at c.args.end (omega (arith, w.2)) w.1) in
+    let inner = c.guard_set-inner-then-code-eq5 in
+    let there = inside c.args.q.variables c.args.q.clocks c.args.b.now c.args.n c.args.depth c.args.at c.args.end c.in-At.next _ _ (sym c.in-At.is ∙ inner.ensures.ends) c.requires.0 inner.auto.stack in
     omega arith
 
 pub slice_bounds-guard_set-start : goal.slice_bounds-guard_set-start
 slice_bounds-guard_set-start t c =
-    let w = read_within c.args.q.variables c.args.q.clocks c.args.b.now c.args.end (c.args.depth - 1) (c.args.at + 1) c.in-At.next (sym c.in-At.is ∙ c.guard_set-inner-then-code-eq5.ensures.ends) in
-    let room : 2 * c.args.n ≤ length c.guard_set-inner-then-code-eq5.new.stack = omega (arith, c.requires.0, c.guard_set-inner-then-code-eq5.auto.stack, room_two c.args.n c.args.depth c.args.at c.args.end (omega (arith, w.2)) w.1) in
+    let inner = c.guard_set-inner-then-code-eq5 in
+    let there = inside c.args.q.variables c.args.q.clocks c.args.b.now c.args.n c.args.depth c.args.at c.args.end c.in-At.next _ _ (sym c.in-At.is ∙ inner.ensures.ends) c.requires.0 inner.auto.stack in
     omega arith
 
 pub guard_set-second-requires : goal.guard_set-second-requires
 guard_set-second-requires t c =
     let a = c.args in
     let h = c.requires in
-    let stack = c.guard_set-inner-then-code-eq5.new.stack in
+    let inner = c.guard_set-inner-then-code-eq5 in
+    let there = inside c.args.q.variables c.args.q.clocks c.args.b.now c.args.n c.args.depth c.args.at c.args.end c.in-At.next _ _ (sym c.in-At.is ∙ inner.ensures.ends) c.requires.0 inner.auto.stack in
+    let stack = inner.new.stack in
     let next = c.in-At.next in
-    let w = read_within c.args.q.variables c.args.q.clocks c.args.b.now c.args.end (c.args.depth - 1) (c.args.at + 1) c.in-At.next (sym c.in-At.is ∙ c.guard_set-inner-then-code-eq5.ensures.ends) in
-    let room : 2 * c.args.n ≤ length c.guard_set-inner-then-code-eq5.new.stack = omega (arith, c.requires.0, c.guard_set-inner-then-code-eq5.auto.stack, room_two c.args.n c.args.depth c.args.at c.args.end (omega (arith, w.2)) w.1) in
-    let size = c.guard_set-inner-then-code-eq5.auto.stack in (
+    let size = inner.auto.stack in (
       omega (arith, c.if-depth-eq0.false),
       (
-        omega (arith, h.0, size, rest-length stack stack a.n (omega (arith, room)), room_next a.n a.depth a.at a.end next (omega (arith, c.if-depth-eq0.false)) w.0 w.1),
-        omega (arith, h.1, c.guard_set-inner-then-code-eq5.auto.spare),
+        omega (arith, h.0, size, rest-length stack stack a.n (omega arith), room_next a.n a.depth a.at a.end next (omega arith) there.further there.before_end),
+        omega (arith, h.1, inner.auto.spare),
         h.2,
         h.3,
       ),
@@ -92,25 +93,25 @@ guard_set-second-requires t c =
 pub keep_common-requires : goal.keep_common-requires
 keep_common-requires t c =
     let a = c.args in
-    let w = read_within c.args.q.variables c.args.q.clocks c.args.b.now c.args.end (c.args.depth - 1) (c.args.at + 1) c.in-At.next (sym c.in-At.is ∙ c.guard_set-inner-then-code-eq5.ensures.ends) in
-    let room : 2 * c.args.n ≤ length c.guard_set-inner-then-code-eq5.new.stack = omega (arith, c.requires.0, c.guard_set-inner-then-code-eq5.auto.stack, room_two c.args.n c.args.depth c.args.at c.args.end (omega (arith, w.2)) w.1) in
-    let stack = c.guard_set-inner-then-code-eq5.new.stack in
-    omega (arith, room, same_len_mid a.n (length stack - a.n) stack c.guard_set-second.new.stack c.guard_set-second.auto.stack)
+    let inner = c.guard_set-inner-then-code-eq5 in
+    let there = inside c.args.q.variables c.args.q.clocks c.args.b.now c.args.n c.args.depth c.args.at c.args.end c.in-At.next _ _ (sym c.in-At.is ∙ inner.ensures.ends) c.requires.0 inner.auto.stack in
+    let stack = inner.new.stack in
+    omega (arith, there.two, same_len_mid a.n (length stack - a.n) stack c.guard_set-second.new.stack c.guard_set-second.auto.stack)
 
 pub returns-then-code-eq5 : goal.returns-then-code-eq5
 returns-then-code-eq5 t c =
     let a = c.args in
-    let w = read_within c.args.q.variables c.args.q.clocks c.args.b.now c.args.end (c.args.depth - 1) (c.args.at + 1) c.in-At.next (sym c.in-At.is ∙ c.guard_set-inner-then-code-eq5.ensures.ends) in
-    let room : 2 * c.args.n ≤ length c.guard_set-inner-then-code-eq5.new.stack = omega (arith, c.requires.0, c.guard_set-inner-then-code-eq5.auto.stack, room_two c.args.n c.args.depth c.args.at c.args.end (omega (arith, w.2)) w.1) in
-    let stack = c.guard_set-inner-then-code-eq5.new.stack in
+    let inner = c.guard_set-inner-then-code-eq5 in
+    let there = inside c.args.q.variables c.args.q.clocks c.args.b.now c.args.n c.args.depth c.args.at c.args.end c.in-At.next _ _ (sym c.in-At.is ∙ inner.ensures.ends) c.requires.0 inner.auto.stack in
+    let stack = inner.new.stack in
     let rest = c.guard_set-second.new.stack in
     let next = c.in-At.next in
     let e = sym c.byte-code.ensures.0 ∙ c.if-code-eq5.true in
     let from : ℕ → GuardRead = λ k. guard_at (a.depth - 1) a.q.variables a.q.clocks a.b.now k a.end in
     rw (guard_and a.q.variables a.q.clocks a.b.now a.at a.end a.depth (a.depth - 1) (omega (arith, c.if-depth-eq0.false)) (omega (arith, c.if-end-at.false)) e)
     (built_and a.q.first a.q.second a.n stack c.keep_common.new.stack rest (from (a.at + 1)) from _ _ next
-    c.guard_set-inner-then-code-eq5.ensures c.in-At.is c.guard_set-second.ensures
-    (rest-common stack rest c.keep_common.new.stack a.n room c.guard_set-second.auto.stack c.keep_common.ensures))
+    inner.ensures c.in-At.is c.guard_set-second.ensures
+    (rest-common stack rest c.keep_common.new.stack a.n there.two c.guard_set-second.auto.stack c.keep_common.ensures))
 
 pub slice_bounds-leaf_set-end : goal.slice_bounds-leaf_set-end
 slice_bounds-leaf_set-end t c =
