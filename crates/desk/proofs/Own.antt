@@ -13,5 +13,5 @@ own_lines input scratch room text scratch_left room_left text_left bytes s r l =
     record {
       count = l.count ∙ ap₂ (λ (m n : ℕ). length (lines_for m n input)) s r;
       short = l.short;
-      text-after = l.text-after ∙ ap₂ (λ (m n : ℕ). in_text (lines_for m n input) text) s r;
+      text_after = l.text_after ∙ ap₂ (λ (m n : ℕ). in_text (lines_for m n input) text) s r;
     }

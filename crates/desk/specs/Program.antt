@@ -13,4 +13,4 @@ Within Failed buffer = Unit {0}
 pub record Printed (input text text_left : List ℕ) (bytes : ℕ) : Type 0 where
   pub count : bytes ≡ length (desk_lines input)
   pub short : bytes ≤ 400000
-  pub text-after : text_left ≡ in_text (desk_lines input) text
+  pub text_after : text_left ≡ in_text (desk_lines input) text

@@ -178,7 +178,7 @@ module _ (input scratch room : List ℕ) {text text_left : List ℕ} {n : ℕ} w
       record {
         count = rw (lt-ltb _ _ h, lines_for) (wrote_front w).0;
         short = omega (arith, (wrote_front w).0, line-length refused_word 5 0);
-        text-after = rw (lt-ltb _ _ h, lines_for) (wrote_front w).1;
+        text_after = rw (lt-ltb _ _ h, lines_for) (wrote_front w).1;
         scratch_after = rw (lt-leb _ _ h);
         room_after = rw (lt-leb _ _ h);
       }
@@ -190,7 +190,7 @@ module _ (input scratch room : List ℕ) {text text_left : List ℕ} {n : ℕ} w
       record {
         count = rw (le-ltb _ _ four, lt-ltb _ _ h, lines_for) (wrote_front w).0;
         short = omega (arith, (wrote_front w).0, line-length refused_word 6 0);
-        text-after = rw (le-ltb _ _ four, lt-ltb _ _ h, lines_for) (wrote_front w).1;
+        text_after = rw (le-ltb _ _ four, lt-ltb _ _ h, lines_for) (wrote_front w).1;
         scratch_after = rw (le-leb _ _ four, lt-leb _ _ h);
         room_after = rw (le-leb _ _ four, lt-leb _ _ h);
       }
@@ -206,7 +206,7 @@ module _ (input scratch room : List ℕ) {text text_left : List ℕ} {n : ℕ} w
       record {
         count = rw (le-ltb _ _ four, le-ltb _ _ most, lines_for) (wrote_front j.wrote).0;
         short = omega (arith, (wrote_front j.wrote).0, judged_fit (length scratch) (length room) (table_in input) (recording_in input) (budget_in input));
-        text-after = rw (le-ltb _ _ four, le-ltb _ _ most, lines_for) (wrote_front j.wrote).1;
+        text_after = rw (le-ltb _ _ four, le-ltb _ _ most, lines_for) (wrote_front j.wrote).1;
         scratch_after = rw (le-leb _ _ four, le-leb _ _ most) j.scratch_after;
         room_after = rw (le-leb _ _ four, le-leb _ _ most) j.room_after;
       }

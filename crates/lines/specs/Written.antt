@@ -16,6 +16,6 @@ pub record FilesJudged (files : List ℕ) (budget : ℕ) (scratch room text scra
 pub record Lines (input scratch room text scratch_left room_left text_left : List ℕ) (bytes : ℕ) : Type 0 where
   pub count : bytes ≡ length (lines_for (length scratch) (length room) input)
   pub short : bytes ≤ 400000
-  pub text-after : text_left ≡ in_text (lines_for (length scratch) (length room) input) text
+  pub text_after : text_left ≡ in_text (lines_for (length scratch) (length room) input) text
   pub scratch_after : scratch_left ≡ scratch_for input scratch room
   pub room_after : room_left ≡ room_for input scratch room
