@@ -47,7 +47,7 @@ fn stop<W: Write>(out: &mut W, line: &[u8]) -> bool {
     false
 }
 
-// Reads as many bytes as there is room for, or as there are.
+// Reads as many bytes as there is room for, or as there are. A read that fails ends it as the end of the input does.
 fn read_full<R: Read>(input: &mut R, room: &mut [u8]) -> usize
     ensures { result ≤ length room.new }
 {
