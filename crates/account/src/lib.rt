@@ -2,28 +2,36 @@
 
 #![tactic(auto)]
 
-ghost use Rattle.std.specs.Prelude.{◌≡◌, List, cond, ◌+◌, ◌<◌, ◌≤◌, eqb, length, get_or, drop};
-ghost use Rattle.std.proofs.Math.Option.{none};
+ghost use Rattle.std.specs.Prelude.{◌≡◌, List, ◌+◌, ◌<◌, length, get_or, drop};
 ghost use Rattle.model.specs.Monitor.{wait};
 ghost use Rattle.model.specs.Trace.{Packet};
 ghost use Rattle.model.specs.Recording.{packets_at};
-ghost use Rattle.model.specs.Witness.{kept, rows_at};
+ghost use Rattle.model.specs.Witness.{rows_at};
 ghost use Rattle.model.specs.Rules.{begin, sends, removes, keeps, adds, account};
 ghost use Rattle.witness.specs.Rows.{row_of};
 ghost use Rattle.row_tests.specs.Under.{ruled_from};
-ghost use Rattle.account.specs.Standing.{progress_of, Bounded, Ready, Stepped, checked_rows};
+ghost use Rattle.account.specs.Standing.{judged, progress_of, Bounded, Ready, Stepped, checked_rows};
 
-use model::{Checking, Config, Edition, KEPT, REMOVED, Refusal, Rule};
+use model::{Config, Edition, KEPT, Permitted, REMOVED, Refusal, Rule};
 use monitor::{fire, to_unit};
 use row_tests::{free_after, is_guess, is_next, none_at, none_before};
 use rule::{allows, window_behind};
 use wire::word;
-use witness::{Entry, count_at, in_place, no_row, row_at};
+use witness::{Entry, count_at, in_place, row_at};
 
-// What the rows so far have come to. While there is no row before, its time is 0. The window says which of the last rows are guesses, as a mask.
+// What rows are tested against: a table, with its records at the offsets, and a recording, under a rule.
+#[derive(Clone, Copy)]
+struct Against<'a> {
+    rule: Rule,
+    table: &'a [u8],
+    offsets: &'a [u16],
+    recording: &'a [u8],
+}
+
+// What the rows so far have come to. The window says which of the last rows are guesses, as a mask.
 #[derive(Clone, Copy)]
 struct Standing {
-    before: Entry,
+    before: Option<Entry>,
     next: u16,
     now: u16,
     free: u32,
@@ -31,179 +39,103 @@ struct Standing {
     window: u8,
 }
 
-// Whether a row breaks no rule, and where it leads.
-#[derive(Clone, Copy)]
-struct Step {
-    sound: bool,
-    to: Standing,
-}
-
 fn waited(c: Config, ticks: u16) -> Config
     requires { (length c.clocks ≡ 2) × (get_or c.clocks 0 0 + ticks < 65536) × (get_or c.clocks 1 0 + ticks < 65536) }
     ensures { result ≡ wait ticks c }
 {
-    let clocks = c.clocks;
+    let [first, second] = c.clocks;
     Config {
-        state: c.state,
-        variables: c.variables,
-        clocks: [clocks[0] + ticks, clocks[1] + ticks],
-    }
-}
-
-fn refused(s: Standing) -> Step
-    ensures { (recording : List Packet) → Stepped recording none result }
-{
-    Step {
-        sound: false,
-        to: s,
+        clocks: [first + ticks, second + ticks],
+        ..c
     }
 }
 
 // A kept or added row: the rule is kept, and its transition has its kind and fires.
-fn sent<'a>(
-    rule: Rule,
-    table: &'a [u8],
-    offsets: &'a [u16],
-    s: Standing,
-    e: Entry,
-    next: u16,
-) -> Step
+#[tactic(auto, using(crate::proofs::Steps::fires_under), unfolding(model::specs::Rules::sends, model::specs::Monitor::within_rule))]
+fn sent(a: &Against, s: Standing, e: Entry, next: u16) -> Option<Standing>
     requires { Ready s e }
-    ensures { (recording : List Packet) → Stepped recording (sends (ruled_from rule table.now offsets.now) (progress_of recording s) (row_of e) (drop next recording)) result }
+    ensures { (recording : List Packet) → Stepped recording (sends (judged a.now) (progress_of recording s) (row_of e) (drop next recording)) result }
 {
-    let guess = is_guess(rule, table, e);
-    if !allows(rule, s.window, guess) {
-        return refused(s);
+    let guess = is_guess(a.rule, a.table, e);
+    if !allows(a.rule, s.window, guess) {
+        return None;
     }
-    let c = s.config;
-    let ready = waited(c, e.time - s.now);
-    let then = fire(table, offsets, e.transition as usize, e.kind, ready);
-    if !then.fired {
-        return refused(s);
-    }
-    let config = then.to;
-    let free = free_after(table, e);
-    Step {
-        sound: true,
-        to: Standing {
-            before: e,
-            next,
-            now: e.time,
-            free,
-            config,
-            window: window_behind(rule, s.window, guess),
-        },
-    }
+    let ready = waited(s.config, e.time - s.now);
+    let config = fire(a.table, a.offsets, usize::from(e.transition), e.kind, ready)?;
+    Some(Standing {
+        before: Some(e),
+        next,
+        now: e.time,
+        free: free_after(a.table, e),
+        config,
+        window: window_behind(a.rule, s.window, guess),
+    })
 }
 
-fn keep_row<'a>(
-    rule: Rule,
-    table: &'a [u8],
-    offsets: &'a [u16],
-    recording: &[u8],
-    s: Standing,
-    e: Entry,
-) -> Step
+#[tactic(auto, using(crate::proofs::Steps::others_drop), unfolding(model::specs::Rules::keeps))]
+fn keep_row(a: &Against, s: Standing, e: Entry) -> Option<Standing>
     requires { Ready s e }
-    ensures { Stepped (packets_at recording.now) (keeps (ruled_from rule table.now offsets.now) (progress_of (packets_at recording.now) s) (row_of e)) result }
+    ensures { Stepped (packets_at a.now.recording.now) (keeps (judged a.now) (progress_of (packets_at a.now.recording.now) s) (row_of e)) result }
 {
-    let next = s.next;
-    if !is_next(recording, next, e) {
-        return refused(s);
+    if !is_next(a.recording, s.next, e) {
+        return None;
     }
-    sent(rule, table, offsets, s, e, next + 1)
+    sent(a, s, e, s.next + 1)
 }
 
 // A removed row is to the unit, which missed it: the monitor and the window stay where they were, under any rule.
-fn remove_row<'a>(
-    table: &'a [u8],
-    offsets: &'a [u16],
-    recording: &[u8],
-    s: Standing,
-    e: Entry,
-) -> Step
+#[tactic(auto, using(crate::proofs::Steps::others_drop), unfolding(model::specs::Rules::removes))]
+fn remove_row(a: &Against, s: Standing, e: Entry) -> Option<Standing>
     requires { Ready s e }
-    ensures { (rule : Rule) → Stepped (packets_at recording.now) (removes (ruled_from rule table.now offsets.now) (progress_of (packets_at recording.now) s) (row_of e)) result }
+    ensures { Stepped (packets_at a.now.recording.now) (removes (judged a.now) (progress_of (packets_at a.now.recording.now) s) (row_of e)) result }
 {
-    let next = s.next;
-    if !is_next(recording, next, e) {
-        return refused(s);
+    if !is_next(a.recording, s.next, e) || !to_unit(a.table, e.kind) {
+        return None;
     }
-    if !to_unit(table, e.kind) {
-        return refused(s);
-    }
-    let config = s.config;
-    let following = next + 1;
-    let behind = free_after(table, e);
-    Step {
-        sound: true,
-        to: Standing {
-            before: e,
-            next: following,
-            now: s.now,
-            free: behind,
-            config,
-            window: s.window,
-        },
-    }
+    let free = free_after(a.table, e);
+    Some(Standing {
+        before: Some(e),
+        next: s.next + 1,
+        free,
+        ..s
+    })
 }
 
-fn add_row<'a>(
-    rule: Rule,
-    table: &'a [u8],
-    offsets: &'a [u16],
-    recording: &[u8],
-    s: Standing,
-    e: Entry,
-) -> Step
+#[tactic(auto, unfolding(model::specs::Rules::adds))]
+fn add_row(a: &Against, s: Standing, e: Entry) -> Option<Standing>
     requires { Ready s e }
-    ensures { Stepped (packets_at recording.now) (adds (ruled_from rule table.now offsets.now) (progress_of (packets_at recording.now) s) (row_of e)) result }
+    ensures { Stepped (packets_at a.now.recording.now) (adds (judged a.now) (progress_of (packets_at a.now.recording.now) s) (row_of e)) result }
 {
-    let next = s.next;
-    if !none_at(recording, next, e.time) {
-        return refused(s);
+    if !none_at(a.recording, s.next, e.time) {
+        return None;
     }
-    sent(rule, table, offsets, s, e, next)
+    sent(a, s, e, s.next)
 }
 
-// The next row: its form, the air, which it finds free, and the rule for its mark.
-fn accounted<'a>(
-    rule: Rule,
-    edition: Edition,
-    table: &'a [u8],
-    offsets: &'a [u16],
-    recording: &[u8],
-    s: Standing,
-    e: Entry,
-) -> Step
+// The next row: its form, the air, which it finds free, and the rule for its mark. None if it breaks one.
+#[tactic(auto, using(crate::proofs::Steps::ready_row), unfolding(model::specs::Rules::account))]
+fn accounted(a: &Against, edition: Edition, s: Standing, e: Entry) -> Option<Standing>
     requires { Bounded s }
-    ensures { Stepped (packets_at recording.now) (account edition (ruled_from rule table.now offsets.now) (progress_of (packets_at recording.now) s) (row_of e)) result }
+    ensures { Stepped (packets_at a.now.recording.now) (account edition (judged a.now) (progress_of (packets_at a.now.recording.now) s) (row_of e)) result }
 {
-    let before = s.before;
-    let next = s.next;
-    if !in_place(edition, before, e) {
-        return refused(s);
+    if !in_place(edition, s.before, e)
+        || !none_before(a.recording, s.next, e.time)
+        || u32::from(e.time) < s.free
+    {
+        return None;
     }
-    if !none_before(recording, next, e.time) {
-        return refused(s);
+    match e.mark {
+        KEPT => keep_row(a, s, e),
+        REMOVED => remove_row(a, s, e),
+        _ => add_row(a, s, e),
     }
-    if (e.time as u32) < s.free {
-        return refused(s);
-    }
-    if e.mark == KEPT {
-        return keep_row(rule, table, offsets, recording, s, e);
-    }
-    if e.mark == REMOVED {
-        return remove_row(table, offsets, recording, s, e);
-    }
-    add_row(rule, table, offsets, recording, s, e)
 }
 
 fn begun() -> Standing
     ensures { Bounded result × ((recording : List Packet) → progress_of recording result ≡ begin recording) }
 {
     Standing {
-        before: no_row(),
+        before: None,
         next: 0,
         now: 0,
         free: 0,
@@ -216,42 +148,38 @@ fn begun() -> Standing
     }
 }
 
-fn change_by(e: Entry) -> u64
-    ensures { (result ≡ cond (eqb e.mark kept) 0 1) × (result ≤ 1) }
-{
-    if e.mark == KEPT { 0 } else { 1 }
-}
-
 // The rows in turn, for the table's records at the offsets.
-pub fn check_rows<'a>(
+pub fn check_rows(
     rule: Rule,
     edition: Edition,
-    table: &'a [u8],
-    offsets: &'a [u16],
+    table: &[u8],
+    offsets: &[u16],
     recording: &[u8],
     witness: &[u8],
-) -> Checking
+) -> Result<Permitted, Refusal>
     ensures { result ≡ checked_rows edition (ruled_from rule table.now offsets.now) (packets_at recording.now) (rows_at edition witness.now) }
 {
+    let against = Against {
+        rule,
+        table,
+        offsets,
+        recording,
+    };
     let count = count_at(edition, witness);
     let mut s = begun();
-    let mut changed: u64 = 0;
-    let mut i = 0;
-    while i < count {
+    let mut changed = 0;
+    for i in 0..count {
         let e = row_at(edition, witness, i);
-        let step = accounted(rule, edition, table, offsets, recording, s, e);
-        if !step.sound {
-            return Checking::Unchecked(Refusal::WitnessRow { row: i as u64 });
-        }
-        changed += change_by(e);
-        s = step.to;
-        i += 1;
+        changed += u64::from(e.mark != KEPT);
+        s = accounted(&against, edition, s, e).ok_or(Refusal::WitnessRow { row: u64::from(i) })?;
     }
     if s.next < word(recording, 3) {
-        return Checking::Unchecked(Refusal::WitnessRow { row: i as u64 });
+        return Err(Refusal::WitnessRow {
+            row: u64::from(count),
+        });
     }
-    Checking::Permitted {
+    Ok(Permitted {
         changed,
-        rows: i as u64,
-    }
+        rows: u64::from(count),
+    })
 }

@@ -5,44 +5,16 @@ use native.Mathlib.Omega.{arith}
 use mathlib.Core.Path.{◌≡◌, refl, sym, ap, ◌∙◌}
 use mathlib.Core.List.{List}
 use mathlib.Core.Bool.{Bool, true, false, cond, false≢true}
-use mathlib.Core.Option.{none, some}
 use lib.Dec.{ltb, eqb}
 use borrow.Author.Tests.{eq-eqb, eqb-true}
 use Rattle.model.specs.Monitor.{Monitor}
 use Rattle.model.specs.Trace.{PacketTrace}
-use Rattle.model.specs.Recording.{count_at, time_at, row_kind_at, packets_at, end_of}
+use Rattle.model.specs.Recording.{count_at, time_at, packets_at, end_of}
 use Rattle.model.proofs.Basics.{and_right}
-use Rattle.situation.specs.Rows.{is_at, heard_at, Cursor}
+use Rattle.situation.specs.Rows.{is_at, Cursor}
 use Rattle.situation.proofs.Cursors.{at_row, times_rise}
 use Rattle.measures.proofs.Ends.{end-time}
 use Rattle.backward.specs.PruneRows.{cursor_before}
-
--- what the row before the cursor says
-
-module _ (b : List ℕ) (j t : ℕ) where
-  pub back-heard : (k : ℕ) → heard_at b (j - 1) t ≡ some k → cursor_before b j t ≡ j - 1
-  unfolding cursor_before heard_at
-  back-heard k e = on (is_at b (j - 1) t) e
-    where
-      on : (found : Bool) → cond found (some (row_kind_at b (j - 1))) none ≡ some k → cond found (j - 1) j ≡ j - 1
-      on true q = refl
-      on false q = cc
-
-  pub back-nothing : heard_at b (j - 1) t ≡ none → cursor_before b j t ≡ j
-  unfolding cursor_before heard_at
-  back-nothing e = on (is_at b (j - 1) t) e
-    where
-      on : (found : Bool) → cond found (some (row_kind_at b (j - 1))) none ≡ none → cond found (j - 1) j ≡ j
-      on true q = cc
-      on false q = refl
-
-pub back-first : (b : List ℕ) (t : ℕ) → cursor_before b 0 t ≡ 0
-unfolding cursor_before
-back-first b t = on (is_at b 0 t)
-  where
-    on : (found : Bool) → ◌≡◌ {A = ℕ} (cond found 0 0) 0
-    on true = refl
-    on false = refl
 
 at_instant : (b : List ℕ) (i t : ℕ) → is_at b i t ≡ true → time_at b i ≡ t
 unfolding is_at

@@ -3,7 +3,7 @@ use Prim.Native.Nat.{ℕ, ◌+◌, ◌-◌, ◌*◌, ◌≤◌, ◌<◌}
 use native.Mathlib.Nat.{zero-add}
 use native.Mathlib.Decide.{dec_lt}
 use native.Mathlib.Omega.{arith}
-use mathlib.Core.Path.{◌≡◌, sym, ap, ap₂, subst, ◌∙◌}
+use mathlib.Core.Path.{◌≡◌, sym, ap, ap₂, ◌∙◌}
 use mathlib.Core.List.{List, [], ◌++◌, append_assoc, append-nil}
 use lib.ListN.{length, take, drop, drop_of_length-le, length-append, length-take, length-drop, take-append-drop}
 use lib.Seq.{take_all, take_at, drop_at, drop-drop, length-take-le}
@@ -20,17 +20,10 @@ use Rattle.backward.specs.WalkRows.{RowsPut, Room}
 
 -- places in a room
 
-placed_length_fits : (a : List ℕ) (at : ℕ) (room : List ℕ) → at + length a ≤ length room → length (placed a at room) ≡ length room
-placed_length_fits a at room h =
+placed-length : (a : List ℕ) (at : ℕ) (room : List ℕ) → at + length a ≤ length room → length (placed a at room) ≡ length room
+placed-length a at room h =
     ap length (placed-fits a at room h)
     ∙ simp (length-append, length-take, length-drop) (omega arith)
-
-pub placed-length : (a : List ℕ) (at : ℕ) (room : List ℕ) → length (placed a at room) ≡ length room
-placed-length a at room = on (dec_lt (length room) (at + length a))
-  where
-    on : Dec (length room < at + length a) → length (placed a at room) ≡ length room
-    on (yes h) = ap length (placed_not a at room h)
-    on (no h) = placed_length_fits a at room (omega arith)
 
 placed_none_fits : (at : ℕ) (room : List ℕ) → at ≤ length room → placed [] at room ≡ room
 placed_none_fits at room h =
@@ -39,7 +32,7 @@ placed_none_fits at room h =
     ∙ ap₂ (λ (l : List ℕ) (n : ℕ). l ++ drop n room) (append-nil (take at room)) e
     ∙ take-append-drop at room
 
-pub placed_none : (at : ℕ) (room : List ℕ) → placed [] at room ≡ room
+placed_none : (at : ℕ) (room : List ℕ) → placed [] at room ≡ room
 placed_none at room = on (dec_lt (length room) at)
   where
     on : Dec (length room < at) → placed [] at room ≡ room
@@ -47,7 +40,7 @@ placed_none at room = on (dec_lt (length room) at)
     on (no h) = placed_none_fits at room (omega arith)
 
 -- bytes placed behind bytes
-pub placed-more : (a b : List ℕ) (at : ℕ) (room : List ℕ) → at + length a + length b ≤ length room
+placed-more : (a b : List ℕ) (at : ℕ) (room : List ℕ) → at + length a + length b ≤ length room
     → placed b (at + length a) (placed a at room) ≡ placed (a ++ b) at room
 placed-more a b at room h =
     let front : List ℕ = take at room ++ a in
@@ -59,7 +52,7 @@ placed-more a b at room h =
     ∙ ap (drop (length b)) (drop_at front rest (at + length a) long)
     ∙ drop-drop (length b) (at + length a) room
     ∙ ap (λ (n : ℕ). drop n room) end in
-    placed-fits b (at + length a) (placed a at room) (omega (arith, placed-length a at room))
+    placed-fits b (at + length a) (placed a at room) (omega (arith, placed-length a at room (omega arith)))
     ∙ ap (λ (l : List ℕ). take (at + length a) l ++ b ++ drop (at + length a + length b) l) (placed-fits a at room (omega arith))
     ∙ ap₂ (λ (x y : List ℕ). x ++ b ++ y) (take_at front rest (at + length a) long) behind
     ∙ ap (λ (l : List ℕ). l ++ drop (at + length (a ++ b)) room) (append_assoc (take at room) a b)
@@ -83,12 +76,6 @@ rows_put_more {a} {b} {r} {n} {k} {x} {y} {z} h first then =
       count = omega (arith, first.count, then.count, length-append a b);
     }
 
-pub rows_put_same : {a b : List Row} {r n : ℕ} {x y : List ℕ} → a ≡ b → RowsPut a r n x y → RowsPut b r n x y
-rows_put_same {a} {b} {r} {n} {x} {y} e w = subst (λ (l : List Row). RowsPut l r n x y) e w
-
-pub rows_put_length : {a : List Row} {r n : ℕ} {x y : List ℕ} → RowsPut a r n x y → length y ≡ length x
-rows_put_length {a} {r} {n} {x} {y} w = ap length w.bytes ∙ placed-length (rows_bytes a) (5 * r) x
-
 -- all rows, from the start of a room
 pub rows_put_all : {a : List Row} {n : ℕ} {x y : List ℕ} → RowsPut a 0 n x y → Room a 0 x → y ≡ over (rows_bytes a) x
 rows_put_all {a} {n} {x} {y} w h = w.bytes ∙ placed-fits (rows_bytes a) 0 x (omega (arith, rows_bytes-length a)) ∙ ap (λ (k : ℕ). rows_bytes a ++ drop k x) (zero-add (length (rows_bytes a)))
@@ -107,7 +94,8 @@ framed-rows edition a head n room part place count rows fits =
     let bytes : length (rows_bytes a) ≡ 5 * length a = rows_bytes-length a in
     let behind : head + length (rows_bytes a) ≡ length (frame ++ rows_bytes a) = omega (arith, length-append frame (rows_bytes a)) in
     ap₂ (λ (k : ℕ) (l : List ℕ). placed (rows_frame edition 5 k) 0 (take head room ++ l)) count rows
-    ∙ placed-fits frame 0 (take head room ++ over (rows_bytes a) (drop head room)) (omega (arith, length-append (take head room) (over (rows_bytes a) (drop head room)), length-take-le head room (omega arith)))
+    ∙ placed-fits frame 0 (take head room ++ over (rows_bytes a) (drop head room))
+    (omega (arith, length-append (take head room) (over (rows_bytes a) (drop head room)), length-take-le head room (omega arith)))
     ∙ ap (λ (l : List ℕ). frame ++ l) (drop_at (take head room) (over (rows_bytes a) (drop head room)) (0 + length frame) (length-take-le head room (omega arith) ∙ omega arith))
     ∙ sym (append_assoc frame (rows_bytes a) (drop (length (rows_bytes a)) (drop head room)))
     ∙ ap (λ (l : List ℕ). frame ++ rows_bytes a ++ l) (drop-drop (length (rows_bytes a)) head room ∙ ap (λ (k : ℕ). drop k room) behind)

@@ -1,36 +1,32 @@
 // The way back through the rows: a situation from which the end cannot be reached is cut from its row.
 ghost use Rattle.std.specs.Prelude.{◌+◌, ◌*◌, ◌≤◌, ◌<◌, ◌≡◌, length};
-ghost use Rattle.situation.specs.Rows.{heard_at, Cursor};
-ghost use Rattle.steps.specs.Stepping.{step_at};
 ghost use Rattle.images.specs.Buffers.{Sized, Kept};
 ghost use Rattle.measures.specs.Roomy.{Roomy};
 ghost use Rattle.measures.specs.Setting.{monitor_by, Setting, LayersUpTo};
 ghost use Rattle.measures.specs.Working.{Working};
-ghost use Rattle.backward.specs.PruneRows.{cursor_before, RowCut, PrunedRows, RowWithin, Coming};
+ghost use Rattle.backward.specs.PruneRows.{cursor_before, PrunedRows, PrunedTo};
 
 use measures::{Measures, is_roomy};
 use memo::{forget, retreat};
 use rows::{load, store};
-use situation::Heard;
 use situation::rows::heard_at;
 use wire::word;
 use words::copy;
 
 // The cursor of instant t, from that of the next instant.
+#[tactic(auto, unfolding(crate::specs::PruneRows::cursor_before, situation::specs::Rows::heard_at))]
 fn back(recording: &[u8], cursor: usize, t: u64) -> usize
     ensures { result ≡ cursor_before recording.now cursor t }
 {
-    if cursor == 0 {
-        return 0;
-    }
-    match heard_at(recording, cursor - 1, t) {
-        Heard::Kind(_) => cursor - 1,
-        Heard::Nothing => cursor,
+    let before = cursor.saturating_sub(1);
+    if heard_at(recording, before, t).is_some() {
+        before
+    } else {
+        cursor
     }
 }
 
-// Prunes the row of instant t by the row after it, which is in next; then next is the pruned row. The cursor goes back with it: from that of instant t + 2 to that of
-// instant t + 1.
+// Prunes the row of instant t by the row after it, which is in next; then next is the pruned row. The cursor goes back with it.
 fn prune_at<'a>(
     table: &'a [u8],
     offsets: &'a [u16],
@@ -49,17 +45,18 @@ fn prune_at<'a>(
     t: usize,
 ) -> usize
     requires { Roomy g (length scratch.old) × (t < g.last) }
-    ensures { Kept scratch.old scratch.new × Kept next.old next.new × Kept row.old row.new × Kept sets.old sets.new × Kept one.old one.new × Kept two.old two.new × Kept memo.old memo.new × (result ≡ cursor_before recording.now cursor (t + 1)) × (Setting table.now offsets.now recording.now g → Working table.now offsets.now g marks.now planes.now → Cursor recording.now cursor (t + 1 + 1) → RowWithin scratch.old g.row g.size t → Coming (monitor_by g table.now) g (t + 1) scratch.old next.old row.old sets.old one.old two.old memo.old → RowCut (step_at table.now offsets.now g.shape (heard_at recording.now result (t + 1))) (8 * g.row * t) (8 * g.row * (t + 1)) g.size g.size scratch.old scratch.new × Coming (monitor_by g table.now) g t scratch.new next.new row.new sets.new one.new two.new memo.new) }
+    ensures { Setting table.now offsets.now recording.now g → Working table.now offsets.now g marks.now planes.now
+        → PrunedTo (monitor_by g table.now) g recording.now (t + 1) cursor scratch.old next.old row.old sets.old one.old two.old memo.old
+        → PrunedTo (monitor_by g table.now) g recording.now t result scratch.new next.new row.new sets.new one.new two.new memo.new }
 {
     let instant = t as u64 + 1;
     let before = back(recording, cursor, instant);
     let heard = heard_at(recording, before, instant);
-    let h = g.shape;
     let from = g.row * t;
     let to = from + g.row;
     load(&scratch[from..to], row);
     retreat(
-        table, offsets, h, g.size, marks, planes, heard, next, row, sets, one, two, memo,
+        table, offsets, g.shape, g.size, marks, planes, heard, next, row, sets, one, two, memo,
     );
     store(row, &mut scratch[from..to]);
     copy(next, row);
@@ -82,20 +79,21 @@ pub fn prune<'a>(
     two: &mut [u64],
     memo: &mut [u64],
 )
-    ensures { Kept scratch.old scratch.new × Kept next.old next.new × Kept row.old row.new × Kept sets.old sets.new × Kept one.old one.new × Kept two.old two.new × Kept memo.old memo.new × (Setting table.now offsets.now recording.now g → Working table.now offsets.now g marks.now planes.now → g.row * (g.last + 1) ≤ length scratch.old → LayersUpTo (monitor_by g table.now) recording.now scratch.old g.row g.last → Sized g.words sets.old one.old two.old → length next.old ≡ g.words → length row.old ≡ g.words → PrunedRows (monitor_by g table.now) recording.now scratch.new g.row g.size g.last) }
+    ensures kept { Kept scratch.old scratch.new × Kept next.old next.new × Kept row.old row.new × Kept sets.old sets.new × Kept one.old one.new × Kept two.old two.new × Kept memo.old memo.new }
+    ensures pruned { Setting table.now offsets.now recording.now g → Working table.now offsets.now g marks.now planes.now → g.row * (g.last + 1) ≤ length scratch.old
+        → LayersUpTo (monitor_by g table.now) recording.now scratch.old g.row g.last
+        → Sized g.words sets.old one.old two.old → length next.old ≡ g.words → length row.old ≡ g.words
+        → PrunedRows (monitor_by g table.now) recording.now scratch.new g.row g.size g.last }
 {
     // Sizes that do not fit each other: nothing is done.
     if !is_roomy(g, scratch.len()) {
         return;
     }
     let from = g.row * g.last;
-    let to = from + g.row;
-    load(&scratch[from..to], next);
+    load(&scratch[from..from + g.row], next);
     forget(memo);
-    let mut cursor = word(recording, 3) as usize;
-    let mut t = g.last;
-    while 0 < t {
-        t -= 1;
+    let mut cursor = usize::from(word(recording, 3));
+    for t in (0..g.last).rev() {
         cursor = prune_at(
             table, offsets, recording, g, marks, planes, scratch, next, row, sets, one, two, memo,
             cursor, t,

@@ -16,7 +16,7 @@ sum_more total bytes i h =
     ap (λ (n : ℕ). sum_from ((total * 257 + get_or bytes i 0 + 1) % 1000003) (drop n bytes)) (add-one i)
     ∙ sym (ap (sum_from total) (drop-cons bytes i 0 h))
 
-sum_append : (from : ℕ) (l m : List ℕ) → sum_from (sum_from from l) m ≡ sum_from from (l ++ m)
+pub sum_append : (from : ℕ) (l m : List ℕ) → sum_from (sum_from from l) m ≡ sum_from from (l ++ m)
 unfolding sum_from
 sum_append from [] m = refl
 sum_append from (b ∷ l) m = sum_append ((from * 257 + b + 1) % 1000003) l m

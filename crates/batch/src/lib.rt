@@ -48,11 +48,9 @@ pub fn head_of(bytes: &[u8]) -> Head
 pub fn pattern(bytes: &mut [u8])
     ensures { bytes.new ≡ tab pattern_at (length bytes.old) }
 {
-    let mut next: u64 = 1;
-    let mut i = 0;
-    while i < bytes.len() {
-        bytes[i] = next as u8;
-        next = (next + 7) % 256;
-        i += 1;
+    let mut next = 1u8;
+    for byte in bytes.iter_mut() {
+        *byte = next;
+        next = next.wrapping_add(7);
     }
 }

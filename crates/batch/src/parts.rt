@@ -1,6 +1,8 @@
 // The parts of a table, a recording and a witness as a case's files give them, so that they can be parts that no reading gives.
-ghost use Rattle.std.specs.Prelude.{◌≡◌, ◌≤◌};
-ghost use Rattle.batch.specs.Parts.{filler_time_at, kinds_given, transitions_given, guards_given, table_given, recorded_times_given, recorded_kinds_given, recording_given, rows_given, times_given, witness_given};
+ghost use Rattle.std.specs.Prelude.{◌≡◌, ◌+◌, ◌*◌, ℕ, replicate};
+ghost use Rattle.model.specs.Bytes.{byte_at, word_at};
+ghost use Rattle.columns.specs.Filled.{filled};
+ghost use Rattle.batch.specs.Parts.{table_given, recording_given, witness_given};
 
 use columns::{bytes_column, words_column};
 use model::{
@@ -12,48 +14,31 @@ use wire::{byte, long, word};
 // The places of a guard.
 const PLACES: u32 = GUARD_LIMIT as u32;
 
-fn kind_column(b: &[u8], field: u8) -> [u8; KIND_LIMIT]
-    requires { field ≤ 2 }
-    ensures { result ≡ kinds_given b.now field }
+// n bytes of b, from a start on at even steps, in a column whose other places hold the filler.
+fn bytes_over<const N: usize>(filler: u8, b: &[u8], start: u8, step: u8, n: u32) -> [u8; N]
+    ensures { result ≡ filled (λ i. byte_at b.now (start + step * i)) n (replicate N filler) }
 {
-    let filler = byte(b, 2);
-    let mut column = [filler; KIND_LIMIT];
-    bytes_column(b, 9 + field, 3, byte(b, 0) as u32, &mut column);
+    let mut column = [filler; N];
+    bytes_column(b, start, step, n, &mut column);
     column
 }
 
-fn transition_column<'a>(b: &'a [u8], fields: &'a [u8], field: u8) -> [u8; TRANSITION_LIMIT]
-    ensures { result ≡ transitions_given b.now fields.now field }
+// .. n two-byte numbers, over the filler in both places.
+fn words_over<const N: usize>(filler: u8, b: &[u8], start: u8, step: u8, n: u32) -> [u16; N]
+    ensures { result ≡ filled (λ i. word_at b.now (start + step * i)) n (replicate N (257 * filler)) }
 {
-    let filler = byte(b, 2);
-    let mut column = [filler; TRANSITION_LIMIT];
-    bytes_column(fields, field, 7, byte(b, 1) as u32, &mut column);
+    let mut column = [257 * filler as u16; N];
+    words_column(b, start, step, n, &mut column);
     column
 }
 
-fn guard_places<'a>(b: &'a [u8], guards: &'a [u8]) -> [u8; GUARD_LIMIT * TRANSITION_LIMIT]
-    ensures { result ≡ guards_given b.now guards.now }
-{
-    let filler = byte(b, 2);
-    let mut places = [filler; GUARD_LIMIT * TRANSITION_LIMIT];
-    bytes_column(guards, 0, 1, PLACES * byte(b, 1) as u32, &mut places);
-    places
-}
-
+#[tactic(auto, unfolding(crate::specs::Parts::table_given))]
 pub fn table_parts<'a>(b: &'a [u8], fields: &'a [u8], guards: &'a [u8]) -> TableParts
     ensures { result ≡ table_given b.now fields.now guards.now }
 {
-    let directions = kind_column(b, 0);
-    let airtimes = kind_column(b, 1);
-    let devices = kind_column(b, 2);
-    let sources = transition_column(b, fields, 0);
-    let targets = transition_column(b, fields, 1);
-    let triggers = transition_column(b, fields, 2);
-    let sets = transition_column(b, fields, 3);
-    let clears = transition_column(b, fields, 4);
-    let resets = transition_column(b, fields, 5);
-    let lengths = transition_column(b, fields, 6);
-    let guards = guard_places(b, guards);
+    let filler = byte(b, 2);
+    let kinds = byte(b, 0) as u32;
+    let transitions = byte(b, 1) as u32;
     TableParts {
         version: byte(b, 8),
         states: byte(b, 3),
@@ -61,86 +46,44 @@ pub fn table_parts<'a>(b: &'a [u8], fields: &'a [u8], guards: &'a [u8]) -> Table
         clocks: byte(b, 5),
         kinds: byte(b, 6),
         transitions: byte(b, 7),
-        directions,
-        airtimes,
-        devices,
-        sources,
-        targets,
-        triggers,
-        sets,
-        clears,
-        resets,
-        lengths,
-        guards,
+        directions: bytes_over(filler, b, 9, 3, kinds),
+        airtimes: bytes_over(filler, b, 10, 3, kinds),
+        devices: bytes_over(filler, b, 11, 3, kinds),
+        sources: bytes_over(filler, fields, 0, 7, transitions),
+        targets: bytes_over(filler, fields, 1, 7, transitions),
+        triggers: bytes_over(filler, fields, 2, 7, transitions),
+        sets: bytes_over(filler, fields, 3, 7, transitions),
+        clears: bytes_over(filler, fields, 4, 7, transitions),
+        resets: bytes_over(filler, fields, 5, 7, transitions),
+        lengths: bytes_over(filler, fields, 6, 7, transitions),
+        guards: bytes_over(filler, guards, 0, 1, PLACES * transitions),
     }
 }
 
-fn filler_time(b: &[u8]) -> u16
-    ensures { result ≡ filler_time_at b.now }
-{
-    257 * byte(b, 2) as u16
-}
-
-fn recorded_times(b: &[u8]) -> [u16; ROW_LIMIT]
-    ensures { result ≡ recorded_times_given b.now }
-{
-    let filler = filler_time(b);
-    let mut times = [filler; ROW_LIMIT];
-    words_column(b, 5, 3, word(b, 0) as u32, &mut times);
-    times
-}
-
-fn recorded_kinds(b: &[u8]) -> [u8; ROW_LIMIT]
-    ensures { result ≡ recorded_kinds_given b.now }
-{
-    let filler = byte(b, 2);
-    let mut kinds = [filler; ROW_LIMIT];
-    bytes_column(b, 7, 3, word(b, 0) as u32, &mut kinds);
-    kinds
-}
-
+#[tactic(auto, unfolding(crate::specs::Parts::recording_given))]
 pub fn recording_parts(b: &[u8]) -> RecordingParts
     ensures { result ≡ recording_given b.now }
 {
-    let times = recorded_times(b);
-    let kinds = recorded_kinds(b);
+    let filler = byte(b, 2);
+    let rows = word(b, 0) as u32;
     RecordingParts {
         count: word(b, 3),
-        times,
-        kinds,
+        times: words_over(filler, b, 5, 3, rows),
+        kinds: bytes_over(filler, b, 7, 3, rows),
     }
 }
 
-fn row_column(b: &[u8], start: u8) -> [u8; WITNESS_PLACES]
-    ensures { result ≡ rows_given b.now start }
-{
-    let filler = byte(b, 2);
-    let mut column = [filler; WITNESS_PLACES];
-    bytes_column(b, start, 5, word(b, 0) as u32, &mut column);
-    column
-}
-
-fn time_column(b: &[u8]) -> [u16; WITNESS_PLACES]
-    ensures { result ≡ times_given b.now }
-{
-    let filler = filler_time(b);
-    let mut column = [filler; WITNESS_PLACES];
-    words_column(b, 8, 5, word(b, 0) as u32, &mut column);
-    column
-}
-
+#[tactic(auto, unfolding(crate::specs::Parts::witness_given))]
 pub fn witness_parts(b: &[u8]) -> WitnessParts
     ensures { result ≡ witness_given b.now }
 {
-    let marks = row_column(b, 7);
-    let times = time_column(b);
-    let kinds = row_column(b, 10);
-    let transitions = row_column(b, 11);
+    let filler = byte(b, 2);
+    let rows = word(b, 0) as u32;
     WitnessParts {
         count: long(b, 3),
-        marks,
-        times,
-        kinds,
-        transitions,
+        marks: bytes_over(filler, b, 7, 5, rows),
+        times: words_over(filler, b, 8, 5, rows),
+        kinds: bytes_over(filler, b, 10, 5, rows),
+        transitions: bytes_over(filler, b, 11, 5, rows),
     }
 }

@@ -6,62 +6,66 @@ ghost use Rattle.batch.specs.Parts.{words_bytes, kind_numbers, transition_number
 
 use model::{RecordingParts, TableParts, WitnessParts};
 
-fn sum_on(from: u64, bytes: &[u8]) -> u64
-    requires { from < 1000003 }
-    ensures { (result ≡ sum_from from bytes.now) × (result < 1000003) }
-{
-    let mut total = from;
-    let mut i = 0;
-    while i < bytes.len() {
-        total = (total * 257 + bytes[i] as u64 + 1) % 1000003;
-        i += 1;
+// A sum so far: it stays below this prime.
+#[derive(Clone, Copy)]
+struct Total {
+    value: u64,
+    ghost below: { value < 1000003 },
+}
+
+impl Total {
+    // From any number on.
+    fn from(value: u64) -> Total
+        ensures { result.value ≡ value % 1000003 }
+    {
+        Total {
+            value: value % 1000003,
+        }
     }
-    total
+
+    fn bytes(self, bytes: &[u8]) -> Total
+        ensures { result.value ≡ sum_from self.value bytes.now }
+    {
+        let mut total = self;
+        for b in bytes {
+            total = Total::from(total.value * 257 + *b as u64 + 1);
+        }
+        total
+    }
+
+    fn word(self, word: u16) -> Total
+        ensures { result.value ≡ sum_from self.value (word_bytes word) }
+    {
+        self.bytes(&word.to_be_bytes())
+    }
+
+    fn long(self, long: u32) -> Total
+        ensures { result.value ≡ sum_from self.value (long_bytes long) }
+    {
+        self.bytes(&long.to_be_bytes())
+    }
+
+    fn words(self, words: &[u16]) -> Total
+        ensures { result.value ≡ sum_from self.value (words_bytes words.now) }
+    {
+        let mut total = self;
+        for w in words {
+            total = total.word(*w);
+        }
+        total
+    }
 }
 
 // Goes on from a sum.
 pub fn sum(from: u64, bytes: &[u8]) -> u64
     ensures { (result ≡ sum_from (from % 1000003) bytes.now) × (result < 1000003) }
 {
-    sum_on(from % 1000003, bytes)
+    Total::from(from).bytes(bytes).value
 }
 
-fn sum_word(from: u64, word: u16) -> u64
-    requires { from < 1000003 }
-    ensures { (result ≡ sum_from from (word_bytes word)) × (result < 1000003) }
-{
-    let bytes = [(word / 256) as u8, (word % 256) as u8];
-    sum_on(from, &bytes)
-}
-
-fn sum_long(from: u64, long: u32) -> u64
-    requires { from < 1000003 }
-    ensures { (result ≡ sum_from from (long_bytes long)) × (result < 1000003) }
-{
-    let bytes = [
-        (long / 16777216 % 256) as u8,
-        (long / 65536 % 256) as u8,
-        (long / 256 % 256) as u8,
-        (long % 256) as u8,
-    ];
-    sum_on(from, &bytes)
-}
-
-fn sum_words(from: u64, words: &[u16]) -> u64
-    requires { from < 1000003 }
-    ensures { (result ≡ sum_from from (words_bytes words.now)) × (result < 1000003) }
-{
-    let mut total = from;
-    let mut i = 0;
-    while i < words.len() {
-        total = sum_word(total, words[i]);
-        i += 1;
-    }
-    total
-}
-
-fn sum_kinds(t: TableParts) -> u64
-    ensures { (result ≡ sum_from 1 (kind_numbers t)) × (result < 1000003) }
+#[tactic(auto, using(crate::proofs::Summing::sum_append))]
+fn sum_kinds(t: TableParts) -> Total
+    ensures { result.value ≡ sum_from 1 (kind_numbers t) }
 {
     let counts = [
         t.version,
@@ -71,46 +75,53 @@ fn sum_kinds(t: TableParts) -> u64
         t.kinds,
         t.transitions,
     ];
-    let total = sum_on(1, &counts);
-    let total = sum_on(total, &t.directions);
-    let total = sum_on(total, &t.airtimes);
-    sum_on(total, &t.devices)
+    Total::from(1)
+        .bytes(&counts)
+        .bytes(&t.directions)
+        .bytes(&t.airtimes)
+        .bytes(&t.devices)
 }
 
-fn sum_transitions(from: u64, t: TableParts) -> u64
-    requires { from < 1000003 }
-    ensures { (result ≡ sum_from from (transition_numbers t)) × (result < 1000003) }
+fn sum_transitions(from: Total, t: TableParts) -> Total
+    ensures { result.value ≡ sum_from from.value (transition_numbers t) }
 {
-    let total = sum_on(from, &t.sources);
-    let total = sum_on(total, &t.targets);
-    let total = sum_on(total, &t.triggers);
-    let total = sum_on(total, &t.sets);
-    let total = sum_on(total, &t.clears);
-    let total = sum_on(total, &t.resets);
-    let total = sum_on(total, &t.lengths);
-    sum_on(total, &t.guards)
+    from.bytes(&t.sources)
+        .bytes(&t.targets)
+        .bytes(&t.triggers)
+        .bytes(&t.sets)
+        .bytes(&t.clears)
+        .bytes(&t.resets)
+        .bytes(&t.lengths)
+        .bytes(&t.guards)
 }
 
+#[tactic(auto, using(crate::proofs::Summing::sum_append), unfolding(crate::specs::Parts::table_numbers))]
 pub fn sum_table(t: TableParts) -> u64
     ensures { (result ≡ sum_from 1 (table_numbers t)) × (result < 1000003) }
 {
-    sum_transitions(sum_kinds(t), t)
+    sum_transitions(sum_kinds(t), t).value
 }
 
+#[tactic(auto, using(crate::proofs::Summing::sum_append), unfolding(crate::specs::Parts::recording_numbers))]
 pub fn sum_recording(r: RecordingParts) -> u64
     ensures { (result ≡ sum_from 1 (recording_numbers r)) × (result < 1000003) }
 {
-    let total = sum_word(1, r.count);
-    let total = sum_words(total, &r.times);
-    sum_on(total, &r.kinds)
+    Total::from(1)
+        .word(r.count)
+        .words(&r.times)
+        .bytes(&r.kinds)
+        .value
 }
 
+#[tactic(auto, using(crate::proofs::Summing::sum_append), unfolding(crate::specs::Parts::witness_numbers))]
 pub fn sum_witness(w: WitnessParts) -> u64
     ensures { (result ≡ sum_from 1 (witness_numbers w)) × (result < 1000003) }
 {
-    let total = sum_long(1, w.count);
-    let total = sum_on(total, &w.marks);
-    let total = sum_words(total, &w.times);
-    let total = sum_on(total, &w.kinds);
-    sum_on(total, &w.transitions)
+    Total::from(1)
+        .long(w.count)
+        .bytes(&w.marks)
+        .words(&w.times)
+        .bytes(&w.kinds)
+        .bytes(&w.transitions)
+        .value
 }

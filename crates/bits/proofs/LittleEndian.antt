@@ -1,9 +1,12 @@
 -- Bytes as one number: its bits, its size, and how it is read from its last byte on. Assumes nothing.
-use Rattle.std.proofs.Common.{◌≡◌, ℕ, suc, ◌+◌, ◌-◌, ◌*◌, ◌/◌, ◌%◌, ◌^◌, ◌<◌, ◌≤◌, eqb, List, [], ◌∷◌, length, get_or, drop, sym, refl, ap, ◌∙◌, lt_of_lt_of_le, pow-suc, arith, length-drop, get_or-drop, drop-cons}
+use Rattle.std.proofs.Common.{◌≡◌, ℕ, suc, ◌+◌, ◌-◌, ◌*◌, ◌/◌, ◌%◌, ◌^◌, ◌<◌, ◌≤◌, eqb, List, [], ◌∷◌, length, get_or, drop, sym, refl, ap, ◌∙◌, lt_of_lt_of_le, pow-suc, arith, drop-cons, reverse, bit_or}
 use native.Mathlib.Nat.{pow-le-pow_right}
 use native.Mathlib.Decide.{dec_lt}
 use lib.Pow.{field, mod-mod-pow}
-use lib.Seq.{drop-length}
+use Rattle.std.specs.List.{fold}
+use Rattle.std.specs.Int.{w64, from_le_bytes}
+use Rattle.std.proofs.lemmas.Grind.{reverse_onto, or_after_shift, fold-append}
+use Rattle.std.proofs.lemmas.List.{drop_all}
 use Rattle.bits.specs.Member.{bit, mem}
 use Rattle.bits.specs.LittleEndian.{little_endian}
 use Rattle.bits.proofs.Laws.{bit_zero, bit_shr, mem_at, mem-past, mem-drop}
@@ -57,18 +60,23 @@ little_endian_power (b ∷ s) small = omega (arith, small 0, pow-suc 256 (length
 pub little_endian_below : (s : List ℕ) (n : ℕ) → AreBytes s → length s ≤ n → little_endian s < 256 ^ n
 little_endian_below s n small h = lt_of_lt_of_le (little_endian_power s small) (pow-le-pow_right (omega arith) h)
 
--- a number read from its last byte on: none is read, and one more
-pub none_read : (b : List ℕ) → 0 ≡ little_endian (drop (length b) b)
+-- a number read from its last byte on
+pub read_all : (s : List ℕ) → AreBytes s → length s ≤ 8 → fold (λ x b. bit_or (x * 2 ^ 8 % 2 ^ 64) b) 0 (reverse s) ≡ little_endian s
 unfolding little_endian
-none_read b = ap little_endian (sym (drop-length b))
+read_all [] small few = refl
+read_all (b ∷ s) small few =
+    let read = λ (x y : ℕ). bit_or (x * 2 ^ 8 % 2 ^ 64) y in
+    let rest : little_endian s < 256 ^ 7 = little_endian_below s 7 (λ i. small (suc i)) (omega arith) in
+    ap (fold read 0) (reverse_onto s b [])
+    ∙ fold-append read 0 (reverse s) (b ∷ [])
+    ∙ ap (λ (x : ℕ). read x b) (read_all s (λ i. small (suc i)) (omega arith))
+    ∙ or_after_shift (little_endian s) 256 (2 ^ 64) b refl (small 0) (omega arith)
+    ∙ omega arith
 
-module _ (b : List ℕ) (i x : ℕ) (left : 0 < i) (h : i ≤ length b) (read : x ≡ little_endian (drop i b)) where
-  pub read_below : AreBytes b → length b ≤ 8 → x < 256 ^ 7
-  read_below small few =
-      omega (arith, little_endian_below (drop i b) 7 (λ k. rw get_or-drop (small (i + k))) (omega (arith, length-drop i b)))
-
-  pub one_more_read : 256 * x + get_or b (i - 1) 0 ≡ little_endian (drop (i - 1) b)
-  unfolding little_endian
-  one_more_read =
-      let e : suc (i - 1) ≡ i = omega arith in
-      omega (arith, ap little_endian (drop-cons b (i - 1) 0 (omega arith)), ap (λ (n : ℕ). little_endian (drop n b)) e)
+-- eight bytes as the library reads them
+pub from_bytes : (s : List ℕ) → length s ≡ 8 → from_le_bytes w64 s ≡ little_endian s
+unfolding little_endian
+from_bytes s long =
+    let at : (j : ℕ) → j < 8 → little_endian (drop j s) ≡ get_or s j 0 + 256 * little_endian (drop (suc j) s) = λ j l. ap little_endian (drop-cons s j 0 (omega arith)) in
+    let none : little_endian (drop 8 s) ≡ 0 = ap little_endian (drop_all 8 s (omega arith)) in
+    omega (arith, at 0 (omega arith), at 1 (omega arith), at 2 (omega arith), at 3 (omega arith), at 4 (omega arith), at 5 (omega arith), at 6 (omega arith), at 7 (omega arith))

@@ -1,15 +1,19 @@
 -- Words of a set: the numbers that their bytes make, and how many are in the set. Assumes nothing.
-use Rattle.std.proofs.Common.{◌≡◌, ℕ, zero, suc, ◌+◌, ◌-◌, ◌*◌, ◌/◌, ◌%◌, ◌^◌, ◌<◌, ◌≤◌, cond, eqb, List, length, get_or, take, drop, sym, refl, ap, ◌∙◌, ap₂, add-zero, pow-suc, zero-add, div-one, arith, length-drop, length-take-le, get_or-drop, get_or-take}
+use Rattle.std.proofs.Common.{◌≡◌, ℕ, zero, suc, ◌+◌, ◌-◌, ◌*◌, ◌/◌, ◌%◌, ◌^◌, ◌<◌, ◌≤◌, cond, eqb, List, [], length, get_or, take, drop, sym, refl, ap, ◌∙◌, ap₂, add-zero, pow-suc, zero-add, div-one, arith, length-drop, length-take-le, get_or-drop, get_or-take}
 use native.Mathlib.Decide.{dec_lt}
 use lib.Arith.{lt-one}
 use lib.Count.{ones, ones_step}
 use lib.ListN.{get_or-eq_default}
+use lib.Seq.{take_all}
+use Rattle.std.proofs.lemmas.List.{drop-drop}
+use Rattle.std.specs.Simd.{first_chunks}
+use Rattle.std.specs.Int.{w64, from_le_bytes}
 use Rattle.bits.specs.Member.{bit, mem}
 use Rattle.bits.specs.Words.{in_word, WordOf}
 use Rattle.bits.specs.Counting.{tally, population, Counted}
 use Rattle.bits.specs.LittleEndian.{little_endian}
 use Rattle.bits.proofs.Laws.{bit_zero, bit_shr, mem-past, mem_part, tally-same, tally-add, tally_none, population-fits}
-use Rattle.bits.proofs.LittleEndian.{AreBytes, little_endian_bits, little_endian_below}
+use Rattle.bits.proofs.LittleEndian.{AreBytes, little_endian_bits, little_endian_below, from_bytes}
 
 -- a number below 2 ^ k has as many bits as it has ones
 
@@ -57,12 +61,31 @@ module _ (s : List ℕ) (k n : ℕ) (few : n ≤ 8) (there : 8 * k + n ≤ lengt
   part_bits j h (yes l) = let start : 8 * (8 * k) ≡ 64 * k = omega arith in mem_part s (8 * k) n j l ∙ ap (λ (i : ℕ). mem s (i + j)) start
   part_bits j h (no l) = mem-past part j (omega (arith, part_length)) ∙ sym (mem-past s (64 * k + j) (omega (arith, all (omega arith))))
 
-  pub word_of : AreBytes s → (r : ℕ) → r ≡ little_endian part → WordOf s k r
+  word_of : AreBytes s → (r : ℕ) → r ≡ little_endian part → WordOf s k r
   word_of bytes r e =
       record {
         fits = omega (arith, little_endian_below part 8 (part_bytes bytes) (omega (arith, part_length)));
         bits = λ j h. ap (λ (x : ℕ). bit x j) e ∙ little_endian_bits part (part_bytes bytes) j ∙ part_bits j h (dec_lt j (8 * n));
       }
+
+-- the chunks of eight
+chunk_at : (n : ℕ) (s : List ℕ) (k : ℕ) → k < n → get_or (first_chunks 8 n s) k [] ≡ take 8 (drop (8 * k) s)
+chunk_at zero s k l = absurd (omega arith)
+chunk_at (suc n) s zero l = refl
+chunk_at (suc n) s (suc k) l = chunk_at n (drop 8 s) k (omega arith) ∙ ap (take 8) (drop-drop (8 * k) 8 s ∙ ap (λ (m : ℕ). drop m s) (omega arith))
+
+module _ (s : List ℕ) (k r : ℕ) (bytes : AreBytes s) where
+  pub word_whole : (n : ℕ) (ws : List (List ℕ)) → ws ≡ first_chunks 8 n s → n ≡ length s / 8 → k < n → r ≡ from_le_bytes w64 (get_or ws k []) → WordOf s k r
+  word_whole n ws e f l g =
+      let here : get_or ws k [] ≡ take 8 (drop (8 * k) s) = ap (λ (t : List (List ℕ)). get_or t k []) e ∙ chunk_at n s k l in
+      let long : length (take 8 (drop (8 * k) s)) ≡ 8 = length-take-le 8 (drop (8 * k) s) (omega (arith, length-drop (8 * k) s)) in
+      word_of s k 8 (omega arith) (omega arith) (λ q. omega arith) bytes r (g ∙ ap (from_le_bytes w64) here ∙ from_bytes (take 8 (drop (8 * k) s)) long)
+
+  pub word_rest : (rest : List ℕ) → rest ≡ drop (length s / 8 * 8) s → k ≡ length s / 8 → r ≡ little_endian rest → WordOf s k r
+  word_rest rest e f g =
+      let at : length s / 8 * 8 ≡ 8 * k = omega arith in
+      let all : take (length s % 8) (drop (8 * k) s) ≡ drop (8 * k) s = take_all (length s % 8) (drop (8 * k) s) (omega (arith, length-drop (8 * k) s)) in
+      word_of s k (length s % 8) (omega arith) (omega arith) (λ q. omega arith) bytes r (g ∙ ap little_endian (e ∙ ap (λ (m : ℕ). drop m s) at ∙ sym all))
 
 -- past the end
 pub word_past : (s : List ℕ) (k : ℕ) → length s < 8 * k → WordOf s k 0

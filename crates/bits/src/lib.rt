@@ -12,11 +12,7 @@ ghost use Rattle.bits.specs.LittleEndian.{little_endian};
 pub fn test(s: &[u8], i: usize) -> bool
     ensures { result ≡ mem s.now i }
 {
-    let at = i / 8;
-    if s.len() <= at {
-        return false;
-    }
-    (s[at] >> (i % 8)) % 2 == 1
+    s.get(i / 8).is_some_and(|byte| (*byte >> (i % 8)) % 2 == 1)
 }
 
 // Puts i into the set, where there is a place for it.
@@ -24,8 +20,9 @@ pub fn put(s: &mut [u8], i: usize)
     ensures { PutIn i s.old s.new }
 {
     let at = i / 8;
+    // By index: the library does not say what a slice ends as after get_mut.
     if at < s.len() {
-        s[at] = s[at] | (1u8 << (i % 8));
+        s[at] |= 1u8 << (i % 8);
     }
 }
 
@@ -34,38 +31,30 @@ fn little_endian(b: &[u8]) -> u64
     requires { length b.now ≤ 8 }
     ensures { result ≡ little_endian b.now }
 {
-    let mut x: u64 = 0;
-    let mut i = b.len();
-    while 0 < i {
-        i -= 1;
-        let low = b[i] as u64;
-        x = 256 * x + low;
-    }
-    x
+    b.iter()
+        .rev()
+        .fold(0, |x, byte| (x << 8) | u64::from(*byte))
 }
 
 // Word k of the set, the 64 numbers from 64 * k on. A last word of fewer than eight bytes is made of those; past the end it is 0.
 pub fn word(s: &[u8], k: usize) -> u64
     ensures { WordOf s.now k result }
 {
-    let last = s.len() / 8;
-    if last < k {
-        return 0;
+    let (words, rest) = s.as_chunks::<8>();
+    if k < words.len() {
+        u64::from_le_bytes(words[k])
+    } else if k == words.len() {
+        little_endian(rest)
+    } else {
+        0
     }
-    let from = 8 * k;
-    if k < last {
-        let to = from + 8;
-        return little_endian(&s[from..to]);
-    }
-    let to = s.len();
-    little_endian(&s[from..to])
 }
 
 // How many numbers of word k are in the set.
 fn count_word(s: &[u8], k: usize) -> u64
     ensures { result ≡ tally (in_word s.now k) 64 }
 {
-    u64::count_ones(word(s, k)) as u64
+    u64::from(word(s, k).count_ones())
 }
 
 // How many numbers are in the set.
@@ -74,21 +63,15 @@ pub fn count(s: &[u8]) -> u64
 {
     let last = s.len() / 8;
     let mut n: u64 = 0;
-    let mut k = 0;
-    while k < last {
-        n = std::num::wrapping_add_u64(n, count_word(s, k));
-        k += 1;
+    for k in 0..last {
+        n = n.wrapping_add(count_word(s, k));
     }
-    std::num::wrapping_add_u64(n, count_word(s, last))
+    n.wrapping_add(count_word(s, last))
 }
 
 // Takes every number out.
 pub fn clear(s: &mut [u8])
     ensures { s.new ≡ replicate (length s.old) 0 }
 {
-    let mut at = 0;
-    while at < s.len() {
-        s[at] = 0;
-        at += 1;
-    }
+    s.fill(0);
 }

@@ -1,279 +1,185 @@
 // The library's functions by the numbers of a batch's calls.
 ghost use Rattle.std.specs.Prelude.{◌≡◌, ◌<◌};
-ghost use Rattle.model.specs.Numbers.{reading_values};
-ghost use Rattle.numbers.specs.Told.{told};
-ghost use Rattle.batch.specs.Batch.{sum_from};
-ghost use Rattle.batch.specs.Parts.{table_numbers, recording_numbers, witness_numbers};
 
 use batch::parts::{recording_parts, table_parts, witness_parts};
 use batch::sums::{sum_recording, sum_table, sum_witness};
-use model::{Edition, RecordingReading, Rule, TableReading, WitnessReading};
-use numbers::{
-    Answer, VerdictAnswer, checking_numbers, reading_numbers, ruled_numbers, verdict_numbers,
-    writing_numbers,
-};
+use checker::{check_under, check_witness};
+use engine::{validate, validate_under};
+use model::{Edition, Refusal, Rule};
+use numbers::{Answer, VerdictAnswer};
 use read_back::{recording_back, table_back, witness_back};
 use recordings::write_recording;
+use rewrite::{rewrite_recording, rewrite_table, rewrite_witness};
 use tables::write_table;
 use witnesses::write_witness;
 
-// The numbers of an answer, the two counts of a rejection, and the sum over the parts that were read back, 1 where none are.
+// What a case asks for.
+#[derive(Clone, Copy, PartialEq, Eq)]
+pub(crate) enum Call {
+    Desk,
+    Library(Function),
+}
+
+// A function of the library. Where a witness is read or written, or left in the room, it is of an edition.
+#[derive(Clone, Copy, PartialEq, Eq)]
+pub(crate) enum Function {
+    Validate(Edition),
+    Check(Edition),
+    RewriteTable,
+    RewriteRecording,
+    RewriteWitness(Edition),
+    WriteTable,
+    WriteRecording,
+    WriteWitness(Edition),
+    TableBack,
+    RecordingBack,
+    WitnessBack(Edition),
+    ValidateUnder(Edition),
+    CheckUnder(Edition),
+}
+
+// A number that stands for no call.
+#[derive(Clone, Copy, Debug, PartialEq, Eq)]
+pub(crate) struct NoSuchCall;
+
+impl TryFrom<u8> for Call {
+    type Error = NoSuchCall;
+
+    fn try_from(number: u8) -> Result<Call, NoSuchCall> {
+        let function = match number {
+            0 => Function::Validate(Edition::One),
+            1 => Function::Check(Edition::One),
+            2 => Function::RewriteTable,
+            3 => Function::RewriteRecording,
+            4 => Function::RewriteWitness(Edition::One),
+            5 => return Ok(Call::Desk),
+            6 => Function::WriteTable,
+            7 => Function::WriteRecording,
+            8 => Function::WriteWitness(Edition::One),
+            9 => Function::TableBack,
+            10 => Function::RecordingBack,
+            11 => Function::WitnessBack(Edition::One),
+            12 => Function::Validate(Edition::Two),
+            13 => Function::Check(Edition::Two),
+            14 => Function::RewriteWitness(Edition::Two),
+            15 => Function::WriteWitness(Edition::Two),
+            16 => Function::WitnessBack(Edition::Two),
+            17 => Function::ValidateUnder(Edition::One),
+            18 => Function::CheckUnder(Edition::One),
+            19 => Function::ValidateUnder(Edition::Two),
+            20 => Function::CheckUnder(Edition::Two),
+            _ => return Err(NoSuchCall),
+        };
+        Ok(Call::Library(function))
+    }
+}
+
+// The files of a case.
+#[derive(Clone, Copy)]
+pub(crate) struct Files<'a> {
+    pub first: &'a [u8],
+    pub second: &'a [u8],
+    pub third: &'a [u8],
+}
+
+// The numbers of an answer, the two counts of a rejection among them, and the sum over the parts that were read back, 1 where none are.
 #[derive(Clone, Copy)]
 pub(crate) struct Outcome {
-    pub numbers: Answer,
-    pub early: u64,
-    pub late: u64,
+    pub told: VerdictAnswer,
     pub sum: u64,
 }
 
-// A verdict's five numbers.
-fn verdict_outcome(told: VerdictAnswer) -> Outcome
-    ensures { result.sum < 1000003 }
-{
+// An answer that reads no parts back.
+impl From<VerdictAnswer> for Outcome {
+    fn from(told: VerdictAnswer) -> Outcome {
+        Outcome { told, sum: 1 }
+    }
+}
+
+// .. and is no verdict.
+impl From<Answer> for Outcome {
+    fn from(answer: Answer) -> Outcome {
+        read_parts(answer, 1)
+    }
+}
+
+// The answer of reading parts back, and the sum over them.
+fn read_parts(answer: Answer, sum: u64) -> Outcome {
     Outcome {
-        numbers: Answer {
-            number: told.number,
-            second: told.second,
-            third: told.third,
+        told: VerdictAnswer {
+            number: answer.number,
+            second: answer.second,
+            third: answer.third,
+            not_yet: 0,
+            no_more: 0,
         },
-        early: told.not_yet,
-        late: told.no_more,
-        sum: 1,
+        sum,
     }
 }
 
-// An answer that is no verdict and reads no parts back.
-fn plain_outcome(numbers: Answer) -> Outcome
-    ensures { result.sum < 1000003 }
+// Parts that were read back; where the reading is refused the sum is over parts that are all 0.
+fn parts_outcome<P: Copy + Default, F: Fn(P) -> u64>(reading: Result<P, Refusal>, sum: F) -> Outcome
+    requires { F.IsAlwaysCallable sum }
 {
-    Outcome {
-        numbers,
-        early: 0,
-        late: 0,
-        sum: 1,
+    match reading {
+        Ok(parts) => read_parts(Answer::from(Ok::<(), Refusal>(())), sum(parts)),
+        Err(why) => read_parts(why.into(), sum(P::default())),
     }
 }
 
-fn validated<'a>(
-    edition: Edition,
-    budget: u32,
-    table: &'a [u8],
-    recording: &'a [u8],
-    scratch: &mut [u8],
-    room: &mut [u8],
-) -> Outcome
-    ensures { result.sum < 1000003 }
-{
-    verdict_outcome(verdict_numbers(engine::validate(
-        edition, table, recording, budget, scratch, room,
-    )))
-}
-
-// Calls 17 to 20: validate and check under a rule.
-fn under_rule<'a>(
-    rule: Rule,
-    edition: Edition,
-    checks: bool,
-    budget: u32,
-    first: &'a [u8],
-    second: &'a [u8],
-    third: &'a [u8],
-    scratch: &mut [u8],
-    room: &mut [u8],
-) -> Outcome
-    ensures { result.sum < 1000003 }
-{
-    if checks {
-        let checking = checker::check_under(rule, edition, first, second, third);
-        return plain_outcome(checking_numbers(checking));
-    }
-    verdict_outcome(ruled_numbers(engine::validate_under(
-        rule, edition, first, second, budget, scratch, room,
-    )))
-}
-
-fn from_files<'a>(
-    edition: Edition,
-    which: u8,
-    first: &'a [u8],
-    second: &'a [u8],
-    third: &'a [u8],
-    room: &mut [u8],
-) -> Answer {
-    if which == 1 {
-        return checking_numbers(checker::check_witness(edition, first, second, third));
-    }
-    if which == 2 {
-        return writing_numbers(rewrite::rewrite_table(first, room));
-    }
-    if which == 3 {
-        return writing_numbers(rewrite::rewrite_recording(first, second, room));
-    }
-    writing_numbers(rewrite::rewrite_witness(edition, first, room))
-}
-
-fn write<'a>(
-    edition: Edition,
-    which: u8,
-    first: &'a [u8],
-    second: &'a [u8],
-    third: &'a [u8],
-    room: &mut [u8],
-) -> Answer {
-    if which == 6 {
-        return writing_numbers(write_table(table_parts(first, second, third), room));
-    }
-    if which == 7 {
-        return writing_numbers(write_recording(first, recording_parts(second), room));
-    }
-    writing_numbers(write_witness(edition, witness_parts(first), room))
-}
-
-fn table_outcome(reading: TableReading) -> Outcome
-    ensures { (told result.numbers ≡ reading_values reading.answer) × (result.sum ≡ sum_from 1 (table_numbers reading.parts)) × (result.sum < 1000003) }
-{
-    let answer = reading.answer;
-    let parts = reading.parts;
-    Outcome {
-        numbers: reading_numbers(answer),
-        early: 0,
-        late: 0,
-        sum: sum_table(parts),
-    }
-}
-
-fn recording_outcome(reading: RecordingReading) -> Outcome
-    ensures { (told result.numbers ≡ reading_values reading.answer) × (result.sum ≡ sum_from 1 (recording_numbers reading.parts)) × (result.sum < 1000003) }
-{
-    let answer = reading.answer;
-    let parts = reading.parts;
-    Outcome {
-        numbers: reading_numbers(answer),
-        early: 0,
-        late: 0,
-        sum: sum_recording(parts),
-    }
-}
-
-fn witness_outcome(reading: WitnessReading) -> Outcome
-    ensures { (told result.numbers ≡ reading_values reading.answer) × (result.sum ≡ sum_from 1 (witness_numbers reading.parts)) × (result.sum < 1000003) }
-{
-    let answer = reading.answer;
-    let parts = reading.parts;
-    Outcome {
-        numbers: reading_numbers(answer),
-        early: 0,
-        late: 0,
-        sum: sum_witness(parts),
-    }
-}
-
-fn back<'a>(
-    edition: Edition,
-    which: u8,
-    first: &'a [u8],
-    second: &'a [u8],
-    third: &'a [u8],
-    room: &mut [u8],
-) -> Outcome
-    ensures { result.sum < 1000003 }
-{
-    if which == 9 {
-        return table_outcome(table_back(table_parts(first, second, third), room));
-    }
-    if which == 10 {
-        return recording_outcome(recording_back(first, recording_parts(second), room));
-    }
-    witness_outcome(witness_back(edition, witness_parts(first), room))
-}
-
-fn call_in<'a>(
-    edition: Edition,
-    which: u8,
-    budget: u32,
-    first: &'a [u8],
-    second: &'a [u8],
-    third: &'a [u8],
-    scratch: &mut [u8],
-    room: &mut [u8],
-) -> Outcome
-    ensures { result.sum < 1000003 }
-{
-    if which == 0 {
-        return validated(edition, budget, first, second, scratch, room);
-    }
-    if which < 5 {
-        return plain_outcome(from_files(edition, which, first, second, third, room));
-    }
-    if which < 9 {
-        return plain_outcome(write(edition, which, first, second, third, room));
-    }
-    back(edition, which, first, second, third, room)
-}
-
-// Calls 12 to 16 are the calls of edition 1 that read or write a witness, in edition 2.
-fn in_first(which: u8) -> u8 {
-    match which {
-        12 => 0,
-        13 => 1,
-        14 => 4,
-        15 => 8,
-        16 => 11,
-        other => other,
-    }
-}
-
-pub(crate) fn call<'a>(
-    which: u8,
+pub(crate) fn perform(
+    function: Function,
     rule: Rule,
     budget: u32,
-    first: &'a [u8],
-    second: &'a [u8],
-    third: &'a [u8],
+    files: &Files<'_>,
     scratch: &mut [u8],
     room: &mut [u8],
-) -> Outcome
-    ensures { result.sum < 1000003 }
-{
-    if which < 12 {
-        return call_in(
-            Edition::One,
-            which,
-            budget,
-            first,
-            second,
-            third,
-            scratch,
-            room,
-        );
+) -> Outcome {
+    let first = files.first;
+    let second = files.second;
+    let third = files.third;
+    match function {
+        Function::Validate(edition) => {
+            VerdictAnswer::from(validate(edition, first, second, budget, scratch, room)).into()
+        }
+        Function::ValidateUnder(edition) => VerdictAnswer::from(validate_under(
+            rule, edition, first, second, budget, scratch, room,
+        )).into(),
+        Function::Check(edition) => Answer::from(check_witness(
+            edition, first, second, third,
+        )).into(),
+        Function::CheckUnder(edition) => {
+            Answer::from(check_under(rule, edition, first, second, third)).into()
+        }
+        Function::RewriteTable => Answer::from(rewrite_table(first, room)).into(),
+        Function::RewriteRecording => Answer::from(rewrite_recording(first, second, room)).into(),
+        Function::RewriteWitness(edition) => {
+            Answer::from(rewrite_witness(edition, first, room)).into()
+        }
+        Function::WriteTable => {
+            Answer::from(write_table(table_parts(first, second, third), room)).into()
+        }
+        Function::WriteRecording => {
+            Answer::from(write_recording(first, recording_parts(second), room)).into()
+        }
+        Function::WriteWitness(edition) => {
+            Answer::from(write_witness(edition, witness_parts(first), room)).into()
+        }
+        Function::TableBack => {
+            parts_outcome(
+                table_back(table_parts(first, second, third), room),
+                sum_table,
+            )
+        }
+        Function::RecordingBack => parts_outcome(
+            recording_back(first, recording_parts(second), room),
+            sum_recording,
+        ),
+        Function::WitnessBack(edition) => {
+            parts_outcome(
+                witness_back(edition, witness_parts(first), room),
+                sum_witness,
+            )
+        }
     }
-    if 16 < which {
-        let edition = if which < 19 {
-            Edition::One
-        } else {
-            Edition::Two
-        };
-        return under_rule(
-            rule,
-            edition,
-            which % 2 == 0,
-            budget,
-            first,
-            second,
-            third,
-            scratch,
-            room,
-        );
-    }
-    let same = in_first(which);
-    call_in(
-        Edition::Two,
-        same,
-        budget,
-        first,
-        second,
-        third,
-        scratch,
-        room,
-    )
 }

@@ -9,36 +9,22 @@
 
 mod calls;
 
-ghost use Rattle.std.specs.Prelude.{◌+◌, ◌≤◌, length};
+ghost use Rattle.std.specs.Prelude.{◌≤◌, length};
 
-use crate::calls::{Outcome, call};
+use crate::calls::{Call, Files, Function, NoSuchCall, Outcome, perform};
 use batch::sums::sum;
 use batch::{Head, head_of, pattern};
-use model::Rule;
+use inputs::read_full;
 use std::io::{Read, Write};
 
-// Puts a number and the byte behind it at a place of the line, and returns the next place.
-fn put(n: u64, behind: u8, line: &mut [u8], at: usize) -> usize
-    requires { at ≤ 105 }
-    ensures { result ≤ at + 21 }
-{
-    let mut digits = [0u8; 20];
-    let count = io::decimal(n, &mut digits);
-    wire::place(&digits[0..count], line, at);
-    wire::place(&[behind], line, at + count);
-    at + count + 1
-}
-
 fn print<W: Write>(out: &mut W, outcome: Outcome, sum: u64) -> bool {
-    let answer = outcome.numbers;
-    let mut line = [0u8; 126];
-    let second = put(answer.number, b' ', &mut line, 0);
-    let third = put(answer.second, b' ', &mut line, second);
-    let early = put(answer.third, b' ', &mut line, third);
-    let late = put(outcome.early, b' ', &mut line, early);
-    let last = put(outcome.late, b' ', &mut line, late);
-    let end = put(sum, b'\n', &mut line, last);
-    out.write_all(&line[0..end]).is_ok()
+    let told = outcome.told;
+    writeln!(
+        out,
+        "{} {} {} {} {} {sum}",
+        told.number, told.second, told.third, told.not_yet, told.no_more
+    )
+    .is_ok()
 }
 
 // Ends the run with a line that no batch expects.
@@ -47,23 +33,14 @@ fn stop<W: Write>(out: &mut W, line: &[u8]) -> bool {
     false
 }
 
-// Reads as many bytes as there is room for, or as there are. A read that fails ends it as the end of the input does.
-fn read_full<R: Read>(input: &mut R, room: &mut [u8]) -> usize
+// A read that fails ends it as the end of the input does.
+fn fill<R: Read>(input: &mut R, room: &mut [u8]) -> usize
     ensures { result ≤ length room.new }
 {
-    let mut got = 0;
-    while got < room.len() {
-        match input.read(&mut room[got..]) {
-            Err(_) => return got,
-            Ok(more) => {
-                if more == 0 {
-                    return got;
-                }
-                got += more;
-            }
-        }
+    match read_full(input, room) {
+        Ok(got) => got,
+        Err(got) => got,
     }
-    got
 }
 
 fn desk<W: Write>(out: &mut W, input: &[u8]) -> bool {
@@ -74,58 +51,36 @@ fn desk<W: Write>(out: &mut W, input: &[u8]) -> bool {
     out.write_all(&text[0..count]).is_ok()
 }
 
-fn answer<'a, W: Write>(
+fn answer<W: Write>(
     out: &mut W,
-    which: u8,
-    rule: Rule,
-    budget: u32,
-    first: &'a [u8],
-    second: &'a [u8],
-    third: &'a [u8],
+    function: Function,
+    head: Head,
+    files: &Files<'_>,
     scratch: &mut [u8],
     room: &mut [u8],
 ) -> bool {
     pattern(scratch);
     pattern(room);
-    let outcome = call(which, rule, budget, first, second, third, scratch, room);
+    let outcome = perform(function, head.rule, head.budget, files, scratch, room);
     let total = sum(outcome.sum, scratch);
     print(out, outcome, sum(total, room))
 }
 
-// The first file ends where the second begins, and that one where the third does.
 fn run<W: Write>(
     out: &mut W,
     head: Head,
-    files: &[u8],
-    second: usize,
-    third: usize,
+    files: &Files<'_>,
     scratch: &mut [u8],
     room: &mut [u8],
-) -> bool
-    requires { (second ≤ third) × (third ≤ length files.now) }
-{
-    let which = head.call;
-    if which == 5 {
-        return desk(out, &files[0..second]);
+) -> bool {
+    match Call::try_from(head.call) {
+        Ok(Call::Desk) => desk(out, files.first),
+        Ok(Call::Library(function)) => answer(out, function, head, files, scratch, room),
+        Err(NoSuchCall) => stop(out, b"cases: there is no such call\n"),
     }
-    if 20 < which {
-        return stop(out, b"cases: there is no such call\n");
-    }
-    let rule = head.rule;
-    answer(
-        out,
-        which,
-        rule,
-        head.budget,
-        &files[0..second],
-        &files[second..third],
-        &files[third..],
-        scratch,
-        room,
-    )
 }
 
-// The limits of the lengths are what is lent.
+// The limits of the lengths are what is lent. The first file ends where the second begins, and that one where the third does.
 fn read_files<R: Read, W: Write>(
     input: &mut R,
     out: &mut W,
@@ -142,16 +97,19 @@ fn read_files<R: Read, W: Write>(
     if files.len() < end || scratch.len() < scratch_length || room.len() < room_length {
         return stop(out, b"cases: a length is above its limit\n");
     }
-    let part = &mut files[0..end];
-    if read_full(input, part) < end {
+    if fill(input, &mut files[0..end]) < end {
         return stop(out, b"cases: a file is cut\n");
     }
+    let read = &files[0..end];
+    let files = Files {
+        first: &read[0..second],
+        second: &read[second..third],
+        third: &read[third..],
+    };
     run(
         out,
         head,
-        part,
-        second,
-        third,
+        &files,
         &mut scratch[0..scratch_length],
         &mut room[0..room_length],
     )
@@ -166,17 +124,14 @@ fn one_case<R: Read, W: Write>(
     room: &mut [u8],
 ) -> bool {
     let mut bytes = [0u8; 28];
-    let got = read_full(input, &mut bytes);
-    if got == 0 {
-        return false;
+    match fill(input, &mut bytes) {
+        0 => false,
+        28 => read_files(input, out, head_of(&bytes), files, scratch, room),
+        _ => stop(out, b"cases: a head is cut\n"),
     }
-    if got < 28 {
-        return stop(out, b"cases: a head is cut\n");
-    }
-    read_files(input, out, head_of(&bytes), files, scratch, room)
 }
 
-// A proved loop has to end, and nothing says that the input does: it counts its turns down from a number that no run uses up.
+// A proved loop has to end, and nothing says that the input does: its turns are as many as no run uses up.
 fn all_cases<R: Read, W: Write>(
     input: &mut R,
     out: &mut W,
@@ -184,9 +139,10 @@ fn all_cases<R: Read, W: Write>(
     scratch: &mut [u8],
     room: &mut [u8],
 ) {
-    let mut turns = u64::MAX;
-    while turns > 0 && one_case(input, out, files, scratch, room) {
-        turns -= 1;
+    for _turn in 0..u64::MAX {
+        if !one_case(input, out, files, scratch, room) {
+            return;
+        }
     }
 }
 

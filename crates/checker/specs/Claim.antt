@@ -1,5 +1,5 @@
 -- What the checker promises. In demand 2's words: a witness of sound form is permitted exactly when it explains the recording.
-use Rattle.std.specs.Prelude.{◌≡◌, List, ◌↔◌, ℕ}
+use Rattle.std.specs.Prelude.{◌≡◌, List, ◌↔◌, ℕ, Ok, Err}
 use Rattle.model.specs.Table.{monitor_at}
 use Rattle.model.specs.Recording.{packets_at, SoundRecording}
 use Rattle.model.specs.Witness.{rows_at, SoundForm}
@@ -9,12 +9,11 @@ use Rattle.model.specs.Numbers.{values, checking_values}
 use Rattle.model.specs.Claims.{Explains, ExplainsUnder, FirstBreaks}
 use Rattle.model.specs.declared.Rule.{Rule}
 use Rattle.model.specs.declared.Edition.{Edition}
-use Rattle.model.specs.declared.Checking.{Checking}
-use Rattle.model.specs.declared.Checking.TheVariants.{Permitted, Unchecked}
+use Rattle.model.specs.First.{Checking}
 
 abbrev pub IsPermitted : Checking → Type 0
-IsPermitted (Permitted changed rows) = Unit {0}
-IsPermitted (Unchecked r) = ⊥
+IsPermitted (Ok _) = Unit {0}
+IsPermitted (Err r) = ⊥
 
 abbrev pub Faithful : Edition → (table recording witness : List ℕ) → Checking → Type 0
 Faithful edition table recording witness r =

@@ -7,55 +7,49 @@ ghost use Rattle.model.specs.Rules.{check_answer_under};
 ghost use Rattle.checker.specs.Claim.{Checks, ChecksUnder};
 
 use account::check_rows;
-use model::{Checking, Edition, Reading, Rule};
+use model::{Edition, Permitted, Refusal, Rule};
 use monitor::offsets;
 use rule::no_rule;
 use ruled::read_under;
 use witness::witness_frame;
 
 // What is read before the rows is answered first.
-fn checked<'a>(
+#[tactic(auto, using(crate::proofs::Answers::judged, model::proofs::Tests::then_sound), unfolding(model::specs::Rules::check_answer_under, model::specs::Rules::check_refusal, account::specs::Standing::checked_rows))]
+fn checked(
     rule: Rule,
     edition: Edition,
-    table: &'a [u8],
-    recording: &'a [u8],
+    table: &[u8],
+    recording: &[u8],
     witness: &[u8],
-) -> Checking
+) -> Result<Permitted, Refusal>
     ensures { result ≡ check_answer_under rule edition table.now recording.now witness.now }
 {
-    let reading = read_under(rule, table, recording);
-    let read = reading.answer;
-    if let Reading::Unsound(r) = read {
-        return Checking::Unchecked(r);
-    }
-    let frame = witness_frame(edition, witness);
-    if let Reading::Unsound(r) = frame {
-        return Checking::Unchecked(r);
-    }
-    let starts = offsets(table);
-    check_rows(rule, edition, table, &starts, recording, witness)
+    read_under(rule, table, recording)?;
+    witness_frame(edition, witness)?;
+    check_rows(rule, edition, table, &offsets(table), recording, witness)
 }
 
 // The answer on a witness of this edition: 0, or the first number that applies.
-pub fn check_witness<'a>(
+pub fn check_witness(
     edition: Edition,
-    table: &'a [u8],
-    recording: &'a [u8],
+    table: &[u8],
+    recording: &[u8],
     witness: &[u8],
-) -> Checking
+) -> Result<Permitted, Refusal>
     ensures { Checks edition table.now recording.now witness.now result }
 {
     checked(no_rule(), edition, table, recording, witness)
 }
 
 // The same under a rule.
-pub fn check_under<'a>(
+#[tactic(auto, using(crate::proofs::Answers::checks_under))]
+pub fn check_under(
     rule: Rule,
     edition: Edition,
-    table: &'a [u8],
-    recording: &'a [u8],
+    table: &[u8],
+    recording: &[u8],
     witness: &[u8],
-) -> Checking
+) -> Result<Permitted, Refusal>
     ensures { ChecksUnder rule edition table.now recording.now witness.now result }
 {
     checked(rule, edition, table, recording, witness)

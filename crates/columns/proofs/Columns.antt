@@ -19,10 +19,10 @@ use Rattle.wire.proofs.Room.{placed-behind}
 use Rattle.columns.specs.Filled.{filled}
 
 -- one more place of a column
-pub column_more : (f : ℕ → ℕ) (room : List ℕ) (i : ℕ) → i < length room → set (tab f i ++ drop i room) i (f i) ≡ tab f (i + 1) ++ drop (i + 1) room
+pub column_more : {A : Type 0} (f : ℕ → A) (room : List A) (i : ℕ) → i < length room → set (tab f i ++ drop i room) i (f i) ≡ tab f (i + 1) ++ drop (i + 1) room
 unfolding tab
 column_more f room i h =
-    ap (λ (l : List ℕ). set (tab f i ++ l) i (f i)) (drop-cons room i 0 h)
+    ap (λ l. set (tab f i ++ l) i (f i)) (drop-cons room i (f i) h)
     ∙ set_at (tab f i) _ (drop (suc i) room) (f i) i (length-tab f i)
     ∙ sym (append_assoc (tab f i) (f i ∷ []) (drop (suc i) room))
     ∙ rw add-one

@@ -2,6 +2,6 @@
 use Rattle.std.specs.Prelude.{ℕ, min, List, ◌++◌, length, drop}
 use Rattle.model.specs.Bytes.{tab}
 
--- a column with n numbers over its start, or as many as it has places
-unfoldable pub filled : (ℕ → ℕ) → ℕ → List ℕ → List ℕ
+-- a column with f 0 .. f (n - 1) over its start, or as many of them as it has places
+unfoldable pub filled : {A : Type 0} → (ℕ → A) → ℕ → List A → List A
 filled f n column = tab f (min n (length column)) ++ drop (min n (length column)) column

@@ -1,13 +1,6 @@
--- The program of document 01: what reading its input comes to, and the lines that it prints.
+-- The program of document 01: the lines that it prints.
 use Rattle.std.specs.Prelude.{ℕ, ◌≤◌, ◌≡◌, List, length}
 use Rattle.model.specs.Desk.{desk_lines, in_text}
-use Rattle.desk.specs.declared.Input.{Input}
-use Rattle.desk.specs.declared.Input.TheVariants.{Whole, Failed}
-
--- so many bytes were read as the buffer has room for; what they are no contract can say
-abbrev pub Within : Input → List ℕ → Type 0
-Within (Whole bytes) buffer = bytes ≤ length buffer
-Within Failed buffer = Unit {0}
 
 -- the lines for an input, as far as they fit the text, and how many bytes they are: never more than 400,000
 pub record Printed (input text text_left : List ℕ) (bytes : ℕ) : Type 0 where

@@ -2,38 +2,20 @@
 
 #![tactic(auto)]
 
-ghost use Rattle.std.specs.Prelude.{◌<◌, length};
-ghost use Rattle.desk.specs.Program.{Within, Printed};
+ghost use Rattle.std.specs.Prelude.{◌<◌, ◌≤◌, length, IfSome};
+ghost use Rattle.desk.specs.Program.{Printed};
 
+use inputs::read_full;
 use std::env::{Env, FillError};
 use std::io::{IsTerminal, Read, Write};
 
-// What reading standard input came to.
-#[derive(Clone, Copy)]
-enum Input {
-    Whole { bytes: usize },
-    Failed,
-}
-
 // Reads to the end of the input, or as far as there is room: one byte more than may be judged shows that it is too long.
 // A read that fails is never taken for the end.
-fn read_input<R: Read>(stdin: &mut R, input: &mut [u8]) -> Input
+fn read_input<R: Read>(stdin: &mut R, input: &mut [u8]) -> Option<usize>
     requires { 8192 < length input.old }
-    ensures { Within result input.new }
+    ensures { IfSome result (λ bytes. bytes ≤ length input.new) }
 {
-    let mut got = 0;
-    while got < input.len() {
-        match stdin.read(&mut input[got..]) {
-            Err(_) => return Input::Failed,
-            Ok(more) => {
-                if more == 0 {
-                    return Input::Whole { bytes: got };
-                }
-                got += more;
-            }
-        }
-    }
-    Input::Whole { bytes: got }
+    read_full(stdin, input).ok()
 }
 
 // Judges with the program's own scratch and witness room.
@@ -48,11 +30,7 @@ fn answer(input: &[u8], text: &mut [u8]) -> usize
 // Is there an argument behind the program's name? One that does not fit the buffer is one all the same.
 fn has_argument<E: Env>(rt: &E) -> bool {
     let mut byte = [0u8; 1];
-    match rt.arg(1, &mut byte) {
-        Ok(_) => true,
-        Err(FillError::TooLong) => true,
-        Err(FillError::NotPresent) => false,
-    }
+    !matches!(rt.arg(1, &mut byte), Err(FillError::NotPresent))
 }
 
 // A line on standard error. Where it cannot be written, nothing is left to say.
@@ -71,8 +49,7 @@ fn main(rt: HostRuntime) {
         return;
     }
     let mut input = [0u8; 8193];
-    let reading = read_input(&mut stdin, &mut input);
-    let Input::Whole { bytes } = reading else {
+    let Some(bytes) = read_input(&mut stdin, &mut input) else {
         complain(&mut stderr, b"desk: standard input could not be read\n");
         return;
     };

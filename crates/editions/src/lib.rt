@@ -23,7 +23,7 @@ pub fn size_at(edition: Edition, b: &[u8], at: usize) -> u32
     ensures { (result ≡ size_at edition b.now at) × (result < 4294967296) }
 {
     match edition {
-        Edition::One => word(b, at) as u32,
+        Edition::One => u32::from(word(b, at)),
         Edition::Two => long(b, at),
     }
 }

@@ -1,5 +1,5 @@
 -- What judging a sound recording starts from and ends with.
-use Rattle.std.specs.Prelude.{ℕ, ◌+◌, ◌*◌, ◌≤◌, ◌≡◌, List, length, replicate}
+use Rattle.std.specs.Prelude.{ℕ, ◌+◌, ◌*◌, ◌≤◌, ◌≡◌, List, length, replicate, Ok}
 use Rattle.model.specs.Edition.{rows_place}
 use Rattle.model.specs.Monitor.{Monitor}
 use Rattle.model.specs.Table.{table_parts}
@@ -33,10 +33,10 @@ pub record Ending (edition : Edition) (table offsets recording scratch room : Li
 pub record Concluded (edition : Edition) (m : Monitor) (recording : List ℕ) (budget : ℕ) (scratch room scratch_then room_then : List ℕ) (v : Verdict) : Type 0 where
   pub long : length scratch_then ≡ length scratch
   pub answered : v ≡ verdict m (packets_at recording) budget
-  pub written : room_then ≡ room_by v (witness_bytes edition (preferred m (packets_at recording))) room
+  pub written : room_then ≡ room_by (Ok v) (witness_bytes edition (preferred m (packets_at recording))) room
 
 -- the verdict, the scratch zero, and the witness in the room where there is one
 pub record Settled (edition : Edition) (m : Monitor) (recording : List ℕ) (budget : ℕ) (scratch room scratch_then room_then : List ℕ) (v : Verdict) : Type 0 where
   pub answered : v ≡ verdict m (packets_at recording) budget
   pub cleared : scratch_then ≡ replicate (length scratch) 0
-  pub written : room_then ≡ room_by v (witness_bytes edition (preferred m (packets_at recording))) room
+  pub written : room_then ≡ room_by (Ok v) (witness_bytes edition (preferred m (packets_at recording))) room

@@ -6,14 +6,13 @@ mod judge;
 
 ghost use Rattle.std.specs.Prelude.{◌≡◌};
 ghost use Rattle.model.specs.Ruled.{monitor_under, ruled_answer};
-ghost use Rattle.model.specs.Validation as Validation;
 ghost use Rattle.engine.specs.Validates.{Answered, Validates, ValidatesUnder};
 
 use editions::rows_place;
 use judge::judge;
 use lent::{Loan, lent_answer};
 use measures::measure;
-use model::{Edition, Reading, Rule, RuledVerdict, Verdict};
+use model::{Edition, Refusal, Rule, RuledVerdict, Verdict};
 use rule::no_rule;
 use ruled::read_under;
 use wire::word;
@@ -27,15 +26,10 @@ fn judged<'a>(
     budget: u32,
     scratch: &mut [u8],
     room: &mut [u8],
-) -> Verdict
+) -> Result<Verdict, Refusal>
     ensures { Answered (ruled_answer rule table.now recording.now) edition (monitor_under rule table.now) recording.now budget scratch.old room.old scratch.new room.new result }
 {
-    let reading = read_under(rule, table, recording);
-    let answer = reading.answer;
-    if let Reading::Unsound(why) = answer {
-        return Verdict::Refused(why);
-    }
-    let parts = reading.parts;
+    let parts = read_under(rule, table, recording)?;
     let g = measure(parts, rule, recording);
     let scratch_wanted = g.row * (g.last + 1);
     let room_wanted = rows_place(edition) + 5 * (g.last + word(recording, 3) as usize);
@@ -47,12 +41,9 @@ fn judged<'a>(
         wanted: room_wanted,
         length: room.len(),
     };
-    let lent = lent_answer(edition, g.last, for_scratch, for_room);
-    if let Reading::Unsound(why) = lent {
-        return Verdict::Refused(why);
-    }
+    lent_answer(edition, g.last, for_scratch, for_room)?;
     let part = &mut scratch[0..scratch_wanted];
-    judge(edition, table, recording, g, budget as u64, part, room)
+    Ok(judge(edition, table, recording, g, budget as u64, part, room))
 }
 
 // Judges a recording against a table, with a scratch and a witness room that the caller lends, whatever they hold. The caller names the witness's edition.
@@ -63,31 +54,10 @@ pub fn validate<'a>(
     budget: u32,
     scratch: &mut [u8],
     room: &mut [u8],
-) -> Verdict
+) -> Result<Verdict, Refusal>
     ensures { Validates edition table.now recording.now budget scratch.old room.old scratch.new room.new result }
 {
     judged(no_rule(), edition, table, recording, budget, scratch, room)
-}
-
-fn ruled(verdict: Verdict) -> RuledVerdict
-    ensures { result ≡ Validation.ruled verdict }
-{
-    match verdict {
-        Verdict::Accepted { cost, rows } => RuledVerdict::Accepted { cost, rows },
-        Verdict::Rejected {
-            cost,
-            instant,
-            not_yet,
-            no_more,
-        } => RuledVerdict::Unlikely {
-            cost,
-            instant,
-            not_yet,
-            no_more,
-        },
-        Verdict::Exhausted { budget, instant } => RuledVerdict::Exhausted { budget, instant },
-        Verdict::Refused(why) => RuledVerdict::Refused(why),
-    }
 }
 
 // The same under a measured loss rate (R-7).
@@ -99,9 +69,9 @@ pub fn validate_under<'a>(
     budget: u32,
     scratch: &mut [u8],
     room: &mut [u8],
-) -> RuledVerdict
+) -> Result<RuledVerdict, Refusal>
     ensures { ValidatesUnder rule edition table.now recording.now budget scratch.old room.old scratch.new room.new result }
 {
-    let verdict = judged(rule, edition, table, recording, budget, scratch, room);
-    ruled(verdict)
+    let verdict = judged(rule, edition, table, recording, budget, scratch, room)?;
+    Ok(verdict.into())
 }

@@ -3,7 +3,7 @@
 use Prim.Native.Nat.{ℕ}
 use mathlib.Core.Path.{◌≡◌, refl}
 use mathlib.Core.List.{List, [], ◌∷◌, ◌++◌, map}
-use mathlib.Core.Option.{bind}
+use Rattle.std.specs.Option.{option_and_then}
 use lib.ListN.{length, drop, replicate}
 use Rattle.model.specs.Bytes.{tab, joined, padded}
 use Rattle.model.specs.Frame.{framed, framed_rows}
@@ -25,8 +25,7 @@ use Rattle.model.specs.Witness.{rows_bytes, witness_bytes}
 use Rattle.model.specs.Validation.{rows_by, rows_of, preferred, pairs_at, verdict, scratch_wanted, refusal_of, validation_of, validation, scratch_by, room_by, scratch_left, room_left, scratch_after, room_after, possible_after}
 use Rattle.model.specs.Desk.{digits, row_lines, verdict_lines, judged_lines, table_length, lines_for, desk_lines}
 use Rattle.model.specs.declared.Edition.{Edition}
-use Rattle.model.specs.declared.Reading.{Reading}
-use Rattle.model.specs.declared.Verdict.{Verdict}
+use Rattle.model.specs.First.{Reading, Validating}
 use Rattle.model.specs.declared.Edition.TheVariants.{One}
 
 -- what a run leaves: its values, the scratch and the room
@@ -54,9 +53,9 @@ defined edition table recording budget =
 
 -- the same, with the verdict worked out once; given: the answer on table, recording and rule
 unfoldable pub run_of : Reading → Edition → Monitor → (recording : List ℕ) → ℕ → Run
-unfolding dirty_scratch dirty_room tab joined padded holds largest leaf_at guard_at changed reset fires largest_in greatest cap table_size size among targets reached_in is_reached lowest_missing states_answer whole_answer rule_answer ruled_answer guard_in transition_in monitor_of framed framed_rows counts_of implied_device device_at device_fits kind_record kind_records apart transition_fields guard_record transition_record transition_records transition_at guard_place table_parts scan_with table_scan answer_with table_answer clear_of_before recorded_row recorded_rows recording_frame recording_scan recording_answer recording_parts packets_of end_of capped window_behind set_bits allows within_rule sent missed moved step_by recorded_at move_of number situation_of step_number count first_from spread image layer total last_instant cost passing leads live walk least_moves rows_by rows_of preferred greatest_bound comes_by readiness tried how_many pairs answer_in pairs_at verdict refusal_of validation_of bind rows_bytes witness_bytes
+unfolding dirty_scratch dirty_room tab joined padded holds largest leaf_at guard_at changed reset fires largest_in greatest cap table_size size among targets reached_in is_reached lowest_missing states_answer whole_answer rule_answer ruled_answer guard_in transition_in monitor_of framed framed_rows counts_of implied_device device_at device_fits kind_record kind_records apart transition_fields guard_record transition_record transition_records transition_at guard_place table_parts scan_with table_scan answer_with table_answer clear_of_before recorded_row recorded_rows recording_frame recording_scan recording_answer recording_parts packets_of end_of capped window_behind set_bits allows within_rule sent missed moved step_by recorded_at move_of number situation_of step_number count first_from spread image layer total last_instant cost passing leads live walk least_moves rows_by rows_of preferred greatest_bound comes_by readiness tried how_many pairs answer_in pairs_at verdict refusal_of validation_of rows_bytes witness_bytes
 run_of given edition m recording budget =
-    let v : Verdict = validation_of given edition m (packets_at recording) budget (length dirty_scratch) (length dirty_room) in
+    let v : Validating = validation_of given edition m (packets_at recording) budget (length dirty_scratch) (length dirty_room) in
     record {
       answer = verdict_values v;
       counts = verdict_counts v;

@@ -7,7 +7,8 @@ use mathlib.Core.Logic.{⊎_elim}
 use mathlib.Core.List.Memᴰ
 use mathlib.Core.List.{List, [], ◌∷◌, Memᴰ}
 use mathlib.Core.Bool.{Bool, true, false, cond, not, ◌&&◌}
-use mathlib.Core.Option.{Option, none, some, map, bind}
+use Rattle.std.specs.Prelude.{Option, Some, None}
+use Rattle.std.specs.Option.{option_map, option_and_then}
 use lib.ListN.{set}
 use lib.Dec.{eqb}
 use borrow.Author.Tests.{eq-eqb}
@@ -38,14 +39,14 @@ pub record ExplainedBefore (m : Monitor) (recording : List Packet) (rows : List 
 
 -- a removed row took no air, and a row of another kind could be added at its instant
 unfoldable pub moved_before : Monitor → Option ℕ → Situation → Move → Option Situation
-moved_before m none s a = moved m none s a
-moved_before m (some k) s (keep j) = sent m false j k s
-moved_before m (some k) s rest = cond (to_unit m k) (some s) none
-moved_before m (some k) s (add j) = bind (trigger_of m j) (λ a. cond (to_unit m k && not (eqb a k)) (sent m (is_guess m a) j a s) none)
+moved_before m None s a = moved m None s a
+moved_before m (Some k) s (keep j) = sent m false j k s
+moved_before m (Some k) s rest = cond (to_unit m k) (Some s) None
+moved_before m (Some k) s (add j) = option_and_then (λ a. cond (to_unit m k && not (eqb a k)) (sent m (is_guess m a) j a s) None) (trigger_of m j)
 
 unfoldable pub step_before : Monitor → List Packet → (t n k : ℕ) → Option ℕ
 step_before m recording t n k =
-    map (λ s. number m (tick (capped m) s)) (moved_before m (recorded_at recording t) (situation_of m n) (move_of k))
+    option_map (λ s. number m (tick (capped m) s)) (moved_before m (recorded_at recording t) (situation_of m n) (move_of k))
 
 -- the situations left at the end, and the least moves
 abbrev pub left_before : Monitor → List Packet → List Bool

@@ -5,9 +5,8 @@ use native.Mathlib.Omega.{arith}
 use mathlib.Core.Path.{◌≡◌, refl, sym, ap, ap₂, subst, ◌∙◌}
 use mathlib.Core.List.{List}
 use mathlib.Core.Bool.{Bool, true, false, cond, not, ◌&&◌, ◌||◌, and-false, and-true, or-false}
-use mathlib.Core.Option.{Option, none, some}
+use Rattle.std.specs.Prelude.{Option, Some, None, slice_get}
 use lib.Dec.{ltb}
-use lib.ListN.{get_elem?}
 use borrow.Author.Tests.{eqb-false, ltb-true}
 use Rattle.model.specs.Size as Size
 use Rattle.model.specs.Monitor.{Monitor, Transition, to_unit, airtime}
@@ -64,12 +63,12 @@ Used p table offsets r =
 rests-same : (m : Monitor) (recorded : Option ℕ) (s t : ℕ → Bool) → ((y : ℕ) → y < Size.size m → s y ≡ t y)
     → (i : ℕ) → i < Size.size m → rests_back m recorded s i ≡ rests_back m recorded t i
 unfolding rests_back
-rests-same m none s t e i l = by (ltb i (free m))
+rests-same m None s t e i l = by (ltb i (free m))
   where
     by : (b : Bool) → s (cond b i (i - free m)) ≡ t (cond b i (i - free m))
     by true = e i l
     by false = e (i - free m) (omega arith)
-rests-same m (some k) s t e i l = ap (λ (b : Bool). to_unit m k && b) (by (ltb i (free m)) refl)
+rests-same m (Some k) s t e i l = ap (λ (b : Bool). to_unit m k && b) (by (ltb i (free m)) refl)
   where
     by : (b : Bool) → ltb i (free m) ≡ b → (b && s (i + free m * airtime m k)) ≡ (b && t (i + free m * airtime m k))
     by true f = e (i + free m * airtime m k) (omega (arith, air-below m k i (ltb-true i (free m) f)))
@@ -149,7 +148,7 @@ module _ {m : Monitor} {table offsets : List ℕ} {h : Shape} {size n : ℕ} {p 
     in_next t w v = up (source_at m t w v) (below (plane m) (of_next t w v)) i
 
     -- the set for what a transition resets, where the transition is fired
-    place_is : (j : ℕ) (t : Transition) → get_elem? m.transitions j ≡ some t → bit p.live t.source ≡ true → fits (heard_by p) t ≡ true
+    place_is : (j : ℕ) (t : Transition) → slice_get m.transitions j ≡ Some t → bit p.live t.source ≡ true → fits (heard_by p) t ≡ true
         → (w v x : ℕ) → x < plane m → of_sets t w v x ≡ of_next t w v x
     unfolding set_at fires_now
     place_is j t listed a b w v x l =

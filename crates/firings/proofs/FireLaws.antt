@@ -4,14 +4,12 @@ use native.Mathlib.Nat.{add_assoc}
 use mathlib.Core.Path.{◌≡◌, refl, sym, ap, ap₂, subst, ◌∙◌}
 use mathlib.Core.List.{List}
 use mathlib.Core.Bool.{Bool, true, false, cond, ◌&&◌, false≢true}
-use mathlib.Core.Option.{Option, some}
-use lib.ListN.{get_elem?}
+use Rattle.std.specs.Prelude.{Option, Some, slice_get}
 use Rattle.model.specs.Rule.{masks, allows}
 use Rattle.model.specs.Monitor.{Monitor, Transition}
 use Rattle.model.proofs.Basics.{same_test}
 use Rattle.monitor.specs.From.{transition_count}
 use Rattle.words.specs.Words.{bit, mem, up, below, meet, any_below}
-use Rattle.situation.specs.Rows.{heard_of}
 use Rattle.situation.specs.declared.Shape.{Shape}
 use Rattle.instants.specs.Grid.{plane, assignments}
 use Rattle.instants.specs.Firing.{fits, guessed, source_at, target_at, holds_at, some_firing}
@@ -26,7 +24,7 @@ use Rattle.firings.proofs.PlanLaws.{transition_at_lem, transition-below, transit
 -- a source from which a number of the set starts is live
 pub source-live : {m : Monitor} {table offsets : List ℕ} {h : Shape} {size n : ℕ} → Ready m table offsets h size n
     → (live : ℕ) (s : ℕ → Bool) → Live m live s
-    → (j : ℕ) (t : Transition) → get_elem? m.transitions j ≡ some t
+    → (j : ℕ) (t : Transition) → slice_get m.transitions j ≡ Some t
     → (w v x : ℕ) → w < masks m.rule → v < assignments m → x < plane m → s (source_at m t w v + x) ≡ true → bit live t.source ≡ true
 unfolding source_at
 source-live ready live s lives j t e w v x hw hv hx member = by (bit live t.source) refl
@@ -37,13 +35,13 @@ source-live ready live s lives j t e w v x hw hv hx member = by (bit live t.sour
 
 -- what is recorded
 abbrev pub heard_by : Plan → Option ℕ
-heard_by p = heard_of p.heard
+heard_by p = p.heard
 
 -- transitions first or windows first
 module _ (m : Monitor) (recorded : Option ℕ) (T : ℕ → Transition) (count : ℕ)
-    (at : (j : ℕ) → j < count → get_elem? m.transitions j ≡ some (T j))
-    (few : (j : ℕ) (t : Transition) → get_elem? m.transitions j ≡ some t → j < count)
-    (is : (j : ℕ) (t : Transition) → get_elem? m.transitions j ≡ some t → T j ≡ t)
+    (at : (j : ℕ) → j < count → slice_get m.transitions j ≡ Some (T j))
+    (few : (j : ℕ) (t : Transition) → slice_get m.transitions j ≡ Some t → j < count)
+    (is : (j : ℕ) (t : Transition) → slice_get m.transitions j ≡ Some t → T j ≡ t)
     (live : Transition → Bool) (f : (j w v : ℕ) → Bool) (g : Transition → (w v : ℕ) → Bool)
     (same : (j w v : ℕ) → j < count → v < assignments m → f j w v ≡ g (T j) w v) where
   abbrev of_window : (j w : ℕ) → Bool

@@ -5,14 +5,15 @@ use native.Mathlib.Omega.{arith}
 use mathlib.Core.Path.{◌≡◌, sym, ap, subst, ◌∙◌}
 use mathlib.Core.List.{List, [], ◌∷◌}
 use mathlib.Core.Bool.{Bool, true, false, cond}
-use mathlib.Core.Option.{some}
-use lib.ListN.{get_or, get_elem?}
+use Rattle.std.specs.Prelude.{Some, slice_get}
+use lib.ListN.{get_or}
 use lib.Dec.{eqb}
 use Rattle.model.specs.Rule.{masks, window_behind}
 use Rattle.model.specs.Monitor.{Monitor, Transition, changed, airtime}
 use Rattle.model.specs.Size as Size
 use Rattle.model.specs.Table.{transitions_at}
-use Rattle.model.proofs.Basics.{get_elem_tab, get_elem_within}
+use Rattle.model.proofs.Basics.{get_elem_tab}
+use Rattle.std.proofs.lemmas.Option.{slice_get_within}
 use Rattle.model.proofs.RuleLaws.{behind-below}
 use Rattle.monitor.specs.From.{monitor_from, transition_count}
 use Rattle.situation.specs.Ruled.{ruled_from}
@@ -69,20 +70,20 @@ air-below m k x h =
 module _ {m : Monitor} {table offsets : List ℕ} {h : Shape} {size n : ℕ} (ready : Ready m table offsets h size n) where
   -- transition j is the one whose record starts at offset j
 
-  pub transition_at_lem : (j : ℕ) → j < transition_count table → get_elem? m.transitions j ≡ some (transition_by table offsets j)
+  pub transition_at_lem : (j : ℕ) → j < transition_count table → slice_get m.transitions j ≡ Some (transition_by table offsets j)
   unfolding monitor_from
   transition_at_lem j l =
-      subst (λ (x : Monitor). get_elem? x.transitions j ≡ some (transition_by table offsets j)) ready.described
+      subst (λ (x : Monitor). slice_get x.transitions j ≡ Some (transition_by table offsets j)) ready.described
       (get_elem_tab (transition_by table offsets) (transitions_at table) j (omega arith))
 
-  pub transition-below : (j : ℕ) (t : Transition) → get_elem? m.transitions j ≡ some t → j < transition_count table
-  transition-below j t e = omega (arith, ready.counted, get_elem_within m.transitions j t e)
+  pub transition-below : (j : ℕ) (t : Transition) → slice_get m.transitions j ≡ Some t → j < transition_count table
+  transition-below j t e = omega (arith, ready.counted, slice_get_within m.transitions j t e)
 
-  pub transition-is : (j : ℕ) (t : Transition) → get_elem? m.transitions j ≡ some t → transition_by table offsets j ≡ t
-  transition-is j t e = let f : some (transition_by table offsets j) ≡ some t = sym (transition_at_lem j (transition-below j t e)) ∙ e in cc
+  pub transition-is : (j : ℕ) (t : Transition) → slice_get m.transitions j ≡ Some t → transition_by table offsets j ≡ t
+  transition-is j t e = let f : Some (transition_by table offsets j) ≡ Some t = sym (transition_at_lem j (transition-below j t e)) ∙ e in cc
 
   -- the plane after a firing has numbers of situations
-  pub target_below : (j : ℕ) (t : Transition) → get_elem? m.transitions j ≡ some t
+  pub target_below : (j : ℕ) (t : Transition) → slice_get m.transitions j ≡ Some t
       → (guess : Bool) (w v x : ℕ) → x < plane m → target_at m guess t w v + x < size
   unfolding target_at
   target_below j t e guess w v x l =

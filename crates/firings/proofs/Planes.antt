@@ -6,16 +6,17 @@ use native.Mathlib.Nat.{mul-add, mul-zero, mul-suc, pow-suc}
 use mathlib.Core.Path.{◌≡◌, refl, sym, ap, ap₂, subst, ◌∙◌}
 use mathlib.Core.List.{List}
 use mathlib.Core.Bool.{Bool, true, false, cond, ◌&&◌, ◌||◌, and-false}
-use borrow.Author.Tests.{le-ltb}
+use borrow.Author.Tests.{le-ltb, leb-true}
+use lib.Dec.{leb}
+use lib.Pow.{shl_exact}
 use lib.ListN.{get_or}
 use Rattle.model.specs.Rule.{window_behind, allows}
 use Rattle.model.specs.Monitor.{Monitor, Transition, changed, airtime}
-use Rattle.words.specs.Words.{bit, mem, Joined, any_below, up, below, meet}
+use Rattle.words.specs.Words.{mem, Joined, any_below, up, below, meet}
 use Rattle.words.proofs.Sets.{join_none, join_join, join_same, up_more}
 use Rattle.monitor.specs.From.{transition_from}
-use Rattle.situation.specs.Rows.{heard_of}
 use Rattle.situation.specs.Ruled.{ruled_from}
-use Rattle.instants.specs.Firing.{fits, guessed}
+use Rattle.instants.specs.Firing.{guessed}
 use Rattle.firings.proofs.SameLaws.{any_same}
 use Rattle.firings.specs.declared.Plan.{Plan}
 use Rattle.firings.specs.Fired.{place_by, here_by, there_by, carried, carried_each, fired_from, fires_now, fired_by, fired_one, fired}
@@ -89,6 +90,12 @@ pub changed_none : (n v : ℕ) → v < 2 ^ n → changed n v 0 0 ≡ v
 unfolding changed
 changed_none zero v h = omega arith
 changed_none (suc n) v h = omega (arith, changed_none n (v / 2) (omega (arith, pow-suc 2 n)))
+
+pub kept : (n masks sets clears : ℕ) → sets ≡ 0 × clears ≡ 0 × (n < 8) → leb masks (1 * 2 ^ n % 65536) ≡ true → (v : ℕ) → v < masks
+    → changed n v sets clears ≡ v
+kept n masks sets clears (e, f, h) l v k =
+    let one : 1 * 2 ^ n % 65536 ≡ 1 * 2 ^ n = shl_exact 1 n 16 (omega arith) (omega arith) in
+    ap₂ (λ (s c : ℕ). changed n v s c) e f ∙ changed_none n v (omega (arith, leb-true masks (1 * 2 ^ n % 65536) l, one))
 
 -- one transition from one window, plane by plane
 module _ (p : Plan) (src planes : List ℕ) (variables sets clears here there guard : ℕ) where
@@ -203,24 +210,17 @@ module _ (p : Plan) (table offsets src planes : List ℕ) where
     abbrev ruled : Monitor
     ruled = ruled_from p.shape table offsets
 
-    pub one_dead : bit p.live (transition_from table at).source ≡ false → Joined (fired_one p table offsets src planes j) a a
-    unfolding fired_one fires_now
-    one_dead h =
+    pub one_rests : fires_now p (transition_from table at) ≡ false → Joined (fired_one p table offsets src planes j) a a
+    unfolding fired_one
+    one_rests h =
         join_none (fired_one p table offsets src planes j) a
         (λ i l. rw (← e, h))
 
-    pub one_unfit : fits (heard_of p.heard) (transition_from table at) ≡ false → Joined (fired_one p table offsets src planes j) a a
-    unfolding fired_one fires_now
-    one_unfit h =
-        join_none (fired_one p table offsets src planes j) a
-        (λ i l. simp (← e, h, and-false))
-
-    pub one_fires : (b : List ℕ) (guess : Bool) → bit p.live (transition_from table at).source ≡ true → fits (heard_of p.heard) (transition_from table at) ≡ true
-        → guess ≡ guessed ruled (heard_of p.heard) (transition_from table at)
+    pub one_fires : (b : List ℕ) (guess : Bool) → fires_now p (transition_from table at) ≡ true → guess ≡ guessed ruled p.heard (transition_from table at)
         → Joined (fired_by p ruled src planes guess (transition_from table at) (p.apart * j) p.shape.windows) a b
         → Joined (fired_one p table offsets src planes j) a b
-    unfolding fired_one fires_now
-    one_fires b guess h k g x =
+    unfolding fired_one
+    one_fires b guess h g x =
         join_same (fired_by p ruled src planes guess (transition_from table at) (p.apart * j) p.shape.windows) (fired_one p table offsets src planes j) a b
-        (λ i l. simp (← e, h, k, g))
+        (λ i l. simp (← e, h, g))
         x

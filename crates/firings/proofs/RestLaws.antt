@@ -7,7 +7,7 @@ use mathlib.Core.Path.{◌≡◌, sym, ap, ap₂, ◌∙◌}
 use mathlib.Core.Logic.{⊎_elim}
 use mathlib.Core.List.{List}
 use mathlib.Core.Bool.{Bool, false, cond, ◌&&◌, ◌||◌, and_self, or-false}
-use mathlib.Core.Option.{Option, none, some}
+use Rattle.std.specs.Prelude.{Option, Some, None}
 use lib.Dec.{ltb, leb}
 use borrow.Author.Tests.{ltb-true, lt-ltb, le-ltb, le-leb, lt-leb}
 use Rattle.model.specs.Monitor.{Monitor, to_unit, airtime}
@@ -51,12 +51,12 @@ module _ (m : Monitor) (src : List ℕ) where
 
     pub rested-is : (p : Plan) → p.free ≡ free m → (recorded : Option ℕ) (i : ℕ) → rested p m recorded size src i ≡ rests m recorded (mem src) i
     unfolding rested rests
-    rested-is p e none i =
+    rested-is p e None i =
         ap (λ (f : ℕ). ranged src 0 f (size - f) i || ranged src 0 0 f i) e
         ∙ ap₂ (λ (a b : Bool). a || b)
         (ranged_down src (free m) (size - free m) i ∙ cut-none (free m) i)
         (ranged_down src 0 (free m) i ∙ ap (λ (x : ℕ). ltb i (free m) && mem src x) (zero-add i))
-    rested-is p e (some k) i =
+    rested-is p e (Some k) i =
         ap (λ (f : ℕ). to_unit m k && ranged src (f * airtime m k) 0 f i) e
         ∙ ap (λ (b : Bool). to_unit m k && b)
         (ranged-is src (free m * airtime m k) 0 (free m) i
@@ -66,11 +66,11 @@ module _ (m : Monitor) (src : List ℕ) where
   -- what is put there is a situation's number
   pub rests-within : (recorded : Option ℕ) → Within (Size.size m) (mem src) → Within (Size.size m) (rests m recorded (mem src))
   unfolding rests
-  rests-within none h y e =
+  rests-within None h y e =
       ⊎_elim (λ q. omega (arith, h (y + free m) q))
       (λ q. let (l, b) = both_are (ltb y (free m)) (mem src y) q in omega (arith, air-below m 0 y (ltb-true y (free m) l)))
       (either_is (mem src (y + free m)) (ltb y (free m) && mem src y) e)
-  rests-within (some k) h y e =
+  rests-within (Some k) h y e =
       let (a, b) = both_are (to_unit m k) (up (free m * airtime m k) (below (free m) (mem src)) y) e in
       let (x, there, q) = up-some (below (free m) (mem src)) (free m * airtime m k) y b in
       let (l, c) = below-some (mem src) (free m) x q in
@@ -80,7 +80,7 @@ module _ (m : Monitor) (src : List ℕ) where
   pub rested-back : (p : Plan) → p.free ≡ free m → (size : ℕ) (recorded : Option ℕ) (i : ℕ) → i < size
       → rested_back p m recorded size src i ≡ rests_back m recorded (mem src) i
   unfolding rested_back rests_back
-  rested-back p e size none i l =
+  rested-back p e size None i l =
       ap (λ (f : ℕ). ranged src 0 0 f i || ranged src f 0 (size - f) i) e
       ∙ ap₂ (λ (a b : Bool). a || b)
       (ranged_down src 0 (free m) i ∙ ap (λ (x : ℕ). ltb i (free m) && mem src x) (zero-add i))
@@ -93,7 +93,7 @@ module _ (m : Monitor) (src : List ℕ) where
       by : Dec (i < f) → ((ltb i f && mem src i) || (leb f i && (ltb (i - f) (size - f) && mem src (i - f)))) ≡ mem src (cond (ltb i f) i (i - f))
       by (yes h) = simp (lt-ltb i f h, lt-leb f i h, or-false)
       by (no h) = simp (le-ltb i f (omega arith), le-leb f i (omega arith), lt-ltb (i - f) (size - f) (omega arith))
-  rested-back p e size (some k) i l =
+  rested-back p e size (Some k) i l =
       ap (λ (f : ℕ). to_unit m k && ranged src 0 (f * airtime m k) f i) e
       ∙ ap (λ (b : Bool). to_unit m k && b)
       (ranged_down src (free m * airtime m k) (free m) i ∙ ap (λ (x : ℕ). ltb i (free m) && mem src x) (add_comm (free m * airtime m k) i))

@@ -13,8 +13,6 @@ use lib.ListN.{get_or}
 use Rattle.words.specs.Words.{bit, any_below}
 use Rattle.words.proofs.Bit.{bit_or_lem, bit_shl, bit_past, bit_zero}
 use Rattle.monitor.specs.From.{transition_from}
-use Rattle.situation.specs.Rows.{heard_of}
-use Rattle.instants.specs.Firing.{fits}
 use Rattle.firings.specs.declared.Plan.{Plan}
 use Rattle.firings.specs.Fired.{fires_now}
 use Rattle.firings.specs.Used.{uses_in, used_by}
@@ -38,26 +36,23 @@ pub bit-more : (x s r : ℕ) → s < 64 → bit (bit_or x (1 * 2 ^ s % 2 ^ 64)) 
 bit-more x s r h = bit_or_lem x (1 * 2 ^ s % 2 ^ 64) r ∙ ap (λ (b : Bool). bit x r || b) (bit_one s r h)
 
 -- transition j, whose record is at an offset
-module _ (p : Plan) (table offsets : List ℕ) (j at : ℕ) (e : at ≡ get_or offsets j 0) (b : Bool) (r : ℕ) where
-  pub uses_dead : bit p.live (transition_from table at).source ≡ false → b ≡ (b || uses_in p table offsets r j)
-  unfolding uses_in fires_now
-  uses_dead h = simp (← e, h, or-false)
-
-  pub uses_unfit : fits (heard_of p.heard) (transition_from table at) ≡ false → b ≡ (b || uses_in p table offsets r j)
-  unfolding uses_in fires_now
-  uses_unfit h = simp (← e, h, and-false, or-false)
-
-  pub uses_now : bit p.live (transition_from table at).source ≡ true → fits (heard_of p.heard) (transition_from table at) ≡ true
-      → uses_in p table offsets r j ≡ eqb ((transition_from table at).resets % 4) r
-  unfolding uses_in fires_now
-  uses_now h k = simp (← e, h, k)
-
--- the transitions
 module _ (p : Plan) (table offsets : List ℕ) (r : ℕ) where
   pub used_none : bit 0 r ≡ used_by p table offsets 0 r
   unfolding used_by any_below
   used_none = bit_zero r
 
-  pub used_more : (j : ℕ) → used_by p table offsets (j + 1) r ≡ (used_by p table offsets j r || uses_in p table offsets r j)
+  used_more : (j : ℕ) → used_by p table offsets (j + 1) r ≡ (used_by p table offsets j r || uses_in p table offsets r j)
   unfolding used_by any_below
   used_more j = rw add-one
+
+  module _ (j at found : ℕ) (e : at ≡ get_or offsets j 0) (before : bit found r ≡ used_by p table offsets j r) where
+    pub used_rests : fires_now p (transition_from table at) ≡ false → bit found r ≡ used_by p table offsets (j + 1) r
+    unfolding uses_in
+    used_rests h = rw (used_more j) (simp (← e, h, or-false) before)
+
+    pub used_one : (s : ℕ) → fires_now p (transition_from table at) ≡ true → s ≡ (transition_from table at).resets % 4
+        → bit (bit_or found (1 * 2 ^ s % 2 ^ 64)) r ≡ used_by p table offsets (j + 1) r
+    unfolding uses_in
+    used_one s h k = bit-more found s r (omega arith) ∙ rw (used_more j) (simp (← e, h, ← k, before))
+
+pub ruleset uses = (used_none, used_rests, used_one)

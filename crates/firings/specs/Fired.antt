@@ -4,7 +4,6 @@ use Rattle.model.specs.Rule.{window_behind, allows}
 use Rattle.model.specs.Monitor.{Monitor, Transition, changed, airtime}
 use Rattle.words.specs.Words.{bit, up, below, meet, any_below}
 use Rattle.monitor.specs.From.{transition_from}
-use Rattle.situation.specs.Rows.{heard_of}
 use Rattle.situation.specs.Ruled.{ruled_from}
 use Rattle.instants.specs.Firing.{fits, guessed}
 use Rattle.firings.specs.declared.Plan.{Plan}
@@ -39,7 +38,7 @@ fired_from p m src planes guess t guard w i =
 
 -- a transition is worth firing: its source is live, and it fits what is recorded
 unfoldable pub fires_now : Plan → Transition → Bool
-fires_now p t = bit p.live t.source && fits (heard_of p.heard) t
+fires_now p t = bit p.live t.source && fits p.heard t
 
 -- one transition from the first n windows, where the rule allows it
 unfoldable pub fired_by : Plan → Monitor → (src planes : List ℕ) → (guess : Bool) → Transition → (guard n : ℕ) → ℕ → Bool
@@ -53,7 +52,7 @@ unfoldable pub fired_one : Plan → (table offsets src planes : List ℕ) → (j
 fired_one p table offsets src planes j i =
     let m = ruled_from p.shape table offsets in
     let t = transition_by table offsets j in
-    fires_now p t && fired_by p m src planes (guessed m (heard_of p.heard) t) t (p.apart * j) p.shape.windows i
+    fires_now p t && fired_by p m src planes (guessed m p.heard t) t (p.apart * j) p.shape.windows i
 
 -- the first n transitions
 unfoldable pub fired : Plan → (table offsets src planes : List ℕ) → (n : ℕ) → ℕ → Bool

@@ -1,7 +1,5 @@
 -- What an instant's sets are worked out with, where a table is sound: numbers, marks of clock values, and the planes of guards.
-use Rattle.std.specs.Prelude.{ℕ, ◌+◌, ◌*◌, ◌/◌, ◌<◌, ◌≤◌, ◌≡◌, List, Bool, false, length}
-use Rattle.std.proofs.Math.Option.{some}
-use Rattle.std.proofs.Math.ListN.{get_elem?}
+use Rattle.std.specs.Prelude.{ℕ, ◌+◌, ◌*◌, ◌/◌, ◌<◌, ◌≤◌, ◌≡◌, List, Bool, false, length, Some, slice_get}
 use Rattle.model.specs.Size
 use Rattle.model.specs.Rule.{masks}
 use Rattle.model.specs.Monitor.{Monitor, Transition}
@@ -31,7 +29,7 @@ pub record Marked (m : Monitor) (n : ℕ) (marks : List ℕ) : Type 0 where
 -- each transition's guard, at each variables and place
 abbrev pub Guarded : Monitor → List ℕ → Type 0
 Guarded m planes =
-    (j : ℕ) (t : Transition) → get_elem? m.transitions j ≡ some t
+    (j : ℕ) (t : Transition) → slice_get m.transitions j ≡ Some t
     → (v x : ℕ) → v < assignments m → x < plane m → mem planes (apart_by m * j + (plane m * v + x)) ≡ holds_at m t v x
 
 -- m is the monitor of the table, h numbers its situations, and sets of n words have room for them

@@ -6,7 +6,7 @@
 ghost use Rattle.fixed_witness.specs.Tells.{Tells};
 
 use check::{expect, same};
-use model::{Edition, Verdict};
+use model::{Edition, Refusal, Verdict};
 
 const TABLE: [u8; 68] = *b"\x00\x42\x01\x03\x00\x01\x03\x05\x00\x01\x00\x01\x01\x00\x00\x01\x00\
     \x00\x00\x01\x01\x00\x01\x00\x02\x00\x00\x00\x03\x01\x00\x03\x01\x02\
@@ -17,23 +17,10 @@ const RECORDING: [u8; 8] = [0x00, 0x06, 0x01, 0x00, 0x01, 0x00, 0x01, 0x00];
 
 const WITNESS: [u8; 10] = [0x00, 0x08, 0x01, 0x00, 0x01, 0x00, 0x00, 0x01, 0x00, 0x00];
 
-fn accepted(verdict: Verdict, cost: u64, rows: u64) -> bool
+fn accepted(verdict: Result<Verdict, Refusal>, cost: u64, rows: u64) -> bool
     ensures { Tells verdict cost rows result }
 {
-    match verdict {
-        Verdict::Accepted { cost: c, rows: n } => c == cost && n == rows,
-        Verdict::Rejected {
-            cost: _,
-            instant: _,
-            not_yet: _,
-            no_more: _,
-        } => false,
-        Verdict::Exhausted {
-            budget: _,
-            instant: _,
-        } => false,
-        Verdict::Refused(_) => false,
-    }
+    verdict == Ok(Verdict::Accepted { cost, rows })
 }
 
 fn main() {

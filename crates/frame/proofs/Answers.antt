@@ -2,18 +2,17 @@
 use mathlib.Core.Path.{◌≡◌, refl, sym, ap, ◌∙◌}
 use mathlib.Core.Bool.{Bool, true, false, not, false≢true}
 use borrow.Author.Tests.{not-true, not-false}
-use Rattle.model.specs.First.{and_then, is_sound}
-use Rattle.model.specs.declared.Reading.{Reading}
-use Rattle.model.specs.declared.Reading.TheVariants.{Sound, Unsound}
+use Rattle.model.specs.First.{and_then, is_sound, Reading}
+use Rattle.std.specs.Prelude.{Ok, Err}
 
 -- a refusal ends the row, a sound answer goes on
 pub stops : (x y : Reading) → is_sound x ≡ false → and_then x y ≡ x
-stops Sound y e = absurd (false≢true (sym e))
-stops (Unsound r) y e = refl
+stops (Ok _) y e = absurd (false≢true (sym e))
+stops (Err r) y e = refl
 
 pub goes : (x y : Reading) → is_sound x ≡ true → and_then x y ≡ y
-goes Sound y e = refl
-goes (Unsound r) y e = absurd (false≢true e)
+goes (Ok _) y e = refl
+goes (Err r) y e = absurd (false≢true e)
 
 -- an answer r that the code has tested, and all that is left to answer: r and then y. s is what the test gave
 module _ (all x y r : Reading) (s : Bool) (whole : all ≡ and_then x y) (is : r ≡ x) (tested : s ≡ is_sound r) where
@@ -23,6 +22,6 @@ module _ (all x y r : Reading) (s : Bool) (whole : all ≡ and_then x y) (is : r
   pub turn-goes : not s ≡ false → all ≡ y
   turn-goes e = whole ∙ goes x y (ap is_sound (sym is) ∙ sym tested ∙ not-false s e)
 
-pub sound-is : (x : Reading) → is_sound x ≡ true → x ≡ Sound
-sound-is Sound e = refl
-sound-is (Unsound r) e = absurd (false≢true e)
+pub sound-is : (x : Reading) → is_sound x ≡ true → x ≡ Ok tt
+sound-is (Ok _) e = refl
+sound-is (Err r) e = absurd (false≢true e)

@@ -5,19 +5,16 @@ use native.Mathlib.Nat.{zero-add}
 use native.Mathlib.Numerals.{add-one}
 use mathlib.Core.Path.{◌≡◌, refl, sym, ap, ◌∙◌}
 use mathlib.Core.List.{List, [], ◌++◌, append_assoc, append-nil}
-use mathlib.Core.Bool.{false, false≢true}
 use lib.ListN.{length, take, drop, length-append, length-drop}
 use lib.Seq.{take_at, drop_at}
 use borrow.Author.Tests.{le-leb, lt-leb}
 use Rattle.model.specs.Answers.{Writes}
 use Rattle.model.specs.Bytes.{joined}
-use Rattle.model.specs.First.{is_sound}
+use Rattle.model.specs.First.{Reading}
 use Rattle.model.specs.Room.{write, over}
 use Rattle.model.specs.declared.Refusal.{Refusal}
 use Rattle.model.specs.declared.Refusal.TheVariants.{WriteRoom}
-use Rattle.model.specs.declared.Reading.{Reading}
-use Rattle.model.specs.declared.Reading.TheVariants.{Sound, Unsound}
-use Rattle.model.specs.declared.Writing.TheVariants.{Written, Unwritten}
+use Rattle.std.specs.Prelude.{Ok, Err}
 use Rattle.model.proofs.AnswerLaws.{writes_by}
 use Rattle.wire.specs.Placed.{placed}
 use Rattle.wire.proofs.Room.{placed-fits, placed-behind}
@@ -52,10 +49,6 @@ placed_first z h x room e k =
 pub taken : (bytes room out : List ℕ) (n : ℕ) → out ≡ over bytes room → length bytes ≡ n → take n out ≡ bytes
 taken bytes room out n e h = ap (take n) e ∙ take_at bytes (drop (length bytes) room) n h
 
-pub write_none : (answer : Reading) (a b room : List ℕ) → is_sound answer ≡ false → write answer a room ≡ write answer b room
-write_none Sound a b room e = absurd (false≢true (sym e))
-write_none (Unsound r) a b room e = refl
-
 -- the high byte of a number that has two
 pub high : (n : ℕ) → n < 65536 → n / 256 ≡ n / 256 % 256
 high n h = omega arith
@@ -63,12 +56,12 @@ high n h = omega arith
 -- writing into a room
 
 module _ (answer : Reading) (bytes room : List ℕ) where
-  pub write-refused : (r : Refusal) → answer ≡ Unsound r → Writes (write answer bytes room) (Unwritten r) room
+  pub write-refused : (r : Refusal) → answer ≡ Err r → Writes (write answer bytes room) (Err r) room
   write-refused r e = rw e (writes_by _ _ _ refl refl)
 
-  module _ (sound : answer ≡ Sound) where
-    pub write-short : length room < length bytes → Writes (write answer bytes room) (Unwritten (WriteRoom (length bytes))) room
+  module _ (sound : answer ≡ Ok tt) where
+    pub write-short : length room < length bytes → Writes (write answer bytes room) (Err (WriteRoom (length bytes))) room
     write-short h = rw (sound, lt-leb _ _ h) (writes_by _ _ _ refl refl)
 
-    pub write-fits : length bytes ≤ length room → (after : List ℕ) → after ≡ placed bytes 0 room → Writes (write answer bytes room) (Written (length bytes)) after
+    pub write-fits : length bytes ≤ length room → (after : List ℕ) → after ≡ placed bytes 0 room → Writes (write answer bytes room) (Ok (length bytes)) after
     write-fits h after e = rw (sound, le-leb _ _ h) (writes_by _ _ _ refl (e ∙ placed-behind [] bytes room 0 refl (omega arith)))

@@ -1,14 +1,17 @@
 -- One step of reading a guard, by the byte that stands there, and what is then seen of it.
-use Prim.Native.Nat.{ℕ, zero, suc, ◌+◌, ◌<◌, ◌≤◌, max}
+use Prim.Native.Nat.{ℕ, zero, suc, ◌+◌, ◌<◌, ◌≤◌}
 use native.Mathlib.Omega.{arith}
 use mathlib.Core.Path.{◌≡◌, refl, sym, ap, ◌∙◌}
 use mathlib.Core.List.{List}
-use mathlib.Core.Bool.{Bool, true, false, cond, not, ◌&&◌, false≢true}
+use Rattle.std.specs.Prelude.{Some, None, option_and_then}
+use Rattle.std.specs.Option.{option_map, option_map_or}
+use Rattle.std.proofs.lemmas.Option.{none-some, same_Some}
+use mathlib.Core.Bool.{Bool, true, false, cond, ◌&&◌, false≢true}
 use lib.ListN.{get_or}
 use lib.Dec.{leb, ltb, eqb}
 use borrow.Author.Tests.{lt-ltb, le-ltb, eq-eqb, ne_eqb}
 use Rattle.model.specs.Bytes.{byte_at}
-use Rattle.model.specs.Guard.{Guard, always, variable, negation, conjunction, GuardRead, malformed, up_to, then_read, holds, largest, leaf_at, guard_at, ends_at, guard_of}
+use Rattle.model.specs.Guard.{Guard, always, variable, negation, conjunction, GuardRead, malformed, up_to, then_read, holds, largest, leaf_at, guard_at, guard_of}
 use Rattle.model.specs.Readiness.{waited, GuardAnswers, greatest_bound}
 use Rattle.model.specs.declared.Readiness.{Readiness}
 use Rattle.model.specs.declared.Readiness.TheVariants.{Yes, NotYet, NoMore}
@@ -16,15 +19,14 @@ use Rattle.model.proofs.Basics.{and_left, and_right}
 use Rattle.model.proofs.Places.{AllBytes}
 use Rattle.model.proofs.ReadinessLaws.{never, answer-is}
 use Rattle.guard.specs.Evaluated.{Evaluated}
-use Rattle.waits.specs.Waits.{waits_of, others, common, is_none}
-use Rattle.waits.specs.declared.Waits.{Waits}
+use Rattle.waits.specs.Waits.{waits_of, is_none}
 use Rattle.waits.proofs.WaitLaws.{waits_not, waits_and, none_waits, some-wait}
 use Rattle.guard.specs.declared.Seen.{Seen}
-use Rattle.guard.specs.declared.Seen.TheVariants.{Malformed, UpTo}
-use Rattle.guard.specs.Guards.{seen, clock_leaf, opposite, both}
+use Rattle.guard.specs.Guards.{seen_of, seen, clock_leaf, opposite, both}
 
 -- a comparison of clocks whose test fails is none, whatever its code
-no_clock : (fits there one two : Bool) (x y : GuardRead) → fits && there ≡ false → cond one (cond fits (cond there x malformed) malformed) (cond two (cond fits (cond there y malformed) malformed) malformed) ≡ malformed
+no_clock : (fits there one two : Bool) (x y : GuardRead) → fits && there ≡ false
+    → cond one (cond fits (cond there x malformed) malformed) (cond two (cond fits (cond there y malformed) malformed) malformed) ≡ malformed
 no_clock true true one two x y e = absurd (false≢true (sym e))
 no_clock true false true two x y e = refl
 no_clock true false false true x y e = refl
@@ -91,50 +93,37 @@ module _ (vs cs : ℕ) (b : List ℕ) (at end : ℕ) where
       rw (q, lt-ltb _ _ h, ne_eqb _ _ n, eq-eqb _ _ e, guard_at)
 
 -- a comparison, by what the clock reads, the waits and the bound that counts
-module _ (i v : ℕ) (c : List ℕ) (code n t next reads bound : ℕ) (later : Waits) (is : reads ≡ get_or c n 0) (most : bound ≡ cond (eqb n i) t 0) where
-  pub seen_most : code ≡ 1 → later ≡ waits_of (λ d. leb (get_or (waited d c) n 0) t) → UpTo next (leb reads t) later bound ≡ seen i v c (clock_leaf code n t next)
+module _ (i v : ℕ) (c : List ℕ) (code n t next reads bound : ℕ) (later : List ℕ) (is : reads ≡ get_or c n 0) (most : bound ≡ cond (eqb n i) t 0) where
+  pub seen_most : code ≡ 1 → later ≡ waits_of (λ d. leb (get_or (waited d c) n 0) t)
+      → Some (record { next = next; value = leb reads t; later = later; bound = bound }) ≡ seen i v c (clock_leaf code n t next)
   unfolding holds largest
   seen_most e waits = rw (e, is, most, waits)
 
-  pub seen_least : code ≡ 2 → later ≡ waits_of (λ d. leb t (get_or (waited d c) n 0)) → UpTo next (leb t reads) later bound ≡ seen i v c (clock_leaf code n t next)
+  pub seen_least : code ≡ 2 → later ≡ waits_of (λ d. leb t (get_or (waited d c) n 0))
+      → Some (record { next = next; value = leb t reads; later = later; bound = bound }) ≡ seen i v c (clock_leaf code n t next)
   unfolding holds largest
   seen_least e waits = rw (e, is, most, waits)
 
 module _ (i v : ℕ) (c : List ℕ) where
-  -- nothing behind a guard that is none
-  pub seen_none : (x : GuardRead) (next : Guard → ℕ → GuardRead) → seen i v c x ≡ Malformed → seen i v c (then_read x next) ≡ Malformed
-  seen_none malformed next e = refl
-  seen_none (up_to g k) next e = cc
-
-  pub seen_not : (x : GuardRead) → seen i v c (then_read x (λ g j. up_to (negation g) j)) ≡ opposite (seen i v c x)
+  pub seen_not : (x : GuardRead) → seen i v c (then_read x (λ g j. up_to (negation g) j)) ≡ option_map opposite (seen i v c x)
   unfolding holds largest
   seen_not malformed = refl
-  seen_not (up_to g j) = ap (λ (w : Waits). UpTo j (not (holds g v c)) w (largest i g)) (waits_not (λ d. holds g v (waited d c)))
+  seen_not (up_to g j) = rw (waits_not (λ d. holds g v (waited d c)))
 
-  join : (g : Guard) (y : GuardRead) → seen i v c (then_read y (λ h l. up_to (conjunction g h) l)) ≡ both (holds g v c) (waits_of (λ d. holds g v (waited d c))) (largest i g) (seen i v c y)
+  join : (g : Guard) (k : ℕ) (y : GuardRead) → seen i v c (then_read y (λ h l. up_to (conjunction g h) l)) ≡ option_map (both (seen_of i v c g k)) (seen i v c y)
   unfolding holds largest
-  join g malformed = refl
-  join g (up_to h l) =
-      ap (λ (w : Waits). UpTo l (holds g v c && holds h v c) w (max (largest i g) (largest i h))) (waits_and (λ d. holds g v (waited d c)) (λ d. holds h v (waited d c)))
+  join g k malformed = refl
+  join g k (up_to h l) = rw (waits_and (λ d. holds g v (waited d c)) (λ d. holds h v (waited d c)))
 
-  pub seen_and : (x : GuardRead) (next : ℕ → GuardRead) (k bound : ℕ) (value : Bool) (later : Waits) → seen i v c x ≡ UpTo k value later bound
-      → seen i v c (then_read x (λ g j. then_read (next j) (λ h l. up_to (conjunction g h) l))) ≡ both value later bound (seen i v c (next k))
-  seen_and malformed next k bound value later e = cc
-  seen_and (up_to g j) next k bound value later e =
-      let place : j ≡ k = cc in
-      let is : holds g v c ≡ value = cc in
-      let waits : waits_of (λ d. holds g v (waited d c)) ≡ later = cc in
-      let most : largest i g ≡ bound = cc in
-      rw (place, ← is, ← waits, ← most) (join g (next k))
+  pub seen_and : (x : GuardRead) (next : ℕ → GuardRead)
+      → seen i v c (then_read x (λ g j. then_read (next j) (λ h l. up_to (conjunction g h) l))) ≡ option_and_then (λ s. option_map (both s) (seen i v c (next s.next))) (seen i v c x)
+  seen_and malformed next = refl
+  seen_and (up_to g k) next = join g k (next k)
 
--- a negation and a conjunction, from the parts of what was seen
-
-pub opposite_of : (s : Seen) (k bound : ℕ) (value : Bool) (later w : Waits) → s ≡ UpTo k value later bound → w ≡ others later → UpTo k (not value) w bound ≡ opposite s
-opposite_of s k bound value later w e q = ap (λ (x : Waits). UpTo k (not value) x bound) q ∙ sym (ap opposite e)
-
-pub both_of : (first other value : Bool) (before more w : Waits) (least further k bound : ℕ) (s : Seen) → s ≡ UpTo k other more further
-    → value ≡ first && other → w ≡ common before more → bound ≡ max least further → UpTo k value w bound ≡ both first before least s
-both_of first other value before more w least further k bound s e q r t = rw (q, r, t) (sym (ap (both first before least) e))
+  -- a guard that was seen is the one that was read
+  seen-some : (x : GuardRead) (s : Seen) → seen i v c x ≡ Some s → (x ≡ up_to (guard_of x) s.next) × (s ≡ seen_of i v c (guard_of x) s.next)
+  seen-some malformed s e = absurd (none-some s e)
+  seen-some (up_to g k) s e = let q : seen_of i v c g k ≡ s = same_Some _ _ e in rw (← q) (refl, refl)
 
 -- a guard ends behind the offset where it starts
 data Past (at : ℕ) : GuardRead → Type 0 where
@@ -183,12 +172,12 @@ module _ (vs cs : ℕ) (b : List ℕ) (end : ℕ) where
       (past_elim (eqb (byte_at b at) 5) (past_and (λ k. guard_at f vs cs b k end) (past f (at + 1)) (λ k. past f k)) (past_leaf at)))
       none
 
-  pub seen-past : (i v : ℕ) (c : List ℕ) (f at k bound : ℕ) (value : Bool) (later : Waits) → seen i v c (guard_at f vs cs b at end) ≡ UpTo k value later bound → at < k
-  seen-past i v c f at k bound value later e = go (past f at) e
+  pub seen-past : (i v : ℕ) (c : List ℕ) (f at : ℕ) (s : Seen) → seen i v c (guard_at f vs cs b at end) ≡ Some s → at < s.next
+  seen-past i v c f at s e = go (past f at) e
     where
-      go : {x : GuardRead} → Past at x → seen i v c x ≡ UpTo k value later bound → at < k
-      go none q = let z : ◌≡◌ {A = ℕ} 0 1 = cc in absurd (omega arith)
-      go (behind g j h) q = let z : j ≡ k = cc in omega arith
+      go : {x : GuardRead} → Past at x → seen i v c x ≡ Some s → at < s.next
+      go none q = absurd (none-some s q)
+      go (behind g k h) q = let z : k ≡ s.next = ap (λ (r : Seen). r.next) (same_Some (seen_of i v c g k) s q) in omega arith
 
 -- a guard that is read from bytes has bytes for bounds
 
@@ -255,50 +244,37 @@ evaluated {g} {v} {c} {a} h = record { answered = answer-is g v c a h; right = h
 
 -- what the three questions have for an answer
 module _ (i v : ℕ) (c : List ℕ) where
-  pub none_ends : (x : GuardRead) (end : ℕ) → seen i v c x ≡ Malformed → ends_at x end ≡ false
-  none_ends malformed end e = refl
-  none_ends (up_to g k) end e = cc
+  pub bound_by : (x : GuardRead) → largest i (guard_of x) ≡ option_map_or (λ s. s.bound) (seen i v c x) 0
+  unfolding largest
+  bound_by malformed = refl
+  bound_by (up_to g k) = refl
 
-  pub one_ends : (x : GuardRead) (end k bound : ℕ) (value : Bool) (later : Waits) → seen i v c x ≡ UpTo k value later bound → ends_at x end ≡ eqb k end
-  one_ends malformed end k bound value later e = cc
-  one_ends (up_to g j) end k bound value later e = let q : j ≡ k = cc in rw q
+  seen-none : (x : GuardRead) → seen i v c x ≡ None → x ≡ malformed
+  seen-none malformed e = refl
+  seen-none (up_to g k) e = absurd (none-some _ (sym e))
 
+module _ (i v : ℕ) (c : List ℕ) (x : GuardRead) where
   -- bytes that are no guard never hold
-  pub none_answers : (x : GuardRead) → seen i v c x ≡ Malformed → GuardAnswers (guard_of x) v c NoMore
+  pub none_answers : seen i v c x ≡ None → GuardAnswers (guard_of x) v c NoMore
   unfolding holds
-  none_answers malformed e = (refl, λ d h. refl)
-  none_answers (up_to g k) e = let z : ◌≡◌ {A = ℕ} 0 1 = cc in absurd (omega arith)
+  none_answers e = let none : x ≡ malformed = seen-none i v c x e in rw none (refl, λ d h. refl)
 
-  one_value : (x : GuardRead) (k bound : ℕ) (value : Bool) (later : Waits) → seen i v c x ≡ UpTo k value later bound → holds (guard_of x) v c ≡ value
-  one_value malformed k bound value later e = cc
-  one_value (up_to g j) k bound value later e = cc
+  module _ (s : Seen) (e : seen i v c x ≡ Some s) where
+    value : holds (guard_of x) v c ≡ s.value
+    value = sym (ap (λ (r : Seen). r.value) (seen-some i v c x s e).1)
 
-  one_waits : (x : GuardRead) (k bound : ℕ) (value : Bool) (later : Waits) → seen i v c x ≡ UpTo k value later bound → waits_of (λ d. holds (guard_of x) v (waited d c)) ≡ later
-  one_waits malformed k bound value later e = cc
-  one_waits (up_to g j) k bound value later e = cc
+    waits : waits_of (λ d. holds (guard_of x) v (waited d c)) ≡ s.later
+    waits = sym (ap (λ (r : Seen). r.later) (seen-some i v c x s e).1)
 
-  module _ (x : GuardRead) (k bound : ℕ) (value : Bool) (later : Waits) (e : seen i v c x ≡ UpTo k value later bound) where
-    pub one_yes : value ≡ true → GuardAnswers (guard_of x) v c Yes
-    one_yes now = one_value x k bound value later e ∙ now
+    pub one_yes : s.value ≡ true → GuardAnswers (guard_of x) v c Yes
+    one_yes now = value ∙ now
 
-    pub one_not_yet : value ≡ false → is_none later ≡ false → GuardAnswers (guard_of x) v c NotYet
-    one_not_yet now some = (
-      one_value x k bound value later e ∙ now,
-      some-wait (λ d. holds (guard_of x) v (waited d c)) (ap is_none (one_waits x k bound value later e) ∙ some),
-    )
+    pub one_not_yet : s.value ≡ false → is_none s.later ≡ false → GuardAnswers (guard_of x) v c NotYet
+    one_not_yet now some = (value ∙ now, some-wait (λ d. holds (guard_of x) v (waited d c)) (ap is_none waits ∙ some))
 
     -- bounds are bytes, so 256 ticks are enough to wait
-    pub one_no_more : greatest_bound (guard_of x) < 256 → value ≡ false → is_none later ≡ true → GuardAnswers (guard_of x) v c NoMore
+    pub one_no_more : greatest_bound (guard_of x) < 256 → s.value ≡ false → is_none s.later ≡ true → GuardAnswers (guard_of x) v c NoMore
     one_no_more small now empty = (
-      one_value x k bound value later e ∙ now,
-      never (guard_of x) v c 256 small (none_waits (λ d. holds (guard_of x) v (waited d c)) (ap is_none (one_waits x k bound value later e) ∙ empty)),
+      value ∙ now,
+      never (guard_of x) v c 256 small (none_waits (λ d. holds (guard_of x) v (waited d c)) (ap is_none waits ∙ empty)),
     )
-
-  pub none_bound : (x : GuardRead) → seen i v c x ≡ Malformed → largest i (guard_of x) ≡ 0
-  unfolding largest
-  none_bound malformed e = refl
-  none_bound (up_to g k) e = cc
-
-  pub one_bound : (x : GuardRead) (k bound : ℕ) (value : Bool) (later : Waits) → seen i v c x ≡ UpTo k value later bound → largest i (guard_of x) ≡ bound
-  one_bound malformed k bound value later e = cc
-  one_bound (up_to g j) k bound value later e = cc

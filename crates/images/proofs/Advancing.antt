@@ -1,4 +1,5 @@
 -- One instant forward: what the steps of `advance` ensure comes to, where the table is sound. Assumes nothing.
+use Rattle.std.specs.Prelude.{Option}
 use mathlib.Core.Path.{◌≡◌, refl, sym, ap, ap₂, subst, ◌∙◌}
 use mathlib.Core.List.{List}
 use mathlib.Core.Bool.{Bool, true, false, not, ◌&&◌, ◌||◌, false≢true}
@@ -10,10 +11,8 @@ use Rattle.model.specs.Monitor.{Monitor}
 use Rattle.monitor.specs.From.{transition_count}
 use Rattle.words.specs.Words.{bit, mem, Is}
 use Rattle.shifts.specs.Shifted.{shifted}
-use Rattle.situation.specs.Rows.{heard_of}
 use Rattle.situation.specs.Ruled.{ruled_from}
 use Rattle.situation.specs.declared.Shape.{Shape}
-use Rattle.situation.specs.declared.Heard.{Heard}
 use Rattle.instants.specs.Forward.{forward}
 use Rattle.firings.specs.Fired.{fired}
 use Rattle.firings.specs.Rested.{rested}
@@ -24,6 +23,8 @@ use Rattle.firings.proofs.ForwardAgrees.{forward_agrees}
 use Rattle.images.specs.Advanced.{Given, Within, AdvancedTo}
 use Rattle.images.specs.Buffers.{Lengths, Sized}
 use Rattle.images.specs.Living.{is_live}
+use Rattle.images.specs.Moved.{moved}
+use Rattle.images.proofs.RangeLaws.{moved_forward}
 use Rattle.images.specs.Planning.{PlanOf}
 use Rattle.images.proofs.Plans.{planned, living}
 use Rattle.images.proofs.Marking.{part_of, low_first_lem, high_first_lem, low_second_lem, high_second_lem}
@@ -58,19 +59,19 @@ abbrev pub Alive : Shape → List ℕ → (live : ℕ) → Type 0
 Alive h s live = (q : ℕ) → q < 64 → bit live q ≡ (ltb q h.states && is_live h s q)
 
 module _ {m : Monitor} {table offsets : List ℕ} {h : Shape} {size n : ℕ} {marks planes : List ℕ} (given : Given m table offsets h size n marks planes)
-    {heard : Heard} {live : ℕ} {back : Bool} {p : Plan} (plan : PlanOf h heard live n back p) (s : List ℕ) (alive : Alive h s live) where
+    {heard : Option ℕ} {live : ℕ} {back : Bool} {p : Plan} (plan : PlanOf h heard live n back p) (s : List ℕ) (alive : Alive h s live) where
   pub live_in : Live m p.live (mem s)
   live_in = subst (λ (x : ℕ). Live m x (mem s)) (sym plan.live) (living given.ready live s given.ready.few alive)
 
 -- what each step ensures, of sets of n words
-module _ (table offsets : List ℕ) (h : Shape) (size n : ℕ) (marks planes : List ℕ) (heard : Heard) (live : ℕ) (p : Plan) (plan : PlanOf h heard live n false p)
+module _ (table offsets : List ℕ) (h : Shape) (size n : ℕ) (marks planes : List ℕ) (heard : Option ℕ) (live : ℕ) (p : Plan) (plan : PlanOf h heard live n false p)
     (src : List ℕ) (alive : Alive h src live) (r1 r2 : ℕ) (e1 : r1 ≡ h.first) (e2 : r2 ≡ h.second)
     (acc0 acc acc' one0 one cur : List ℕ) (four : length acc0 ≡ 4 * n) (single : length one0 ≡ n) (same : length src ≡ n)
-    (gathered : Is (λ i. rested p (ruled_from p.shape table offsets) (heard_of p.heard) size src i || fired p table offsets src planes (transition_count table) i) acc0 acc)
+    (gathered : Is (moved p table offsets size planes src) acc0 acc)
     (reset : (i : ℕ) → i < 64 * n → mem acc' i ≡ reset_sets r1 r2 n (part_of marks 0 n) (part_of marks (2 * n) (3 * n)) acc i)
     (first : Is (shifted acc' 1 (part_of marks n (2 * n)) (part_of marks 0 n)) one0 one)
     (second : Is (shifted one h.first (part_of marks (3 * n) (4 * n)) (part_of marks (2 * n) (3 * n))) src cur) where
-  at_once : (m : Monitor) → Given m table offsets h size n marks planes → ((i : ℕ) → size ≤ i → mem src i ≡ false) → AdvancedTo m (heard_of heard) n src cur
+  at_once : (m : Monitor) → Given m table offsets h size n marks planes → ((i : ℕ) → size ≤ i → mem src i ≡ false) → AdvancedTo m heard n src cur
   unfolding shifted
   at_once m given none i l =
       forward_agrees given.ready (planned given.ready plan) planes given.guarded plan.back src none (live_in given plan src alive)
@@ -78,16 +79,17 @@ module _ (table offsets : List ℕ) (h : Shape) (size n : ℕ) (marks planes : L
       (low_first_lem given.marked) (high_first_lem given.marked) (low_second_lem given.marked) (high_second_lem given.marked) acc
       (λ y k.
       gathered.all y (omega arith)
-      ∙ ap (λ (x : Shape). rested p (ruled_from x table offsets) (heard_of p.heard) size src y || fired p table offsets src planes (transition_count table) y) plan.shape)
+      ∙ moved_forward p table offsets size planes src plan.back y
+      ∙ ap (λ (x : Shape). rested p (ruled_from x table offsets) p.heard size src y || fired p table offsets src planes (transition_count table) y) plan.shape)
       acc' one cur
       (λ y k. reset y k ∙ ap₂ (λ (a b : ℕ). reset_sets a b n (part_of marks 0 n) (part_of marks (2 * n) (3 * n)) acc y) e1 e2)
       (λ y k. first.all y (omega arith))
       (λ y k. second.all y (omega arith))
       i l
-      ∙ ap (λ (x : Heard). forward m (heard_of x) (mem src) i) plan.heard
+      ∙ ap (λ (x : Option ℕ). forward m x (mem src) i) plan.heard
 
   -- .. whose number is told once more
-  pub advanced : (m : Monitor) (k : ℕ) → Given m table offsets h size k marks planes → Within size k src → AdvancedTo m (heard_of heard) k src cur
+  pub advanced : (m : Monitor) (k : ℕ) → Given m table offsets h size k marks planes → Within size k src → AdvancedTo m heard k src cur
   advanced m k given within i l =
       let e : k ≡ n = sym within.words ∙ same in
       at_once m (subst (λ (x : ℕ). Given m table offsets h size x marks planes) e given) within.past i (omega arith)

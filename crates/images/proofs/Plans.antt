@@ -1,4 +1,5 @@
 -- Where a table is sound, the plan of its shape is one that goes by its numbers, and the mask of live states tells which states have nothing in a set.
+use Rattle.std.specs.Prelude.{Option}
 use Prim.Native.Nat.{ℕ, ◌+◌, ◌*◌, ◌/◌, ◌%◌, ◌^◌, ◌≤◌, ◌<◌}
 use native.Mathlib.Decide.{dec_lt}
 use native.Mathlib.Nat.{mul-le-mul_left, mod-eq_of_lt}
@@ -14,13 +15,12 @@ use Rattle.model.specs.Size as Size
 use Rattle.model.proofs.Numbering.{pos_masks}
 use Rattle.words.specs.Words.{bit, mem, any_below}
 use Rattle.situation.specs.declared.Shape.{Shape}
-use Rattle.situation.specs.declared.Heard.{Heard}
 use Rattle.instants.specs.Grid.{plane, assignments, plane_at, free}
 use Rattle.firings.specs.Ready.{Ready, Planned, Live}
 use Rattle.firings.specs.declared.Plan.{Plan}
 use Rattle.firings.proofs.PlanLaws.{air-below}
 use Rattle.images.specs.Planning.{PlanOf}
-use Rattle.images.specs.Living.{numbers_of, is_live}
+use Rattle.images.specs.Living.{numbers_of, in_window, is_live}
 use Rattle.images.proofs.LiveLaws.{none_is}
 
 -- the situations of which the air is free are some of all
@@ -72,7 +72,7 @@ module _ {m : Monitor} {table offsets : List ℕ} {h : Shape} {size n : ℕ} (re
       by : (a b c : ℕ) → a * b * c ≡ a * (b * c)
       by a b c = omega arith
 
-  pub planned : {heard : Heard} {live : ℕ} {back : Bool} {p : Plan} → PlanOf h heard live n back p → Planned m h n p
+  pub planned : {heard : Option ℕ} {live : ℕ} {back : Bool} {p : Plan} → PlanOf h heard live n back p → Planned m h n p
   planned q =
       record {
         shape = q.shape;
@@ -83,13 +83,13 @@ module _ {m : Monitor} {table offsets : List ℕ} {h : Shape} {size n : ℕ} (re
       }
 
   pub living : (live : ℕ) (s : List ℕ) → h.states ≤ 64 → ((q : ℕ) → q < 64 → bit live q ≡ (ltb q h.states && is_live h s q)) → Live m live (mem s)
-  unfolding is_live plane_at
+  unfolding is_live in_window plane_at
   living live s few told state w v x dead a b c d =
       let l : state < h.states = omega (arith, ready.fits.states) in
       let none : is_live h s state ≡ false = sym (ap (λ (t : Bool). t && is_live h s state) (lt-ltb state h.states l)) ∙ sym (told state (omega arith)) ∙ dead in
       let i : ℕ = plane m * v + x in
       let row : any_below (λ k. mem s (numbers_of h * (state + h.states * w) + k)) (numbers_of h) ≡ false =
-      none_is (λ y. any_below (λ k. mem s (numbers_of h * (state + h.states * y) + k)) (numbers_of h)) h.windows w none (omega (arith, ready.fits.windows)) in
+      none_is (in_window h s state) h.windows w none (omega (arith, ready.fits.windows)) in
       let near : i < numbers_of h = omega (arith, numbers-is, mul-le-mul_left {m = v + 1} {n = assignments m} (plane m) (omega arith), by (plane m) v) in
       ap (mem s) (place (numbers_of h) h.states numbers-is ready.fits.states) ∙ none_is (λ k. mem s (numbers_of h * (state + h.states * w) + k)) (numbers_of h) i row near
     where

@@ -1,4 +1,5 @@
 -- One instant back: what the steps of `retreat` ensure comes to, where the table is sound. Assumes nothing.
+use Rattle.std.specs.Prelude.{Option}
 use mathlib.Core.Path.{◌≡◌, refl, sym, ap, ap₂, subst, ◌∙◌}
 use mathlib.Core.List.{List}
 use mathlib.Core.Bool.{Bool, true, false, ◌&&◌, ◌||◌, false≢true}
@@ -12,10 +13,8 @@ use Rattle.model.specs.Monitor.{Monitor}
 use Rattle.monitor.specs.From.{transition_count}
 use Rattle.words.specs.Words.{bit, mem, below, Is}
 use Rattle.shifts.specs.Shifted.{shifted_down}
-use Rattle.situation.specs.Rows.{heard_of}
 use Rattle.situation.specs.Ruled.{ruled_from}
 use Rattle.situation.specs.declared.Shape.{Shape}
-use Rattle.situation.specs.declared.Heard.{Heard}
 use Rattle.instants.specs.Backward.{backward}
 use Rattle.instants.proofs.TestLaws.{both, some_any}
 use Rattle.firings.specs.Fired.{fired}
@@ -26,6 +25,8 @@ use Rattle.firings.specs.declared.Plan.{Plan}
 use Rattle.firings.proofs.BackwardAgrees.{Used, backward_agrees}
 use Rattle.images.specs.Advanced.{Given, Within, RetreatedTo}
 use Rattle.images.specs.Planning.{PlanOf}
+use Rattle.images.specs.Moved.{moved}
+use Rattle.images.proofs.RangeLaws.{moved_back}
 use Rattle.images.specs.Unset.{Unset}
 use Rattle.images.proofs.Plans.{planned}
 use Rattle.images.proofs.Marking.{part_of, low_first_lem, high_first_lem, low_second_lem, high_second_lem}
@@ -54,7 +55,7 @@ module _ (n : ℕ) (p : ℕ → Bool) (before sets : List ℕ) (four : length be
       ∙ below_out (64 * n) p (64 * n * r + i) (omega (arith, mul-le-mul_left {m = 1} {n = r} (64 * n) (omega arith)))
 
 -- what each step ensures, of sets of n words
-module _ (table offsets : List ℕ) (h : Shape) (size n : ℕ) (marks planes : List ℕ) (heard : Heard) (live : ℕ) (p : Plan) (plan : PlanOf h heard live n true p)
+module _ (table offsets : List ℕ) (h : Shape) (size n : ℕ) (marks planes : List ℕ) (heard : Option ℕ) (live : ℕ) (p : Plan) (plan : PlanOf h heard live n true p)
     (row next : List ℕ) (alive : Alive h row live) (worth : ℕ) (uses : (r : ℕ) → bit worth r ≡ used_by p table offsets (transition_count table) r)
     (w1 r1 w2 r2 : ℕ) (f1 : w1 ≡ 1) (e1 : r1 ≡ h.first) (f2 : w2 ≡ h.first) (e2 : r2 ≡ h.second)
     (one0 two0 sets0 one two sets sets' out0 out row' : List ℕ)
@@ -63,7 +64,7 @@ module _ (table offsets : List ℕ) (h : Shape) (size n : ℕ) (marks planes : L
     (first : Is (shifted_down one 1 (part_of marks n (2 * n)) (part_of marks n (2 * n))) two0 two)
     (set : Is (below (64 * n) (mem two)) sets0 sets)
     (unset : Unset worth n w1 r1 w2 r2 (part_of marks 0 n) (part_of marks (2 * n) (3 * n)) sets sets')
-    (lead : Is (λ i. rested_back p (ruled_from p.shape table offsets) (heard_of p.heard) size sets' i || fired p table offsets sets' planes (transition_count table) i) out0 out)
+    (lead : Is (moved p table offsets size planes sets') out0 out)
     (keep : Is (λ i. mem row i && mem out i) row row') where
   kept : (i : ℕ) → i < 64 * n → set_at sets' n 0 i ≡ mem two i
   kept i l = unset.kept i l ∙ first-is n (mem two) sets0 sets four set i l
@@ -99,30 +100,31 @@ module _ (table offsets : List ℕ) (h : Shape) (size n : ℕ) (marks planes : L
 
   -- of a number of the row
   agrees : (m : Monitor) → Given m table offsets h size n marks planes → (i : ℕ) → i < size → mem row i ≡ true
-      → mem out i ≡ backward m (heard_of heard) (mem next) i
+      → mem out i ≡ backward m heard (mem next) i
   unfolding shifted_down
   agrees m given i l member =
       lead.all i (omega (arith, given.ready.wide))
-      ∙ ap (λ (x : Shape). rested_back p (ruled_from x table offsets) (heard_of p.heard) size sets' i || fired p table offsets sets' planes (transition_count table) i) plan.shape
+      ∙ moved_back p table offsets size planes sets' plan.back i
+      ∙ ap (λ (x : Shape). rested_back p (ruled_from x table offsets) p.heard size sets' i || fired p table offsets sets' planes (transition_count table) i) plan.shape
       ∙ backward_agrees given.ready (planned given.ready plan) planes given.guarded plan.back row next (live_in given plan row alive)
       (part_of marks 0 n) (part_of marks n (2 * n)) (part_of marks (2 * n) (3 * n)) (part_of marks (3 * n) (4 * n))
       (low_first_lem given.marked) (high_first_lem given.marked) (low_second_lem given.marked) (high_second_lem given.marked) one two sets'
       (λ y k. second.all y (omega arith)) (λ y k. first.all y (omega arith)) kept set_one set_two set_three i l member
-      ∙ ap (λ (x : Heard). backward m (heard_of x) (mem next) i) plan.heard
+      ∙ ap (λ (x : Option ℕ). backward m x (mem next) i) plan.heard
 
-  at_once : (m : Monitor) → Given m table offsets h size n marks planes → ((i : ℕ) → size ≤ i → mem row i ≡ false) → RetreatedTo m (heard_of heard) n next row row'
+  at_once : (m : Monitor) → Given m table offsets h size n marks planes → ((i : ℕ) → size ≤ i → mem row i ≡ false) → RetreatedTo m heard n next row row'
   at_once m given none i l = keep.all i (omega arith) ∙ by (mem row i) refl
     where
       small : Dec (i < size) → mem row i ≡ true → i < size
       small (yes k) e = k
       small (no k) e = absurd (false≢true (sym (none i (omega arith)) ∙ e))
 
-      by : (x : Bool) → mem row i ≡ x → (x && mem out i) ≡ (x && backward m (heard_of heard) (mem next) i)
+      by : (x : Bool) → mem row i ≡ x → (x && mem out i) ≡ (x && backward m heard (mem next) i)
       by false e = refl
       by true e = agrees m given i (small (dec_lt i size) e) e
 
   -- .. whose number is told once more
-  pub retreated : (m : Monitor) (k : ℕ) → Given m table offsets h size k marks planes → Within size k row → RetreatedTo m (heard_of heard) k next row row'
+  pub retreated : (m : Monitor) (k : ℕ) → Given m table offsets h size k marks planes → Within size k row → RetreatedTo m heard k next row row'
   retreated m k given within i l =
       let e : k ≡ n = sym within.words ∙ same in
       at_once m (subst (λ (x : ℕ). Given m table offsets h size x marks planes) e given) within.past i (omega arith)

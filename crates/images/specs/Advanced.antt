@@ -1,6 +1,5 @@
 -- What an instant makes of a set of situations' numbers, where a table is sound.
-use Rattle.std.specs.Prelude.{ℕ, ◌*◌, ◌<◌, ◌≤◌, ◌≡◌, List, false, ◌&&◌, length}
-use Rattle.std.proofs.Math.Option.{Option}
+use Rattle.std.specs.Prelude.{ℕ, ◌*◌, ◌<◌, ◌≤◌, ◌≡◌, List, false, ◌&&◌, length, Option}
 use Rattle.model.specs.Monitor.{Monitor}
 use Rattle.words.specs.Words.{mem}
 use Rattle.situation.specs.declared.Shape.{Shape}

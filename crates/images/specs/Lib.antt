@@ -3,3 +3,4 @@ pub mod Planning
 pub mod Living
 pub mod Unset
 pub mod Advanced
+pub mod Moved

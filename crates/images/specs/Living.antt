@@ -7,5 +7,9 @@ use Rattle.situation.specs.declared.Shape.{Shape}
 abbrev pub numbers_of : Shape → ℕ
 numbers_of h = h.first * h.second * h.masks
 
+-- one of them is in the set
+unfoldable pub in_window : Shape → List ℕ → (state w : ℕ) → Bool
+in_window h s state w = any_below (λ i. mem s (numbers_of h * (state + h.states * w) + i)) (numbers_of h)
+
 unfoldable pub is_live : Shape → List ℕ → ℕ → Bool
-is_live h s state = any_below (λ w. any_below (λ i. mem s (numbers_of h * (state + h.states * w) + i)) (numbers_of h)) h.windows
+is_live h s state = any_below (in_window h s state) h.windows

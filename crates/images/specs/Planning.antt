@@ -1,10 +1,9 @@
 -- The plan of an instant's firings, by a shape; the numbers are cut to their types.
-use Rattle.std.specs.Prelude.{ℕ, ◌+◌, ◌*◌, ◌/◌, ◌%◌, ◌^◌, ◌≡◌, Bool}
+use Rattle.std.specs.Prelude.{Option, ℕ, ◌+◌, ◌*◌, ◌/◌, ◌%◌, ◌^◌, ◌≡◌, Bool}
 use Rattle.situation.specs.declared.Shape.{Shape}
-use Rattle.situation.specs.declared.Heard.{Heard}
 use Rattle.firings.specs.declared.Plan.{Plan}
 
-pub record PlanOf (h : Shape) (recorded : Heard) (states n : ℕ) (reverse : Bool) (p : Plan) : Type 0 where
+pub record PlanOf (h : Shape) (recorded : Option ℕ) (states n : ℕ) (reverse : Bool) (p : Plan) : Type 0 where
   pub shape : p.shape ≡ h
   pub heard : p.heard ≡ recorded
   pub live : p.live ≡ states

@@ -1,26 +1,21 @@
 // From the set after an instant to the situations before it that lead there.
 ghost use Rattle.std.specs.Prelude.{◌≡◌, List, ◌&&◌, ◌||◌, ℕ, ◌*◌, ◌^◌, ◌<◌, length};
 ghost use Rattle.model.specs.Monitor.{Monitor};
-ghost use Rattle.monitor.specs.From.{transition_count};
 ghost use Rattle.words.specs.Words.{Is, Joined, up, below, mem, bit};
 ghost use Rattle.shifts.specs.Shifted.{shifted_down};
-ghost use Rattle.situation.specs.Rows.{heard_of};
-ghost use Rattle.situation.specs.Ruled.{ruled_from};
-ghost use Rattle.firings.specs.Fired.{fired};
 ghost use Rattle.firings.specs.Folded.{set_at, spread_by};
-ghost use Rattle.firings.specs.Rested.{rested_back};
 ghost use Rattle.images.specs.Buffers.{Sized, Kept};
 ghost use Rattle.images.specs.Advanced.{Given, Within, RetreatedTo};
 ghost use Rattle.images.specs.Unset.{Unset};
 
 use crate::live::live_states;
+use crate::moves::moves;
 use crate::plan::plan_of;
-use crate::rests::rest_back;
 use crate::sets::{Clock, first_clock, is_sized, second_clock, unreset_both, unreset_one};
-use firings::{Plan, fire, used};
+use firings::{has, used};
 use ranges::or_range;
 use shifts::shift_down;
-use situation::{Heard, Shape};
+use situation::Shape;
 use words::{clear, keep_common};
 
 // What leads into the set next by the tick of both clocks: into set 0, and nothing into the others.
@@ -82,13 +77,6 @@ fn unset_both(
     }
 }
 
-fn has(mask: u64, r: u8) -> bool
-    requires { r < 64 }
-    ensures { result ≡ bit mask r }
-{
-    (mask >> r) % 2 == 1
-}
-
 // The sets for each choice of clocks that are reset, from set 0; those for no worthy transition stay empty.
 fn unset(
     worth: u64,
@@ -119,24 +107,6 @@ fn unset(
     );
 }
 
-// The moves that lead into the sets.
-fn lead(
-    p: Plan,
-    table: &[u8],
-    offsets: &[u16],
-    size: usize,
-    planes: &[u64],
-    sets: &[u64],
-    out: &mut [u64],
-)
-    requires { size < 2 ^ 60 }
-    ensures { Is (λ i. rested_back p (ruled_from p.shape table.now offsets.now) (heard_of p.heard) size sets.now i || fired p table.now offsets.now sets.now planes.now (transition_count table.now) i) out.old out.new }
-{
-    clear(out);
-    rest_back(p, table, size, sets, out);
-    fire(p, table, offsets, planes, sets, out);
-}
-
 // Keeps of row the situations from which some move at an instant, with the kind that is recorded there, and a tick lead into next. sets has room for four sets,
 // one and two for one each; what they hold does not matter. Nothing is done where lengths do not fit each other.
 pub fn retreat(
@@ -146,14 +116,14 @@ pub fn retreat(
     size: usize,
     marks: &[u64],
     planes: &[u64],
-    heard: Heard,
+    heard: Option<u8>,
     next: &[u64],
     row: &mut [u64],
     sets: &mut [u64],
     one: &mut [u64],
     two: &mut [u64],
 )
-    ensures { Kept row.old row.new × Kept sets.old sets.new × Kept one.old one.new × Kept two.old two.new × ((m : Monitor) (n : ℕ) → Given m table.now offsets.now h size n marks.now planes.now → Within size n row.old → Sized n sets.old one.old two.old → RetreatedTo m (heard_of heard) n next.now row.old row.new) }
+    ensures { Kept row.old row.new × Kept sets.old sets.new × Kept one.old one.new × Kept two.old two.new × ((m : Monitor) (n : ℕ) → Given m table.now offsets.now h size n marks.now planes.now → Within size n row.old → Sized n sets.old one.old two.old → RetreatedTo m heard n next.now row.old row.new) }
 {
     let n = row.len();
     if !is_sized(n, size, marks.len(), sets.len(), one.len(), two.len(), h) {
@@ -181,6 +151,6 @@ pub fn retreat(
     unset(
         worth, sets, n, first, second, low_first, low_second, one, two,
     );
-    lead(p, table, offsets, size, planes, sets, one);
+    moves(p, table, offsets, size, planes, sets, one);
     keep_common(row, one);
 }

@@ -1,41 +1,15 @@
 // From the set before an instant to the set after it.
 ghost use Rattle.std.specs.Prelude.{List, ◌||◌, ℕ, ◌*◌, ◌^◌, ◌<◌, length};
 ghost use Rattle.model.specs.Monitor.{Monitor};
-ghost use Rattle.monitor.specs.From.{transition_count};
-ghost use Rattle.words.specs.Words.{Is};
-ghost use Rattle.situation.specs.Rows.{heard_of};
-ghost use Rattle.situation.specs.Ruled.{ruled_from};
-ghost use Rattle.firings.specs.Fired.{fired};
-ghost use Rattle.firings.specs.Rested.{rested};
 ghost use Rattle.images.specs.Buffers.{Sized, Kept};
 ghost use Rattle.images.specs.Advanced.{Given, Within, AdvancedTo};
 
 use crate::live::live_states;
+use crate::moves::moves;
 use crate::plan::plan_of;
-use crate::rests::rest_forward;
 use crate::sets::{first_clock, is_sized, reset_all, second_clock};
-use firings::{Plan, fire};
-use situation::{Heard, Shape};
+use situation::Shape;
 use ticks::tick;
-use words::clear;
-
-// The moves, before clocks are reset: into set 0 what resting gives, and into each set what the transitions of its resets give.
-fn gather(
-    p: Plan,
-    table: &[u8],
-    offsets: &[u16],
-    size: usize,
-    planes: &[u64],
-    cur: &[u64],
-    acc: &mut [u64],
-)
-    requires { size < 2 ^ 60 }
-    ensures { Is (λ i. rested p (ruled_from p.shape table.now offsets.now) (heard_of p.heard) size cur.now i || fired p table.now offsets.now cur.now planes.now (transition_count table.now) i) acc.old acc.new }
-{
-    clear(acc);
-    rest_forward(p, table, size, cur, acc);
-    fire(p, table, offsets, planes, cur, acc);
-}
 
 // What the moves of an instant and a tick make of the set cur, with the kind that is recorded there. acc has room for four sets, one and two for one each; what
 // they hold does not matter. Nothing is done where lengths do not fit each other.
@@ -46,13 +20,13 @@ pub fn advance(
     size: usize,
     marks: &[u64],
     planes: &[u64],
-    heard: Heard,
+    heard: Option<u8>,
     cur: &mut [u64],
     acc: &mut [u64],
     one: &mut [u64],
     two: &mut [u64],
 )
-    ensures { Kept cur.old cur.new × Kept acc.old acc.new × Kept one.old one.new × Kept two.old two.new × ((m : Monitor) (n : ℕ) → Given m table.now offsets.now h size n marks.now planes.now → Within size n cur.old → Sized n acc.old one.old two.old → AdvancedTo m (heard_of heard) n cur.old cur.new) }
+    ensures { Kept cur.old cur.new × Kept acc.old acc.new × Kept one.old one.new × Kept two.old two.new × ((m : Monitor) (n : ℕ) → Given m table.now offsets.now h size n marks.now planes.now → Within size n cur.old → Sized n acc.old one.old two.old → AdvancedTo m heard n cur.old cur.new) }
 {
     let n = cur.len();
     if !is_sized(n, size, marks.len(), acc.len(), one.len(), two.len(), h) {
@@ -64,7 +38,7 @@ pub fn advance(
     let high_second = &marks[3 * n..4 * n];
     let live = live_states(cur, h);
     let p = plan_of(h, heard, live, n, false);
-    gather(p, table, offsets, size, planes, cur, acc);
+    moves(p, table, offsets, size, planes, cur, acc);
     let first = first_clock(h);
     let second = second_clock(h);
     reset_all(acc, n, first, second, low_first, low_second, one, two);

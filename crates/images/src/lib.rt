@@ -6,6 +6,6 @@ pub mod back;
 pub mod forward;
 mod live;
 pub mod marks;
+mod moves;
 mod plan;
-mod rests;
 mod sets;

@@ -3,10 +3,10 @@ ghost use Rattle.std.specs.Prelude.{◌≤◌};
 ghost use Rattle.images.specs.Planning.{PlanOf};
 
 use firings::Plan;
-use situation::{Heard, Shape};
+use situation::Shape;
 
 // The numbers are those of a table whose situations fit sets of n words.
-pub(crate) fn plan_of(h: Shape, heard: Heard, live: u64, n: usize, back: bool) -> Plan
+pub(crate) fn plan_of(h: Shape, heard: Option<u8>, live: u64, n: usize, back: bool) -> Plan
     requires { n ≤ 1024 }
     ensures { PlanOf h heard live n back result }
 {

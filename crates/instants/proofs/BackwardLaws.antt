@@ -3,7 +3,7 @@ use Prim.Native.Nat.{ℕ, ◌+◌, ◌*◌, ◌%◌}
 use mathlib.Core.Path.{◌≡◌, refl, sym, ap, ap₂, subst, ◌∙◌}
 use mathlib.Core.Logic.{inl, inr, ⊎_elim}
 use mathlib.Core.Bool.{Bool, true, ◌&&◌}
-use mathlib.Core.Option.{Option, none, some}
+use Rattle.std.specs.Prelude.{Option, Some, None}
 use lib.Dec.{ltb}
 use borrow.Author.Tests.{ltb-true, lt-ltb}
 use Rattle.model.specs.Monitor.{Monitor, Transition, to_unit, airtime}
@@ -21,16 +21,16 @@ use Rattle.instants.proofs.FiringLaws.{Found, firing_found, found_firing}
 module _ (m : Monitor) (s : ℕ → Bool) where
   rests-back : (recorded : Option ℕ) (n : ℕ) → rests_back m recorded s n ≡ true → (y : ℕ) × Rests m recorded n y × (s y ≡ true)
   unfolding rests_back
-  rests-back none n e = (_, refl, e)
-  rests-back (some k) n e =
+  rests-back None n e = (_, refl, e)
+  rests-back (Some k) n e =
       let (unit, p) = both_are (to_unit m k) (ltb n (free m) && s (n + free m * airtime m k)) e in
       let (low, q) = both_are (ltb n (free m)) (s (n + free m * airtime m k)) p in
       (_, (unit, ltb-true n (free m) low, refl), q)
 
   back-rests : (recorded : Option ℕ) (n y : ℕ) → Rests m recorded n y → s y ≡ true → rests_back m recorded s n ≡ true
   unfolding rests_back
-  back-rests none n y e q = subst (λ (i : ℕ). s i ≡ true) e q
-  back-rests (some k) n y (unit, low, e) q = both unit (both (lt-ltb n (free m) low) (subst (λ (i : ℕ). s i ≡ true) e q))
+  back-rests None n y e q = subst (λ (i : ℕ). s i ≡ true) e q
+  back-rests (Some k) n y (unit, low, e) q = both unit (both (lt-ltb n (free m) low) (subst (λ (i : ℕ). s i ≡ true) e q))
 
 module _ (m : Monitor) (recorded : Option ℕ) (s : ℕ → Bool) (n : ℕ) where
   -- the test of a place of a plane, and of a plane

@@ -2,11 +2,11 @@
 use Prim.Native.Nat.{ℕ, ◌<◌}
 use mathlib.Core.Path.{◌≡◌, refl, ap, ◌∙◌}
 use mathlib.Core.Bool.{Bool, true, ◌&&◌, false≢true}
-use mathlib.Core.Option.{Option, none, some}
-use lib.ListN.{length, get_elem?}
+use Rattle.std.specs.Prelude.{Option, Some, None, slice_get}
+use lib.ListN.{length}
 use Rattle.model.specs.Rule.{masks, allows}
 use Rattle.model.specs.Monitor.{Monitor, Transition}
-use Rattle.model.proofs.Basics.{get_elem_within}
+use Rattle.std.proofs.lemmas.Option.{slice_get_within}
 use Rattle.words.specs.Words.{any_below}
 use Rattle.instants.specs.Grid.{assignments}
 use Rattle.instants.specs.Firing.{fits, guessed, of_transition, some_firing}
@@ -18,16 +18,16 @@ pub record Found (m : Monitor) (recorded : Option ℕ) (f : Transition → (w v 
   pub transition : Transition
   pub window : ℕ
   pub variables : ℕ
-  pub listed : get_elem? m.transitions index ≡ some transition
+  pub listed : slice_get m.transitions index ≡ Some transition
   pub fit : fits recorded transition ≡ true
   pub allowed : allows m.rule window (guessed m recorded transition) ≡ true
   pub window-below : window < masks m.rule
   pub variables-below : variables < assignments m
   pub passes : f transition window variables ≡ true
 
-of_some : (g : Transition → Bool) (o : Option Transition) → of_transition g o ≡ true → (t : Transition) × (o ≡ some t) × (g t ≡ true)
-of_some g none e = absurd (false≢true e)
-of_some g (some t) e = (t, refl, e)
+of_some : (g : Transition → Bool) (o : Option Transition) → of_transition g o ≡ true → (t : Transition) × (o ≡ Some t) × (g t ≡ true)
+of_some g None e = absurd (false≢true e)
+of_some g (Some t) e = (t, refl, e)
 
 module _ (m : Monitor) (recorded : Option ℕ) (f : Transition → (w v : ℕ) → Bool) where
   -- the test of one transition in one window, and of one window
@@ -35,14 +35,14 @@ module _ (m : Monitor) (recorded : Option ℕ) (f : Transition → (w v : ℕ) �
   of_variables w t = (fits recorded t && allows m.rule w (guessed m recorded t)) && any_below (λ v. f t w v) (assignments m)
 
   abbrev of_window : ℕ → Bool
-  of_window w = any_below (λ j. of_transition (of_variables w) (get_elem? m.transitions j)) (length m.transitions)
+  of_window w = any_below (λ j. of_transition (of_variables w) (slice_get m.transitions j)) (length m.transitions)
 
   pub firing_found : some_firing m recorded f ≡ true → Found m recorded f
   unfolding some_firing
   firing_found e =
       let (w, below, p) = any_some of_window (masks m.rule) e in
-      let (j, few, q) = any_some (λ i. of_transition (of_variables w) (get_elem? m.transitions i)) (length m.transitions) p in
-      let (t, listed, g) = of_some (of_variables w) (get_elem? m.transitions j) q in
+      let (j, few, q) = any_some (λ i. of_transition (of_variables w) (slice_get m.transitions i)) (length m.transitions) p in
+      let (t, listed, g) = of_some (of_variables w) (slice_get m.transitions j) q in
       let (h, any) = both_are (fits recorded t && allows m.rule w (guessed m recorded t)) (any_below (λ v. f t w v) (assignments m)) g in
       let (fit, allowed) = both_are (fits recorded t) (allows m.rule w (guessed m recorded t)) h in
       let (v, small, passes) = any_some (λ v. f t w v) (assignments m) any in
@@ -63,7 +63,7 @@ module _ (m : Monitor) (recorded : Option ℕ) (f : Transition → (w v : ℕ) �
   unfolding some_firing
   found_firing r =
       some_any of_window (masks m.rule) r.window r.window-below
-      (some_any (λ i. of_transition (of_variables r.window) (get_elem? m.transitions i)) (length m.transitions) r.index
-      (get_elem_within m.transitions r.index r.transition r.listed)
+      (some_any (λ i. of_transition (of_variables r.window) (slice_get m.transitions i)) (length m.transitions) r.index
+      (slice_get_within m.transitions r.index r.transition r.listed)
       (ap (of_transition (of_variables r.window)) r.listed
       ∙ both (both r.fit r.allowed) (some_any (λ v. f r.transition r.window v) (assignments m) r.variables r.variables-below r.passes)))

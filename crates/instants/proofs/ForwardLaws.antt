@@ -5,7 +5,8 @@ use native.Mathlib.Omega.{arith}
 use mathlib.Core.Path.{◌≡◌, refl, sym, ap, subst, ◌∙◌}
 use mathlib.Core.Logic.{inl, inr, ⊎_elim}
 use mathlib.Core.Bool.{Bool, true, false, cond, ◌&&◌, ◌||◌}
-use mathlib.Core.Option.{Option, none, some, map-eq-some_iff}
+use Rattle.std.specs.Prelude.{Option, Some, None}
+use Rattle.model.proofs.Options.{map-eq-some_iff}
 use lib.Dec.{ltb, eqb}
 use borrow.Author.Tests.{ltb-false, le-ltb, eqb-true, eq-eqb}
 use Rattle.model.specs.Monitor.{Monitor, Transition, to_unit, airtime}
@@ -32,12 +33,12 @@ use Rattle.instants.proofs.FiringLaws.{Found, firing_found, found_firing}
 module _ (m : Monitor) (s : ℕ → Bool) where
   rests-from : (recorded : Option ℕ) (y : ℕ) → rests m recorded s y ≡ true → (n : ℕ) × (s n ≡ true) × Rests m recorded n y
   unfolding rests
-  rests-from none y e =
+  rests-from None y e =
       ⊎_elim
       (λ q. (y + free m, q, rw (le-ltb (y + free m) (free m) (omega arith)) (omega arith)))
       (λ q. let (low, p) = both_are (ltb y (free m)) (s y) q in (y, p, rw low))
       (either_is (s (y + free m)) (ltb y (free m) && s y) e)
-  rests-from (some k) y e =
+  rests-from (Some k) y e =
       let (unit, p) = both_are (to_unit m k) (up (free m * airtime m k) (below (free m) s) y) e in
       let (n, there, q) = up-some (below (free m) s) (free m * airtime m k) y p in
       let (low, member) = below-some s (free m) n q in
@@ -45,7 +46,7 @@ module _ (m : Monitor) (s : ℕ → Bool) where
 
   from-rests : (recorded : Option ℕ) (n y : ℕ) → s n ≡ true → Rests m recorded n y → rests m recorded s y ≡ true
   unfolding rests
-  from-rests none n y e q = by (ltb n (free m)) refl
+  from-rests None n y e q = by (ltb n (free m)) refl
     where
       by : (b : Bool) → ltb n (free m) ≡ b → (s (y + free m) || (ltb y (free m) && s y)) ≡ true
       by true h =
@@ -55,7 +56,7 @@ module _ (m : Monitor) (s : ℕ → Bool) where
           let less : y ≡ n - free m = q ∙ ap (λ (b : Bool). cond b n (n - free m)) h in
           let same : n ≡ y + free m = omega (arith, ltb-false n (free m) h) in
           first-is (ltb y (free m) && s y) (subst (λ (i : ℕ). s i ≡ true) same e)
-  from-rests (some k) n y e (unit, low, there) =
+  from-rests (Some k) n y e (unit, low, there) =
       both unit (some_up (below (free m) s) (free m * airtime m k) y n (omega arith) (some_below s (free m) n low e))
 
 -- a row is sent
@@ -214,20 +215,20 @@ module _ (m : Monitor) (recorded : Option ℕ) (s : ℕ → Bool) where
       raised-to (firsts m) (seconds m) (omega arith) (omega arith) (raised_set 1 (firsts m) (moves m recorded s)) (raised 1 (firsts m) y)
       (raised-to 1 (firsts m) (omega arith) (omega arith) (moves m recorded s) y (from-moves n y e f))
 
-step-below : {m : Monitor} → Sane m → (recorded : Option ℕ) (n k z : ℕ) → n < size m → step_from m recorded n k ≡ some z → z < size m
+step-below : {m : Monitor} → Sane m → (recorded : Option ℕ) (n k z : ℕ) → n < size m → step_from m recorded n k ≡ Some z → z < size m
 step-below {m} sane recorded n k z h e =
     let (x, there, same) = (map-eq-some_iff (number m) (step_by m (capped m) recorded (situation_of m n) (move_of k))).0 e in
     subst (λ (i : ℕ). i < size m) same (number-below (step_in_range sane recorded (move_of k) (forth sane n h).1 there))
 
 module _ (m : Monitor) (sane : Sane m) (sourced : Sourced m) (recorded : Option ℕ) (s : ℕ → Bool) (low : (n : ℕ) → s n ≡ true → n < size m) where
   abbrev Given : ℕ → Type 0
-  Given z = (n : ℕ) × (k : ℕ) × (s n ≡ true) × (k < move_limit) × (step_from m recorded n k ≡ some z)
+  Given z = (n : ℕ) × (k : ℕ) × (s n ≡ true) × (k < move_limit) × (step_from m recorded n k ≡ Some z)
 
   given_to : (z : ℕ) → forward m recorded s z ≡ true → Given z
   given_to z e =
       let (y, (n, member, f), same) = forward-moves m recorded s z e in
       let (k, few, there) = moves-step sane sourced recorded n y (low n member) f in
-      (n, k, member, few, there ∙ ap {B = Option ℕ} some same)
+      (n, k, member, few, there ∙ ap {B = Option ℕ} Some same)
 
   given-from : (z : ℕ) → Given z → forward m recorded s z ≡ true
   given-from z (n, k, member, few, there) =

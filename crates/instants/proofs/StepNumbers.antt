@@ -6,8 +6,10 @@ use mathlib.Core.Path.{◌≡◌, refl, sym, ap, ap₂, subst, ◌∙◌}
 use mathlib.Core.Logic.{◌⊎◌, inl, inr}
 use mathlib.Core.List.{[], ◌∷◌}
 use mathlib.Core.Bool.{Bool, true, false, cond, ◌&&◌}
-use mathlib.Core.Option.{Option, none, some, map, bind, map-eq-some_iff, bind-eq-some_iff, some-injective, none-ne-some}
-use lib.ListN.{get_elem?}
+use Rattle.std.specs.Prelude.{Option, Some, None, slice_get}
+use Rattle.std.specs.Option.{option_map, option_and_then}
+use Rattle.std.proofs.lemmas.Option.{none-some, same_Some}
+use Rattle.model.proofs.Options.{bind-eq-some_iff, map-eq-some_iff}
 use lib.Dec.{ltb, eqb}
 use borrow.Author.Tests.{eqb-true, eq-eqb}
 use Rattle.model.specs.Limits.{transition_limit}
@@ -31,8 +33,8 @@ use Rattle.instants.proofs.PlaceLaws.{situated, number-placed, number-ticked, nu
 
 -- no row is sent: n becomes y
 abbrev pub Rests : Monitor → Option ℕ → (n y : ℕ) → Type 0
-Rests m none n y = y ≡ cond (ltb n (free m)) n (n - free m)
-Rests m (some k) n y = (to_unit m k ≡ true) × (n < free m) × (y ≡ n + free m * airtime m k)
+Rests m None n y = y ≡ cond (ltb n (free m)) n (n - free m)
+Rests m (Some k) n y = (to_unit m k ≡ true) × (n < free m) × (y ≡ n + free m * airtime m k)
 
 -- a transition fires: n becomes y, before the clocks r are reset
 pub record Fired (m : Monitor) (recorded : Option ℕ) (n y r : ℕ) : Type 0 where
@@ -41,7 +43,7 @@ pub record Fired (m : Monitor) (recorded : Option ℕ) (n y r : ℕ) : Type 0 wh
   pub window : ℕ
   pub variables : ℕ
   pub place : ℕ
-  pub listed : get_elem? m.transitions index ≡ some transition
+  pub listed : slice_get m.transitions index ≡ Some transition
   pub fit : fits recorded transition ≡ true
   pub allowed : allows m.rule window (guessed m recorded transition) ≡ true
   pub window-below : window < masks m.rule
@@ -64,7 +66,7 @@ Moves m recorded n y = Rests m recorded n y ⊎ Sends m recorded n y
 
 -- a sent row in the model, taken apart
 pub record Fires (m : Monitor) (guess : Bool) (j k : ℕ) (s : Situation) (t : Transition) : Type 0 where
-  pub listed : get_elem? m.transitions j ≡ some t
+  pub listed : slice_get m.transitions j ≡ Some t
   pub air : s.air ≡ 0
   pub allowed : allows m.rule s.window guess ≡ true
   pub source : t.source ≡ s.state
@@ -75,14 +77,14 @@ module _ (m : Monitor) (guess : Bool) (j k : ℕ) (s : Situation) where
   abbrev behind : Transition → Situation
   behind t = sending m k (window_behind m.rule s.window guess) (after m t (config_of s))
 
-  sent-some : (x : Situation) → sent m guess j k s ≡ some x → (t : Transition) × Fires m guess j k s t × (behind t ≡ x)
+  sent-some : (x : Situation) → sent m guess j k s ≡ Some x → (t : Transition) × Fires m guess j k s t × (behind t ≡ x)
   unfolding sent within_rule fires
   sent-some x e =
-      let (air, p) = cond-some (eqb s.air 0) (map (sending m k (window_behind m.rule s.window guess)) (within_rule m s.window guess (fires m j k (config_of s)))) e in
+      let (air, p) = cond-some (eqb s.air 0) (option_map (sending m k (window_behind m.rule s.window guess)) (within_rule m s.window guess (fires m j k (config_of s)))) e in
       let (c, q, same) = (map-eq-some_iff (sending m k (window_behind m.rule s.window guess)) (within_rule m s.window guess (fires m j k (config_of s)))).0 p in
       let (allowed, f) = cond-some (allows m.rule s.window guess) (fires m j k (config_of s)) q in
-      let (t, listed, o) = (bind-eq-some_iff (get_elem? m.transitions j) (outcome m k (config_of s))).0 f in
-      let (on, there) = cond-some (enabled t k (config_of s)) (some (after m t (config_of s))) o in
+      let (t, listed, o) = (bind-eq-some_iff (slice_get m.transitions j) (outcome m k (config_of s))).0 f in
+      let (on, there) = cond-some (enabled t k (config_of s)) (Some (after m t (config_of s))) o in
       let (begins, holding) = both_are (eqb t.source s.state && eqb t.trigger k) (holds t.guard s.variables s.clocks) on in
       let (source, trigger) = both_are (eqb t.source s.state) (eqb t.trigger k) begins in (
         t,
@@ -94,24 +96,24 @@ module _ (m : Monitor) (guess : Bool) (j k : ℕ) (s : Situation) where
           trigger = eqb-true t.trigger k trigger;
           holding = holding;
         },
-        ap (sending m k (window_behind m.rule s.window guess)) (some-injective _ _ there) ∙ same,
+        ap (sending m k (window_behind m.rule s.window guess)) (same_Some _ _ there) ∙ same,
       )
 
-  some-sent : (t : Transition) → Fires m guess j k s t → sent m guess j k s ≡ some (behind t)
-  unfolding sent within_rule fires bind
+  some-sent : (t : Transition) → Fires m guess j k s t → sent m guess j k s ≡ Some (behind t)
+  unfolding sent within_rule fires
   some-sent t f =
       rw (eq-eqb s.air 0 f.air, f.allowed, f.listed, eq-eqb t.source s.state f.source, eq-eqb t.trigger k f.trigger, f.holding)
 
 module _ (m : Monitor) (k : ℕ) (s : Situation) where
-  missed-some : (x : Situation) → missed m k s ≡ some x → (s.air ≡ 0) × (to_unit m k ≡ true) × (sending m k s.window (config_of s) ≡ x)
+  missed-some : (x : Situation) → missed m k s ≡ Some x → (s.air ≡ 0) × (to_unit m k ≡ true) × (sending m k s.window (config_of s) ≡ x)
   unfolding missed
   missed-some x e =
-      let (air, p) = cond-some (eqb s.air 0) (map (sending m k s.window) (cond (to_unit m k) (some (config_of s)) none)) e in
-      let (c, q, same) = (map-eq-some_iff (sending m k s.window) (cond (to_unit m k) (some (config_of s)) none)).0 p in
-      let (unit, there) = cond-some (to_unit m k) (some (config_of s)) q in
-      (eqb-true s.air 0 air, unit, ap (sending m k s.window) (some-injective _ _ there) ∙ same)
+      let (air, p) = cond-some (eqb s.air 0) (option_map (sending m k s.window) (cond (to_unit m k) (Some (config_of s)) None)) e in
+      let (c, q, same) = (map-eq-some_iff (sending m k s.window) (cond (to_unit m k) (Some (config_of s)) None)).0 p in
+      let (unit, there) = cond-some (to_unit m k) (Some (config_of s)) q in
+      (eqb-true s.air 0 air, unit, ap (sending m k s.window) (same_Some _ _ there) ∙ same)
 
-  some-missed : s.air ≡ 0 → to_unit m k ≡ true → missed m k s ≡ some (sending m k s.window (config_of s))
+  some-missed : s.air ≡ 0 → to_unit m k ≡ true → missed m k s ≡ Some (sending m k s.window (config_of s))
   unfolding missed
   some-missed air unit = rw (eq-eqb s.air 0 air, unit)
 
@@ -203,7 +205,7 @@ module _ (m : Monitor) {q v c d a w : ℕ} (range : InRange m (situated q v c d 
 
   sent-leads : (recorded : Option ℕ) (guess : Bool) (j k : ℕ) (x : Situation)
       → ((t : Transition) → t.trigger ≡ k → (fits recorded t ≡ true) × (guess ≡ guessed m recorded t))
-      → sent m guess j k here ≡ some x → Leads recorded (tick (capped m) x)
+      → sent m guess j k here ≡ Some x → Leads recorded (tick (capped m) x)
   sent-leads recorded guess j k x suits e =
       let (t, f, same) = sent-some m guess j k here x e in
       let (fit, g) = suits t f.trigger in (
@@ -212,19 +214,19 @@ module _ (m : Monitor) {q v c d a w : ℕ} (range : InRange m (situated q v c d 
         ap (λ (u : Situation). number m (tick (capped m) u)) (sym same) ∙ number-sent guess k t f.trigger,
       )
 
-  moved-leads : (recorded : Option ℕ) (b : Move) (x : Situation) → moved m recorded here b ≡ some x → Leads recorded (tick (capped m) x)
+  moved-leads : (recorded : Option ℕ) (b : Move) (x : Situation) → moved m recorded here b ≡ Some x → Leads recorded (tick (capped m) x)
   unfolding moved
-  moved-leads none (keep j) x e = absurd (none-ne-some x e)
-  moved-leads none rest x e =
-      (_, inl refl, ap (λ (u : Situation). number m (tick (capped m) u)) (sym (some-injective here x e)) ∙ number-still)
-  moved-leads none (add j) x e =
+  moved-leads None (keep j) x e = absurd (none-some x e)
+  moved-leads None rest x e =
+      (_, inl refl, ap (λ (u : Situation). number m (tick (capped m) u)) (sym (same_Some here x e)) ∙ number-still)
+  moved-leads None (add j) x e =
       let (k, listed, f) = (bind-eq-some_iff (trigger_of m j) (λ i. sent m (is_guess m i) j i here)).0 e in
-      sent-leads none (is_guess m k) j k x (λ t q. (refl, ap (is_guess m) (sym q))) f
-  moved-leads (some i) (keep j) x e = sent-leads (some i) false j i x (λ t q. (eq-eqb t.trigger i q, refl)) e
-  moved-leads (some i) rest x e =
+      sent-leads None (is_guess m k) j k x (λ t q. (refl, ap (is_guess m) (sym q))) f
+  moved-leads (Some i) (keep j) x e = sent-leads (Some i) false j i x (λ t q. (eq-eqb t.trigger i q, refl)) e
+  moved-leads (Some i) rest x e =
       let (air, unit, same) = missed-some m i here x e in
       (_, inl (unit, free-number m range air, refl), ap (λ (u : Situation). number m (tick (capped m) u)) (sym same) ∙ number-removed i air)
-  moved-leads (some i) (add j) x e = absurd (none-ne-some x e)
+  moved-leads (Some i) (add j) x e = absurd (none-some x e)
 
 -- the parts of number n
 pub record Parts (m : Monitor) (n : ℕ) : Type 0 where
@@ -255,13 +257,13 @@ module _ {m : Monitor} (sane : Sane m) where
       }
 
   -- where a step leads, some move and then the tick lead
-  pub step-moves : (recorded : Option ℕ) (n k z : ℕ) → n < size m → step_from m recorded n k ≡ some z → (y : ℕ) × Moves m recorded n y × (z ≡ ticked m y)
+  pub step-moves : (recorded : Option ℕ) (n k z : ℕ) → n < size m → step_from m recorded n k ≡ Some z → (y : ℕ) × Moves m recorded n y × (z ≡ ticked m y)
   unfolding step_by
   step-moves recorded n k z h e =
       let p : Parts m n = parts_of n h in
       let (x, there, same) = (map-eq-some_iff (number m) (step_by m (capped m) recorded (situation_of m n) (move_of k))).0 e in
       let (u, move, tock) = (map-eq-some_iff (tick (capped m)) (moved m recorded (situation_of m n) (move_of k))).0 there in
-      let (y, moves, reached) = moved-leads m p.range recorded (move_of k) u (subst (λ (s : Situation). moved m recorded s (move_of k) ≡ some u) p.is move) in
+      let (y, moves, reached) = moved-leads m p.range recorded (move_of k) u (subst (λ (s : Situation). moved m recorded s (move_of k) ≡ Some u) p.is move) in
       (y, subst (λ (i : ℕ). Moves m recorded i y) p.number moves, sym same ∙ ap (number m) (sym tock) ∙ reached)
 
 -- the situation that a transition fires from
@@ -302,7 +304,7 @@ module _ {m : Monitor} (sane : Sane m) (sourced : Sourced m) {recorded : Option 
   start_is : situation_of m n ≡ start
   start_is = ap (situation_of m) (sym start-number) ∙ back start_range
 
-  start-sent : (k : ℕ) → t.trigger ≡ k → sent m guess f.index k start ≡ some (sending m k (window_behind m.rule f.window guess) (after m t (config_of start)))
+  start-sent : (k : ℕ) → t.trigger ≡ k → sent m guess f.index k start ≡ Some (sending m k (window_behind m.rule f.window guess) (after m t (config_of start)))
   start-sent k e =
       some-sent m guess f.index k start t
       (record { listed = f.listed; air = refl; allowed = f.allowed; source = refl; trigger = e; holding = f.holding })
@@ -315,56 +317,56 @@ module _ {m : Monitor} (sane : Sane m) (sourced : Sourced m) {recorded : Option 
       (ap (λ (p : ℕ). target_at m guess t f.window f.variables + p) start_spot ∙ sym f.to)
 
   start-step : (b : Move) (k : ℕ) → t.trigger ≡ k → moved m recorded start b ≡ sent m guess f.index k start
-      → map (number m) (step_by m (capped m) recorded (situation_of m n) b) ≡ some (ticked m (reset_by m r y))
+      → option_map (number m) (step_by m (capped m) recorded (situation_of m n) b) ≡ Some (ticked m (reset_by m r y))
   unfolding step_by
   start-step b k e same =
-      ap (λ (s : Situation). map (number m) (map (tick (capped m)) (moved m recorded s b))) start_is
-      ∙ ap (λ (o : Option Situation). map (number m) (map (tick (capped m)) o)) (same ∙ start-sent k e)
-      ∙ ap {B = Option ℕ} some (start-end k e)
+      ap (λ (s : Situation). option_map (number m) (option_map (tick (capped m)) (moved m recorded s b))) start_is
+      ∙ ap (λ (o : Option Situation). option_map (number m) (option_map (tick (capped m)) o)) (same ∙ start-sent k e)
+      ∙ ap {B = Option ℕ} Some (start-end k e)
 
   index_few : f.index < transition_limit
-  index_few = trigger-number m sane f.index t.trigger (ap (map (λ i. i.trigger)) f.listed)
+  index_few = trigger-number m sane f.index t.trigger (ap (option_map (λ i. i.trigger)) f.listed)
 
 abbrev Stepping : Monitor → Option ℕ → (n z : ℕ) → Type 0
-Stepping m recorded n z = (k : ℕ) × (k < move_limit) × (step_from m recorded n k ≡ some z)
+Stepping m recorded n z = (k : ℕ) × (k < move_limit) × (step_from m recorded n k ≡ Some z)
 
 module _ {m : Monitor} (sane : Sane m) where
   fired-step : Sourced m → (recorded : Option ℕ) (n y r : ℕ) → Fired m recorded n y r → Stepping m recorded n (ticked m (reset_by m r y))
-  unfolding moved bind
-  fired-step sourced none n y r f = (
+  unfolding moved
+  fired-step sourced None n y r f = (
     first_add + f.index,
     omega (arith, index_few sane sourced f),
-    ap (λ (b : Move). map (number m) (step_by m (capped m) none (situation_of m n) b)) (move_of-add f.index)
+    ap (λ (b : Move). option_map (number m) (step_by m (capped m) None (situation_of m n) b)) (move_of-add f.index)
         ∙ start-step sane sourced f (add f.index) f.transition.trigger refl
-        (ap (λ (o : Option Transition). bind (map (λ t. t.trigger) o) (λ i. sent m (is_guess m i) f.index i (start sane sourced f))) f.listed),
+        (ap (λ (o : Option Transition). option_and_then (λ i. sent m (is_guess m i) f.index i (start sane sourced f)) (option_map (λ t. t.trigger) o)) f.listed),
   )
-  fired-step sourced (some i) n y r f = (
+  fired-step sourced (Some i) n y r f = (
     f.index,
     omega (arith, index_few sane sourced f),
-    ap (λ (b : Move). map (number m) (step_by m (capped m) (some i) (situation_of m n) b)) (move_of-keep f.index (index_few sane sourced f))
+    ap (λ (b : Move). option_map (number m) (step_by m (capped m) (Some i) (situation_of m n) b)) (move_of-keep f.index (index_few sane sourced f))
         ∙ start-step sane sourced f (keep f.index) i (eqb-true f.transition.trigger i f.fit) refl,
   )
 
   rested-step : (recorded : Option ℕ) (n y : ℕ) → n < size m → Rests m recorded n y → Stepping m recorded n (ticked m y)
   unfolding step_by moved
-  rested-step none n y h e =
+  rested-step None n y h e =
       let p : Parts m n = parts_of sane n h in (
         rest_move,
         omega arith,
-        ap (λ (b : Move). map (number m) (step_by m (capped m) none (situation_of m n) b)) move_of-rest
-            ∙ ap {B = Option ℕ} (λ (s : Situation). some (number m (tick (capped m) s))) p.is
-            ∙ ap {B = Option ℕ} some
+        ap (λ (b : Move). option_map (number m) (step_by m (capped m) None (situation_of m n) b)) move_of-rest
+            ∙ ap {B = Option ℕ} (λ (s : Situation). Some (number m (tick (capped m) s))) p.is
+            ∙ ap {B = Option ℕ} Some
             (number-still m p.range ∙ ap (λ (i : ℕ). ticked m (cond (ltb i (free m)) i (i - free m))) p.number ∙ ap (ticked m) (sym e)),
       )
-  rested-step (some i) n y h (unit, low, e) =
+  rested-step (Some i) n y h (unit, low, e) =
       let p : Parts m n = parts_of sane n h in
       let air : p.air ≡ 0 = number-free m p.range (subst (λ (x : ℕ). x < free m) (sym p.number) low) in (
         rest_move,
         omega arith,
-        ap (λ (b : Move). map (number m) (step_by m (capped m) (some i) (situation_of m n) b)) move_of-rest
-            ∙ ap (λ (s : Situation). map (number m) (map (tick (capped m)) (missed m i s))) p.is
-            ∙ ap (λ (o : Option Situation). map (number m) (map (tick (capped m)) o)) (some-missed m i _ air unit)
-            ∙ ap {B = Option ℕ} some
+        ap (λ (b : Move). option_map (number m) (step_by m (capped m) (Some i) (situation_of m n) b)) move_of-rest
+            ∙ ap (λ (s : Situation). option_map (number m) (option_map (tick (capped m)) (missed m i s))) p.is
+            ∙ ap (λ (o : Option Situation). option_map (number m) (option_map (tick (capped m)) o)) (some-missed m i _ air unit)
+            ∙ ap {B = Option ℕ} Some
             (number-removed m p.range i air ∙ ap (λ (x : ℕ). ticked m (x + free m * airtime m i)) p.number ∙ ap (ticked m) (sym e)),
       )
 

@@ -6,7 +6,7 @@ use native.Mathlib.Omega.{arith}
 use mathlib.Core.Path.{◌≡◌, refl, ap, subst, ◌∙◌}
 use mathlib.Core.Logic.{◌⊎◌, inl, inr}
 use mathlib.Core.Bool.{Bool, true, false, cond, ◌&&◌, ◌||◌, or-true, false≢true}
-use mathlib.Core.Option.{Option, none, some}
+use Rattle.std.specs.Prelude.{Option, Some, None}
 use lib.Dec.{ltb, leb}
 use borrow.Author.Tests.{ltb-true, leb-true, lt-ltb, le-leb}
 use Rattle.words.specs.Words.{up, below, any_below}
@@ -29,7 +29,7 @@ pub second_is : (a : Bool) {b : Bool} → b ≡ true → (a || b) ≡ true
 second_is a e = ap (λ (x : Bool). a || x) e ∙ or-true a
 
 -- an option behind a test
-pub cond-some : {A : Type 0} {a : A} (b : Bool) (o : Option A) → cond b o none ≡ some a → (b ≡ true) × (o ≡ some a)
+pub cond-some : {A : Type 0} {a : A} (b : Bool) (o : Option A) → cond b o None ≡ Some a → (b ≡ true) × (o ≡ Some a)
 cond-some true o e = (refl, e)
 cond-some false o e = (cc, cc)
 

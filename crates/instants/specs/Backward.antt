@@ -1,6 +1,5 @@
 -- An instant backward: the situations' numbers from which some move and then one tick lead into a set.
-use Rattle.std.specs.Prelude.{ℕ, ◌+◌, ◌-◌, ◌*◌, ◌/◌, ◌%◌, Bool, cond, ◌&&◌, ◌||◌, ltb, eqb}
-use Rattle.std.proofs.Math.Option.{Option, none, some}
+use Rattle.std.specs.Prelude.{ℕ, ◌+◌, ◌-◌, ◌*◌, ◌/◌, ◌%◌, Bool, cond, ◌&&◌, ◌||◌, ltb, eqb, Option, Some, None}
 use Rattle.model.specs.Monitor.{Monitor, to_unit, airtime}
 use Rattle.words.specs.Words.{up, below}
 use Rattle.instants.specs.Digit.{raised, zeroed}
@@ -23,8 +22,8 @@ reset_by m r x = second_reset m r (first_reset m r x)
 
 -- nothing is sent, or a recorded row is removed
 unfoldable pub rests_back : Monitor → Option ℕ → (ℕ → Bool) → ℕ → Bool
-rests_back m none s x = s (cond (ltb x (free m)) x (x - free m))
-rests_back m (some k) s x = to_unit m k && (ltb x (free m) && s (x + free m * airtime m k))
+rests_back m None s x = s (cond (ltb x (free m)) x (x - free m))
+rests_back m (Some k) s x = to_unit m k && (ltb x (free m) && s (x + free m * airtime m k))
 
 unfoldable pub sends_back : Monitor → Option ℕ → (ℕ → Bool) → ℕ → Bool
 sends_back m recorded s x =

@@ -1,6 +1,5 @@
 -- An instant forward: what the moves and then one tick make of a set of situations' numbers.
-use Rattle.std.specs.Prelude.{ℕ, ◌+◌, ◌*◌, ◌%◌, Bool, ◌&&◌, ◌||◌, ltb, eqb}
-use Rattle.std.proofs.Math.Option.{Option, none, some}
+use Rattle.std.specs.Prelude.{ℕ, ◌+◌, ◌*◌, ◌%◌, Bool, ◌&&◌, ◌||◌, ltb, eqb, Option, Some, None}
 use Rattle.model.specs.Monitor.{Monitor, to_unit, airtime}
 use Rattle.words.specs.Words.{up, below}
 use Rattle.instants.specs.Digit.{raised_set, zeroed_set}
@@ -9,8 +8,8 @@ use Rattle.instants.specs.Firing.{guessed, source_at, target_at, holds_at, some_
 
 -- nothing is sent: one tick less of taken air; a recorded row is removed: it takes the air
 unfoldable pub rests : Monitor → Option ℕ → (ℕ → Bool) → ℕ → Bool
-rests m none s x = s (x + free m) || (ltb x (free m) && s x)
-rests m (some k) s x = to_unit m k && up (free m * airtime m k) (below (free m) s) x
+rests m None s x = s (x + free m) || (ltb x (free m) && s x)
+rests m (Some k) s x = to_unit m k && up (free m * airtime m k) (below (free m) s) x
 
 -- what firings give, before clocks are reset, of the transitions that reset r
 unfoldable pub sends : Monitor → Option ℕ → (r : ℕ) → (ℕ → Bool) → ℕ → Bool

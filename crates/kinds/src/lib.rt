@@ -26,7 +26,7 @@ pub fn kind_width(version: u8) -> u8
 pub fn kind_at(version: u8, i: u8) -> u16
     ensures { result ≡ kind_at version i }
 {
-    FIRST_KIND as u16 + kind_width(version) as u16 * i as u16
+    u16::from(FIRST_KIND) + u16::from(kind_width(version)) * u16::from(i)
 }
 
 // Where the record of a kind starts in a table.
@@ -44,6 +44,7 @@ pub fn transitions_at(table: &[u8]) -> u16
 }
 
 // The device that version 1 gives to kinds of a direction.
+#[tactic(auto, unfolding(model::specs::Kinds::implied_device))]
 fn implied_device(direction: u8) -> u8
     ensures { result ≡ implied_device direction }
 {
@@ -51,28 +52,26 @@ fn implied_device(direction: u8) -> u8
 }
 
 // The device of the kind whose record starts at an offset.
+#[tactic(auto, unfolding(model::specs::Kinds::device_at))]
 pub fn device_at(table: &[u8], at: u16) -> u8
     ensures { result ≡ device_at table.now at }
 {
-    let start = at as usize;
+    let start = usize::from(at);
     if byte(table, 2) == 1 {
-        return implied_device(byte(table, start));
+        implied_device(byte(table, start))
+    } else {
+        byte(table, start + 2)
     }
-    byte(table, start + 2)
 }
 
 // A device that a kind of a direction may have.
+#[tactic(auto, unfolding(model::specs::Kinds::device_fits))]
 pub fn device_fits(version: u8, direction: u8, device: u8) -> bool
     ensures { result ≡ device_fits version direction device }
 {
-    if version == 1 {
-        return device == implied_device(direction);
+    match (version, direction) {
+        (1, _) => device == implied_device(direction),
+        (_, 0) => device == 0,
+        _ => (1..=DEVICE_LIMIT).contains(&device),
     }
-    if direction == 0 {
-        return device == 0;
-    }
-    if device < 1 {
-        return false;
-    }
-    device <= DEVICE_LIMIT
 }

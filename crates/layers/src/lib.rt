@@ -2,150 +2,91 @@
 
 #![tactic(auto)]
 
-ghost use Rattle.std.specs.Prelude.{◌≡◌, List, ℕ, ◌-◌, ◌<◌};
-ghost use Rattle.std.proofs.Math.Option.{some};
+ghost use Rattle.std.specs.Prelude.{◌≡◌, ℕ, ◌<◌, false, MatchOption};
 ghost use Rattle.model.specs.Situation.{move_limit};
-ghost use Rattle.model.specs.Layers.{first_from};
-ghost use Rattle.situation.specs.Rows.{heard_of};
-ghost use Rattle.steps.specs.Stepping.{arrival_of, arrive_from, step_at};
-ghost use Rattle.situation.specs.declared.Shape.{Shape};
-ghost use Rattle.layers.specs.Into.{Enough, arrival_in, in_row, leads_to, least_into};
+ghost use Rattle.model.specs.Layers.{into};
+ghost use Rattle.monitor.specs.From.{transition_count};
+ghost use Rattle.steps.specs.Stepping.{as_move, arrive_by, step_at};
+ghost use Rattle.layers.specs.Into.{in_row, least_into, by_transition, Leads, FirstBy, LeastMove, first_of};
 
-use model::{FIRST_ADD, MOVE_LIMIT, REST, Situation};
+use model::Situation;
 use monitor::transitions;
 use rows::span;
 use rows::span::Span;
+use situation::Shape;
 use situation::numbering::situation_of;
-use situation::{Arrival, Heard, Shape};
-use steps::arrive;
+use steps::{Move, arrive};
 
-// A move, and the number that it leads to: 0 where no move was found.
+// A move, and the number of the situation that it leads to.
 #[derive(Clone, Copy)]
 pub struct Least {
-    pub k: usize,
+    pub k: Move,
     pub to: u64,
 }
 
-// The moves lo .. hi.
-#[derive(Clone, Copy)]
-struct Range {
-    lo: usize,
-    hi: usize,
-}
-
-// The moves worth trying: those below kept, and those from REST to end.
-#[derive(Clone, Copy)]
-struct Tries {
-    kept: usize,
-    end: usize,
-}
-
-// No move leads anywhere but these: a taken air leaves only REST, nothing is kept where no row is recorded, and nothing is added where one is.
-fn worth(table: &[u8], heard: Heard, s: Situation) -> Tries
-    ensures { (o : List ℕ) (h : Shape) → Enough (arrive_from table.now o h (heard_of heard) s) result.kept result.end }
+// A move, if it leads into the row.
+fn leading<'a>(
+    table: &'a [u8],
+    offsets: &'a [u16],
+    h: Shape,
+    heard: Option<u8>,
+    s: Situation,
+    k: Move,
+    scratch: &'a [u8],
+    to: Span,
+) -> Option<Least>
+    ensures { MatchOption result (into (in_row scratch.now to.start to.size) (arrive_by table.now offsets.now h heard s (as_move k)) ≡ false) (Leads (in_row scratch.now to.start to.size) (arrive_by table.now offsets.now h heard s) (as_move k)) }
 {
-    if 0 < s.air {
-        return Tries {
-            kept: 0,
-            end: FIRST_ADD,
+    let z = arrive(table, offsets, h, heard, s, k)?;
+    if z < to.size as u64 && span::has(scratch, to.start, z as usize) {
+        Some(Least { k, to: z })
+    } else {
+        None
+    }
+}
+
+// The first of the moves by a transition that leads into the row. A recorded row is kept; where none is recorded, one is added.
+fn first_by<'a>(
+    table: &'a [u8],
+    offsets: &'a [u16],
+    h: Shape,
+    heard: Option<u8>,
+    s: Situation,
+    scratch: &'a [u8],
+    to: Span,
+) -> Option<Least>
+    ensures { MatchOption result (first_of (in_row scratch.now to.start to.size) (arrive_by table.now offsets.now h heard s) (by_transition heard) (transition_count table.now) ≡ transition_count table.now) (FirstBy (in_row scratch.now to.start to.size) (arrive_by table.now offsets.now h heard s) (by_transition heard) (transition_count table.now)) }
+{
+    for j in 0..transitions(table) {
+        let k = match heard {
+            Some(_) => Move::Keep(j),
+            None => Move::Add(j),
         };
-    }
-    let count = transitions(table);
-    match heard {
-        Heard::Nothing => Tries {
-            kept: 0,
-            end: FIRST_ADD + count,
-        },
-        Heard::Kind(_) => Tries {
-            kept: count,
-            end: FIRST_ADD,
-        },
-    }
-}
-
-// Where move k leads, if that is in the row.
-fn leads<'a>(
-    table: &'a [u8],
-    offsets: &'a [u16],
-    h: Shape,
-    heard: Heard,
-    s: Situation,
-    k: usize,
-    scratch: &'a [u8],
-    to: Span,
-) -> Arrival
-    ensures { arrival_of result ≡ arrival_in (in_row scratch.now to.start to.size) (arrive_from table.now offsets.now h (heard_of heard) s k) }
-{
-    match arrive(table, offsets, h, heard, s, k) {
-        Arrival::Nowhere => Arrival::Nowhere,
-        Arrival::At(z) => {
-            if to.size as u64 <= z {
-                return Arrival::Nowhere;
-            }
-            if span::has(scratch, to.start, z as usize) {
-                Arrival::At(z)
-            } else {
-                Arrival::Nowhere
-            }
+        if let Some(least) = leading(table, offsets, h, heard, s, k, scratch, to) {
+            return Some(least);
         }
     }
+    None
 }
 
-// The first of some moves that leads into the row; where they end if none does.
-fn first_of<'a>(
-    table: &'a [u8],
-    offsets: &'a [u16],
-    h: Shape,
-    heard: Heard,
-    s: Situation,
-    moves: Range,
-    scratch: &'a [u8],
-    to: Span,
-) -> Least
-    ensures { (result.k ≡ first_from (leads_to (arrive_from table.now offsets.now h (heard_of heard) s) scratch.now to.start to.size) (moves.hi - moves.lo) moves.lo) × (result.k < moves.hi → arrive_from table.now offsets.now h (heard_of heard) s result.k ≡ some result.to) }
-{
-    let mut k = moves.lo;
-    while k < moves.hi {
-        match leads(table, offsets, h, heard, s, k, scratch, to) {
-            Arrival::At(z) => return Least { k, to: z },
-            Arrival::Nowhere => k += 1,
-        }
-    }
-    Least { k, to: 0 }
-}
-
-// The least move that leads from situation n into the row; MOVE_LIMIT if none does.
+// The least move that leads from situation n into the row, if one does. While the air is taken, no row is kept or added.
 pub fn least_into<'a>(
     table: &'a [u8],
     offsets: &'a [u16],
     h: Shape,
-    heard: Heard,
+    heard: Option<u8>,
     scratch: &'a [u8],
     to: Span,
     n: u64,
-) -> Least
-    ensures { (result.k ≡ least_into (step_at table.now offsets.now h (heard_of heard)) scratch.now to.start to.size n) × (result.k < move_limit → step_at table.now offsets.now h (heard_of heard) n result.k ≡ some result.to) }
+) -> Option<Least>
+    ensures { let least = least_into (step_at table.now offsets.now h heard) scratch.now to.start to.size n in MatchOption result (least ≡ move_limit) (LeastMove (step_at table.now offsets.now h heard n) least) }
 {
     let s = situation_of(h, n);
-    let tries = worth(table, heard, s);
-    let keeps = Range {
-        lo: 0,
-        hi: tries.kept,
-    };
-    let kept = first_of(table, offsets, h, heard, s, keeps, scratch, to);
-    if kept.k < tries.kept {
-        return kept;
-    }
-    let others = Range {
-        lo: REST,
-        hi: tries.end,
-    };
-    let other = first_of(table, offsets, h, heard, s, others, scratch, to);
-    if other.k < tries.end {
-        return other;
-    }
-    Least {
-        k: MOVE_LIMIT,
-        to: 0,
+    let rest = || leading(table, offsets, h, heard, s, Move::Rest, scratch, to);
+    let sent = || first_by(table, offsets, h, heard, s, scratch, to);
+    match heard {
+        _ if s.air > 0 => rest(),
+        Some(_) => sent().or_else(rest),
+        None => rest().or_else(sent),
     }
 }

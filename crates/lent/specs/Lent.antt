@@ -1,9 +1,8 @@
 -- 30 and 31 by what is wanted and what is lent; last: the last recorded time.
 use Rattle.std.specs.Prelude.{ℕ, [], ◌∷◌, leb}
 use Rattle.model.specs.Edition.{latest_time}
-use Rattle.model.specs.First.{unless, and_then, first_of}
+use Rattle.model.specs.First.{unless, and_then, first_of, Reading}
 use Rattle.model.specs.declared.Edition.{Edition}
-use Rattle.model.specs.declared.Reading.{Reading}
 use Rattle.model.specs.declared.Refusal.TheVariants.{Scratch, WitnessRoom}
 
 -- an edition whose times end before the last recorded one is not written, however large the room

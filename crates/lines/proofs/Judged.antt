@@ -3,8 +3,9 @@ use Prim.Native.Nat.{ℕ, zero, suc, ◌+◌, ◌*◌, ◌≤◌, ◌<◌}
 use native.Mathlib.Omega.{arith}
 use mathlib.Core.Path.{◌≡◌, refl, sym, ap, subst, ◌∙◌}
 use mathlib.Core.List.{List, [], ◌∷◌, ◌++◌, Memᴰ}
-use mathlib.Core.Option.{none, some}
-use lib.ListN.{length, take, drop, get_elem?, get_or-append, length-append}
+use Rattle.std.specs.Prelude.{Some, slice_get, Ok, Err}
+use Rattle.std.proofs.lemmas.Option.{none-some}
+use lib.ListN.{length, take, drop, get_or-append, length-append}
 use borrow.Author.Tests.{lt-ltb, le-ltb, le-leb, lt-leb}
 use Rattle.model.specs.Edition.{most_rows, latest_time}
 use Rattle.model.specs.Bytes.{tab}
@@ -18,10 +19,9 @@ use Rattle.model.specs.Claims.{Judged}
 use Rattle.model.specs.Validation.{preferred, verdict, validation_of, refusal, validation, room_by, room_left, scratch_after, room_after}
 use Rattle.model.specs.Desk.{files_in, table_length, table_in, recording_in, budget_in, line, accepted_word, exhausted_word, refused_word, row_lines, verdict_lines, judged_lines, lines_for, scratch_for, room_for}
 use Rattle.model.specs.declared.Edition.TheVariants.{One}
-use Rattle.model.specs.declared.Reading.{Reading}
-use Rattle.model.specs.declared.Reading.TheVariants.{Sound, Unsound}
+use Rattle.model.specs.First.{Reading, Validating, read_as}
 use Rattle.model.specs.declared.Verdict.{Verdict}
-use Rattle.model.specs.declared.Verdict.TheVariants.{Accepted, Rejected, Exhausted, Refused}
+use Rattle.model.specs.declared.Verdict.TheVariants.{Accepted, Rejected, Exhausted}
 use Rattle.model.proofs.Basics.{length-tab}
 use Rattle.model.proofs.Places.{tab-same}
 use Rattle.model.proofs.WitnessForm.{witness_back_lem, witness_length}
@@ -36,7 +36,7 @@ use Rattle.lines.specs.Written.{FilesJudged, Lines}
 -- rows that a witness can hold
 pub record Fitting (rows : List Row) : Type 0 where
   pub few : length rows ≤ most_rows One
-  pub times : (i : ℕ) (r : Row) → get_elem? rows i ≡ some r → r.time < 65536
+  pub times : (i : ℕ) (r : Row) → slice_get rows i ≡ Some r → r.time < 65536
 
 row_before : (b rest : List ℕ) (i : ℕ) → 9 + 5 * i < length b → row_at One (b ++ rest) i ≡ row_at One b i
 unfolding row_at
@@ -59,26 +59,26 @@ rows_back rows room fit =
     ∙ back
 
 -- what the lines of a verdict need of its witness
-abbrev pub Holds : Verdict → List Row → Type 0
-Holds (Accepted cost n) rows = (n ≡ length rows) × Fitting rows
-Holds (Rejected cost instant not_yet no_more) rows = Unit {0}
-Holds (Exhausted budget instant) rows = Unit {0}
-Holds (Refused r) rows = Unit {0}
+abbrev pub Holds : Validating → List Row → Type 0
+Holds (Ok (Accepted cost n)) rows = (n ≡ length rows) × Fitting rows
+Holds (Ok (Rejected cost instant not_yet no_more)) rows = Unit {0}
+Holds (Ok (Exhausted budget instant)) rows = Unit {0}
+Holds (Err r) rows = Unit {0}
 
-pub lines_back : (v : Verdict) (rows : List Row) (room : List ℕ) → Holds v rows
+pub lines_back : (v : Validating) (rows : List Row) (room : List ℕ) → Holds v rows
     → verdict_lines v (rows_standing v (room_by v (witness_bytes One rows) room)) ≡ verdict_lines v rows
 unfolding verdict_lines
-lines_back (Accepted cost n) rows room (e, fit) =
+lines_back (Ok (Accepted cost n)) rows room (e, fit) =
     let few : n ≤ most_rows One = omega (arith, fit.few) in
-    rw (le-leb _ _ few) (ap (verdict_lines (Accepted cost n)) (ap (tab (row_at One (over (witness_bytes One rows) room))) e ∙ rows_back rows room fit))
-lines_back (Rejected cost instant not_yet no_more) rows room h = refl
-lines_back (Exhausted budget instant) rows room h = refl
-lines_back (Refused r) rows room h = refl
+    rw (le-leb _ _ few) (ap (verdict_lines (Ok (Accepted cost n))) (ap (tab (row_at One (over (witness_bytes One rows) room))) e ∙ rows_back rows room fit))
+lines_back (Ok (Rejected cost instant not_yet no_more)) rows room h = refl
+lines_back (Ok (Exhausted budget instant)) rows room h = refl
+lines_back (Err r) rows room h = refl
 
 -- the lines of a verdict fit the program's text
-lines_fit : (v : Verdict) (rows : List Row) → Holds v rows → length (verdict_lines v rows) ≤ 400000
+lines_fit : (v : Validating) (rows : List Row) → Holds v rows → length (verdict_lines v rows) ≤ 400000
 unfolding verdict_lines
-lines_fit (Accepted cost n) rows (e, fit) =
+lines_fit (Ok (Accepted cost n)) rows (e, fit) =
     omega (
       arith,
       length-append (line accepted_word cost n) (row_lines rows),
@@ -86,16 +86,13 @@ lines_fit (Accepted cost n) rows (e, fit) =
       rows-length rows,
       fit.few,
     )
-lines_fit (Rejected cost instant not_yet no_more) rows h = omega (arith, rejected-length cost instant not_yet no_more)
-lines_fit (Exhausted budget instant) rows h = omega (arith, line-length exhausted_word budget instant)
-lines_fit (Refused r) rows h = omega (arith, line-length refused_word (refusal_values r).number (refusal_values r).second)
+lines_fit (Ok (Rejected cost instant not_yet no_more)) rows h = omega (arith, rejected-length cost instant not_yet no_more)
+lines_fit (Ok (Exhausted budget instant)) rows h = omega (arith, line-length exhausted_word budget instant)
+lines_fit (Err r) rows h = omega (arith, line-length refused_word (refusal_values r).number (refusal_values r).second)
 
 -- the preferred witness fits
-member : (rows : List Row) (i : ℕ) (r : Row) → get_elem? rows i ≡ some r → Memᴰ r rows
-member [] i r e = absurd (no-some e)
-  where
-    no-some : none ≡ some r → ⊥
-    no-some q = let z : ◌≡◌ {A = ℕ} 0 1 = cc in omega arith
+member : (rows : List Row) (i : ℕ) (r : Row) → slice_get rows i ≡ Some r → Memᴰ r rows
+member [] i r e = absurd (none-some r e)
 member (x ∷ rows) zero r e = let h : r ≡ x = cc in Memᴰ.head h
 member (x ∷ rows) (suc i) r e = Memᴰ.tail (member rows i r e)
 
@@ -110,13 +107,12 @@ module _ (table recording : List ℕ) (sound : SoundRecording table recording) (
         times = λ i r e. let h = p.ends r (member rows i r e) in omega arith;
       }
 
-  by_verdict : (v : Verdict) → Judged One (monitor_at table) (packets_at recording) budget v → Holds v rows
+  by_verdict : (v : Verdict) → Judged One (monitor_at table) (packets_at recording) budget v → Holds (Ok v) rows
   by_verdict (Accepted cost n) j = (j.valued.1, fitting (j.witnessed tt))
   by_verdict (Rejected cost instant not_yet no_more) j = tt
   by_verdict (Exhausted limit instant) j = tt
-  by_verdict (Refused r) j = tt
 
-  verdict-holds : Holds (verdict (monitor_at table) (packets_at recording) budget) rows
+  verdict-holds : Holds (Ok (verdict (monitor_at table) (packets_at recording) budget)) rows
   verdict-holds = by_verdict (verdict (monitor_at table) (packets_at recording) budget) (sound-judged One table recording sound early budget)
 
 pub validation-holds : (table recording : List ℕ) (budget scratch_length room_length : ℕ)
@@ -125,15 +121,15 @@ unfolding validation_of
 validation-holds table recording budget scratch_length room_length = by (refusal One table recording scratch_length room_length) refl
   where
     by : (x : Reading) → refusal One table recording scratch_length room_length ≡ x
-        → Holds (elim x [ Sound ↦ verdict (monitor_at table) (packets_at recording) budget | Unsound r ↦ Refused r ]) (preferred (monitor_at table) (packets_at recording))
-    by Sound e =
+        → Holds (read_as x (verdict (monitor_at table) (packets_at recording) budget)) (preferred (monitor_at table) (packets_at recording))
+    by (Ok _) e =
         let (sound, early) = unrefused (recording_answer table recording) One (monitor_at table) (packets_at recording) scratch_length room_length e in
         verdict-holds table recording sound early budget
-    by (Unsound r) e = tt
+    by (Err r) e = tt
 
 -- the lines of a validation, with its rows read back from the room that it left
 pub judged-back : (table recording : List ℕ) (budget : ℕ) (scratch room : List ℕ) →
-    let v : Verdict = validation One table recording budget (length scratch) (length room) in
+    let v : Validating = validation One table recording budget (length scratch) (length room) in
     verdict_lines v (rows_standing v (room_after One table recording budget scratch room)) ≡ judged_lines (length scratch) (length room) table recording budget
 unfolding judged_lines room_left
 judged-back table recording budget scratch room =
@@ -148,7 +144,7 @@ judged_fit scratch_length room_length table recording budget =
 
 module _ (files table recording : List ℕ) (budget : ℕ) (scratch room : List ℕ) where
   -- a validation of the files' two parts, and its verdict written
-  pub judging : {text scratch_left room_left text_left : List ℕ} {v : Verdict} {next : ℕ} →
+  pub judging : {text scratch_left room_left text_left : List ℕ} {v : Validating} {next : ℕ} →
       table ≡ take (table_length files) files → recording ≡ drop (table_length files) files →
       v ≡ validation One table recording budget (length scratch) (length room) →
       scratch_left ≡ scratch_after One table recording budget scratch room → room_left ≡ room_after One table recording budget scratch room →
@@ -162,7 +158,7 @@ module _ (files table recording : List ℕ) (budget : ℕ) (scratch room : List 
         wrote =
             same (λ q p. Wrote (judged_lines (length scratch) (length room) q p budget) 0 text text_left next)
             (subst (λ (bytes : List ℕ). Wrote bytes 0 text text_left next)
-            (ap (λ (x : Verdict). verdict_lines x (rows_standing x room_left)) e
+            (ap (λ (x : Validating). verdict_lines x (rows_standing x room_left)) e
             ∙ ap (λ (x : List ℕ). verdict_lines (validation One table recording budget (length scratch) (length room)) (rows_standing (validation One table recording budget (length scratch) (length room)) x)) l
             ∙ judged-back table recording budget scratch room)
             w);

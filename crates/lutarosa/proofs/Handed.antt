@@ -5,12 +5,8 @@ use mathlib.Core.List.{List}
 use Rattle.model.specs.Numbers.{verdict_values, verdict_counts, ruled_values, ruled_counts, checking_values, writing_values}
 use Rattle.model.specs.Room.{Lent}
 use Rattle.model.specs.declared.Rule.{Rule}
-use Rattle.model.specs.declared.RuledVerdict.{RuledVerdict}
 use Rattle.model.specs.declared.Edition.{Edition}
-use Rattle.model.specs.declared.Checking.{Checking}
-use Rattle.model.specs.declared.Reading.{Reading}
-use Rattle.model.specs.declared.Verdict.{Verdict}
-use Rattle.model.specs.declared.Writing.{Writing}
+use Rattle.model.specs.First.{Checking, Reading, Writing, Validating, ValidatingUnder}
 use Rattle.numbers.specs.Told.{told, verdict_told, counts_told}
 use Rattle.numbers.specs.declared.Answer.{Answer}
 use Rattle.numbers.specs.declared.VerdictAnswer.{VerdictAnswer}
@@ -19,7 +15,7 @@ use Rattle.checker.specs.Claim.{Checks, ChecksUnder}
 use Rattle.rewrite.specs.Rewriting.{Rewrites}
 use Rattle.lutarosa.specs.Face.{Validated, Checked, Rewritten, ValidatedUnder, CheckedUnder}
 
-pub validated : {edition : Edition} {table recording : List ℕ} {budget : ℕ} {scratch room scratch_then room_then : List ℕ} {v : Verdict} {a : VerdictAnswer} →
+pub validated : {edition : Edition} {table recording : List ℕ} {budget : ℕ} {scratch room scratch_then room_then : List ℕ} {v : Validating} {a : VerdictAnswer} →
     Validates edition table recording budget scratch room scratch_then room_then v → (verdict_told a ≡ verdict_values v) × (counts_told a ≡ verdict_counts v) →
     Validated edition table recording budget scratch room scratch_then room_then a
 validated {edition} {table} {recording} {budget} {scratch} {room} {scratch_then} {room_then} p e =
@@ -34,7 +30,7 @@ pub checked : {edition : Edition} {table recording witness : List ℕ} {r : Chec
 checked {edition} {table} {recording} {witness} p e =
     record { answered = e ∙ p.numbers; promised = subst (Checks edition table recording witness) p.answered p }
 
-pub validated_under : {rule given : Rule} {edition : Edition} {table recording : List ℕ} {budget : ℕ} {scratch room scratch_then room_then : List ℕ} {v : RuledVerdict} {a : VerdictAnswer} →
+pub validated_under : {rule given : Rule} {edition : Edition} {table recording : List ℕ} {budget : ℕ} {scratch room scratch_then room_then : List ℕ} {v : ValidatingUnder} {a : VerdictAnswer} →
     rule ≡ given → ValidatesUnder rule edition table recording budget scratch room scratch_then room_then v → (verdict_told a ≡ ruled_values v) × (counts_told a ≡ ruled_counts v) →
     ValidatedUnder given edition table recording budget scratch room scratch_then room_then a
 validated_under {rule} {given} {edition} {table} {recording} {budget} {scratch} {room} {scratch_then} {room_then} {v} {a} same p e =

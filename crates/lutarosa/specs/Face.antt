@@ -6,7 +6,7 @@ use Rattle.model.specs.Rules.{check_answer, check_answer_under}
 use Rattle.model.specs.Validation.{validation, validation_under, ruled}
 use Rattle.model.specs.declared.Rule.{Rule}
 use Rattle.model.specs.declared.Edition.{Edition}
-use Rattle.model.specs.declared.Reading.{Reading}
+use Rattle.model.specs.First.{Reading}
 use Rattle.numbers.specs.Told.{told, verdict_told, counts_told}
 use Rattle.numbers.specs.declared.Answer.{Answer}
 use Rattle.numbers.specs.declared.VerdictAnswer.{VerdictAnswer}

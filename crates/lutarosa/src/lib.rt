@@ -13,12 +13,11 @@ ghost use Rattle.lutarosa.specs.Face.{Validated, Checked, Rewritten, ValidatedUn
 use checker::{check_under, check_witness};
 use engine::{validate, validate_under};
 use model::Edition;
-use numbers::{
-    Answer, VerdictAnswer, checking_numbers, ruled_numbers, verdict_numbers, writing_numbers,
-};
+use numbers::{Answer, VerdictAnswer};
 use rewrite::{rewrite_recording, rewrite_table, rewrite_witness};
 use rule::rule_of;
 
+#[tactic(auto, using(crate::proofs::Handed::validated))]
 pub fn lutarosa_validate<'a>(
     table: &'a [u8],
     recording: &'a [u8],
@@ -28,35 +27,40 @@ pub fn lutarosa_validate<'a>(
 ) -> VerdictAnswer
     ensures { Validated One table.now recording.now budget scratch.old room.old scratch.new room.new result }
 {
-    verdict_numbers(validate(Edition::One, table, recording, budget, scratch, room))
+    validate(Edition::One, table, recording, budget, scratch, room).into()
 }
 
+#[tactic(auto, using(crate::proofs::Handed::checked))]
 pub fn lutarosa_check<'a>(table: &'a [u8], recording: &'a [u8], witness: &[u8]) -> Answer
     ensures { Checked One table.now recording.now witness.now result }
 {
-    checking_numbers(check_witness(Edition::One, table, recording, witness))
+    check_witness(Edition::One, table, recording, witness).into()
 }
 
+#[tactic(auto, using(crate::proofs::Handed::rewritten))]
 pub fn lutarosa_rewrite_table(bytes: &[u8], room: &mut [u8]) -> Answer
     ensures { Rewritten (table_answer bytes.now) bytes.now room.old room.new (rewrite_table bytes.now room.old) result }
 {
-    writing_numbers(rewrite_table(bytes, room))
+    rewrite_table(bytes, room).into()
 }
 
+#[tactic(auto, using(crate::proofs::Handed::rewritten))]
 pub fn lutarosa_rewrite_recording(table: &[u8], bytes: &[u8], room: &mut [u8]) -> Answer
     ensures { Rewritten (recording_answer table.now bytes.now) bytes.now room.old room.new (rewrite_recording table.now bytes.now room.old) result }
 {
-    writing_numbers(rewrite_recording(table, bytes, room))
+    rewrite_recording(table, bytes, room).into()
 }
 
+#[tactic(auto, using(crate::proofs::Handed::rewritten))]
 pub fn lutarosa_rewrite_witness(bytes: &[u8], room: &mut [u8]) -> Answer
     ensures { Rewritten (witness_answer One bytes.now) bytes.now room.old room.new (rewrite_witness One bytes.now room.old) result }
 {
-    writing_numbers(rewrite_witness(Edition::One, bytes, room))
+    rewrite_witness(Edition::One, bytes, room).into()
 }
 
 // The same for edition 2 of the witness.
 
+#[tactic(auto, using(crate::proofs::Handed::validated))]
 pub fn lutarosa_validate_edition2<'a>(
     table: &'a [u8],
     recording: &'a [u8],
@@ -66,23 +70,26 @@ pub fn lutarosa_validate_edition2<'a>(
 ) -> VerdictAnswer
     ensures { Validated Two table.now recording.now budget scratch.old room.old scratch.new room.new result }
 {
-    verdict_numbers(validate(Edition::Two, table, recording, budget, scratch, room))
+    validate(Edition::Two, table, recording, budget, scratch, room).into()
 }
 
+#[tactic(auto, using(crate::proofs::Handed::checked))]
 pub fn lutarosa_check_edition2<'a>(table: &'a [u8], recording: &'a [u8], witness: &[u8]) -> Answer
     ensures { Checked Two table.now recording.now witness.now result }
 {
-    checking_numbers(check_witness(Edition::Two, table, recording, witness))
+    check_witness(Edition::Two, table, recording, witness).into()
 }
 
+#[tactic(auto, using(crate::proofs::Handed::rewritten))]
 pub fn lutarosa_rewrite_witness_edition2(bytes: &[u8], room: &mut [u8]) -> Answer
     ensures { Rewritten (witness_answer Two bytes.now) bytes.now room.old room.new (rewrite_witness Two bytes.now room.old) result }
 {
-    writing_numbers(rewrite_witness(Edition::Two, bytes, room))
+    rewrite_witness(Edition::Two, bytes, room).into()
 }
 
 // The same under a measured loss rate (R-7), in either edition.
 
+#[tactic(auto, using(crate::proofs::Handed::validated_under))]
 pub fn lutarosa_validate_rule<'a>(
     table: &'a [u8],
     recording: &'a [u8],
@@ -95,7 +102,7 @@ pub fn lutarosa_validate_rule<'a>(
 ) -> VerdictAnswer
     ensures { ValidatedUnder (rule_of device window most) One table.now recording.now budget scratch.old room.old scratch.new room.new result }
 {
-    ruled_numbers(validate_under(
+    validate_under(
         rule_of(device, window, most),
         Edition::One,
         table,
@@ -103,9 +110,11 @@ pub fn lutarosa_validate_rule<'a>(
         budget,
         scratch,
         room,
-    ))
+    )
+    .into()
 }
 
+#[tactic(auto, using(crate::proofs::Handed::checked_under))]
 pub fn lutarosa_check_rule<'a>(
     table: &'a [u8],
     recording: &'a [u8],
@@ -116,15 +125,17 @@ pub fn lutarosa_check_rule<'a>(
 ) -> Answer
     ensures { CheckedUnder (rule_of device window most) One table.now recording.now witness.now result }
 {
-    checking_numbers(check_under(
+    check_under(
         rule_of(device, window, most),
         Edition::One,
         table,
         recording,
         witness,
-    ))
+    )
+    .into()
 }
 
+#[tactic(auto, using(crate::proofs::Handed::validated_under))]
 pub fn lutarosa_validate_rule_edition2<'a>(
     table: &'a [u8],
     recording: &'a [u8],
@@ -137,7 +148,7 @@ pub fn lutarosa_validate_rule_edition2<'a>(
 ) -> VerdictAnswer
     ensures { ValidatedUnder (rule_of device window most) Two table.now recording.now budget scratch.old room.old scratch.new room.new result }
 {
-    ruled_numbers(validate_under(
+    validate_under(
         rule_of(device, window, most),
         Edition::Two,
         table,
@@ -145,9 +156,11 @@ pub fn lutarosa_validate_rule_edition2<'a>(
         budget,
         scratch,
         room,
-    ))
+    )
+    .into()
 }
 
+#[tactic(auto, using(crate::proofs::Handed::checked_under))]
 pub fn lutarosa_check_rule_edition2<'a>(
     table: &'a [u8],
     recording: &'a [u8],
@@ -158,11 +171,12 @@ pub fn lutarosa_check_rule_edition2<'a>(
 ) -> Answer
     ensures { CheckedUnder (rule_of device window most) Two table.now recording.now witness.now result }
 {
-    checking_numbers(check_under(
+    check_under(
         rule_of(device, window, most),
         Edition::Two,
         table,
         recording,
         witness,
-    ))
+    )
+    .into()
 }

@@ -3,8 +3,10 @@ use Prim.Native.Nat.{ℕ, zero, suc, ◌+◌, ◌*◌, ◌<◌, ◌≤◌, min}
 use native.Mathlib.Omega.{arith}
 use mathlib.Core.Path.{◌≡◌, sym, ap, ap₂, subst, fun_ext, ◌∙◌}
 use mathlib.Core.List.{List, [], ◌∷◌, ◌++◌}
-use mathlib.Core.Option.{Option, some, map, some-injective}
-use lib.ListN.{length, get_or, get_elem?}
+use Rattle.std.specs.Prelude.{Option, Some, slice_get}
+use Rattle.std.specs.Option.{option_map}
+use Rattle.std.proofs.lemmas.Option.{same_Some, slice_get_within}
+use lib.ListN.{length, get_or}
 use Rattle.model.specs.Bytes.{byte_at, tab}
 use Rattle.model.specs.Limits.{size_limit, guard_limit, transition_limit}
 use Rattle.model.specs.Rule.{masks}
@@ -17,7 +19,7 @@ use Rattle.model.specs.Ruled.{SoundUnder}
 use Rattle.model.specs.Situation.{step_by, move_of, number, situation_of, capped, recorded_at, step_number, first_by, first_number}
 use Rattle.model.specs.declared.Rule.{Rule}
 use Rattle.model.specs.declared.Situation.{Situation}
-use Rattle.model.proofs.Basics.{get_elem_tab, get_elem_within, get_or-tab, length-tab}
+use Rattle.model.proofs.Basics.{get_elem_tab, get_or-tab, length-tab}
 use Rattle.model.proofs.Places.{get_or_column, get_or-padded}
 use Rattle.model.proofs.TableForm.{table_facts, table_small, TableFacts}
 use Rattle.model.proofs.RecordingForm.{sound_table}
@@ -80,16 +82,16 @@ module _ (table : List ℕ) (sound : SoundTable table) where
 
   pub triggers : Triggers table (offsets_of table)
   unfolding monitor_from transition_from
-  triggers = record { trigger = λ j t e. find j t (subst (λ (m : Monitor). get_elem? m.transitions j ≡ some t) (sym (monitor_from_lem table sound)) e) }
+  triggers = record { trigger = λ j t e. find j t (subst (λ (m : Monitor). slice_get m.transitions j ≡ Some t) (sym (monitor_from_lem table sound)) e) }
     where
-      find : (j : ℕ) (t : Transition) → get_elem? (monitor_from table (offsets_of table)).transitions j ≡ some t → byte_at table (get_or (offsets_of table) j 0 + 2) ≡ t.trigger
+      find : (j : ℕ) (t : Transition) → slice_get (monitor_from table (offsets_of table)).transitions j ≡ Some t → byte_at table (get_or (offsets_of table) j 0 + 2) ≡ t.trigger
       find j t e =
           let within : j < transitions_at table =
           subst (λ (n : ℕ). j < n) (length-tab (λ i. transition_from table (get_or (offsets_of table) i 0)) (transitions_at table))
-          (get_elem_within (tab (λ i. transition_from table (get_or (offsets_of table) i 0)) (transitions_at table)) j t e)
+          (slice_get_within (tab (λ i. transition_from table (get_or (offsets_of table) i 0)) (transitions_at table)) j t e)
           in
           let there = get_elem_tab (λ i. transition_from table (get_or (offsets_of table) i 0)) (transitions_at table) j within in
-          ap (λ (x : Transition). x.trigger) (some-injective (transition_from table (get_or (offsets_of table) j 0)) t (sym there ∙ e))
+          ap (λ (x : Transition). x.trigger) (same_Some (transition_from table (get_or (offsets_of table) j 0)) t (sym there ∙ e))
 
 module _ (table recording : List ℕ) (g : Measures) (sound : SoundUnder g.shape.rule table recording) (measured : Measured (table_parts table) g.shape.rule recording g) where
   abbrev rule : Rule
@@ -126,7 +128,7 @@ module _ (table recording : List ℕ) (g : Measures) (sound : SoundUnder g.shape
   -- the code's step from a number is the definition's
   same_step : (heard : Option ℕ) (n k : ℕ) → n < size (monitor_by g table)
       → step_at table (offsets_of table) g.shape heard n k
-      ≡ map (number (monitor_by g table)) (step_by (monitor_by g table) (capped (monitor_by g table)) heard (situation_of (monitor_by g table) n) (move_of k))
+      ≡ option_map (number (monitor_by g table)) (step_by (monitor_by g table) (capped (monitor_by g table)) heard (situation_of (monitor_by g table) n) (move_of k))
   unfolding arrive_from
   same_step heard n k inside =
       let h : Shape = g.shape in
@@ -134,10 +136,10 @@ module _ (table recording : List ℕ) (g : Measures) (sound : SoundUnder g.shape
       let monitor : ruled_from h table (offsets_of table) ≡ m = ap₂ under within-is (monitor_from_lem table whole_table) in
       let writes : capped_by h ≡ capped m = fun_ext (same-capped fits) in
       let numbers : number_by h ≡ number m = fun_ext (same_number fits) in
-      ap (λ (f : Situation → ℕ). map f (step_by (ruled_from h table (offsets_of table)) (capped_by h) heard (situation_by h n) (move_of k))) numbers
-      ∙ ap (λ (x : Monitor). map (number m) (step_by x (capped_by h) heard (situation_by h n) (move_of k))) monitor
-      ∙ ap (λ (w : List ℕ → List ℕ). map (number m) (step_by m w heard (situation_by h n) (move_of k))) writes
-      ∙ ap (λ (x : Situation). map (number m) (step_by m (capped m) heard x (move_of k))) (same-situations n inside)
+      ap (λ (f : Situation → ℕ). option_map f (step_by (ruled_from h table (offsets_of table)) (capped_by h) heard (situation_by h n) (move_of k))) numbers
+      ∙ ap (λ (x : Monitor). option_map (number m) (step_by x (capped_by h) heard (situation_by h n) (move_of k))) monitor
+      ∙ ap (λ (w : List ℕ → List ℕ). option_map (number m) (step_by m w heard (situation_by h n) (move_of k))) writes
+      ∙ ap (λ (x : Situation). option_map (number m) (step_by m (capped m) heard x (move_of k))) (same-situations n inside)
 
   -- the number of the first situation, by the shape
   first-number : number_by g.shape (first_by (capped_by g.shape)) ≡ first_number (monitor_by g table)

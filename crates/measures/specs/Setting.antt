@@ -1,7 +1,5 @@
 -- What the engine's passes go by: a sound table and recording, and rows of the scratch that hold sets of situations.
-use Rattle.std.specs.Prelude.{ℕ, ◌+◌, ◌*◌, ◌<◌, ◌≤◌, ◌≡◌, List, Bool, false, length, get_or}
-use Rattle.std.proofs.Math.Option.{some}
-use Rattle.std.proofs.Math.ListN.{get_elem?}
+use Rattle.std.specs.Prelude.{ℕ, ◌+◌, ◌*◌, ◌<◌, ◌≤◌, ◌≡◌, List, Bool, false, length, get_or, Some, slice_get}
 use Rattle.model.specs.Size
 use Rattle.model.specs.Bytes.{byte_at}
 use Rattle.model.specs.Monitor.{Monitor, Transition}
@@ -47,4 +45,4 @@ LayersUpTo m recording scratch row t =
 
 -- a transition's offset finds its trigger
 pub record Triggers (table offsets : List ℕ) : Type 0 where
-  pub trigger : (j : ℕ) (t : Transition) → get_elem? (monitor_at table).transitions j ≡ some t → byte_at table (get_or offsets j 0 + 2) ≡ t.trigger
+  pub trigger : (j : ℕ) (t : Transition) → slice_get (monitor_at table).transitions j ≡ Some t → byte_at table (get_or offsets j 0 + 2) ≡ t.trigger

@@ -5,9 +5,15 @@ use native.Mathlib.Decide.{dec_lt, ℕ_discrete}
 use native.Mathlib.Omega.{arith}
 use mathlib.Core.Path.{◌≡◌, refl, sym, ap, subst, ◌∙◌}
 use mathlib.Core.List.{List}
-use mathlib.Core.Option.{Option, none, some}
-use lib.ListN.{length, get_or, set, take, drop, length-set}
-use lib.Seq.{ext_get_or, get_or-set_same, get_or-set_other, get_or-take, get_or-drop}
+use Rattle.std.specs.Prelude.{Option, Some, None}
+use mathlib.Core.Bool.{Bool, true}
+use lib.Dec.{eqb}
+use lib.Pointwise.{pointwise}
+use Rattle.std.proofs.lemmas.Bool.{eqb-true, eq-eqb}
+use Rattle.std.proofs.lemmas.Slice.Eq.{slice_eq-Decides}
+use lib.ListN.{length, get_or, set, take, drop, replicate, length-set, length-replicate}
+use Rattle.std.proofs.lemmas.List.{get_or-replicate}
+use lib.Seq.{ext_get_or, get_or-set_other, get_or-take, get_or-drop}
 use Rattle.model.specs.Monitor.{Monitor}
 use Rattle.images.specs.Advanced.{AdvancedTo, RetreatedTo}
 use Rattle.memo.specs.Known.{tag_of, Stands, Entry, Known, KnownBack}
@@ -15,15 +21,15 @@ use Rattle.memo.specs.Changed.{Changed, Starts}
 
 tag_told : (o p : Option ℕ) → tag_of o ≡ tag_of p → o ≡ p
 unfolding tag_of
-tag_told none none e = refl
-tag_told none (some y) e = absurd (omega arith)
-tag_told (some x) none e = absurd (omega arith)
-tag_told (some x) (some y) e = ap some (omega arith)
+tag_told None None e = refl
+tag_told None (Some y) e = absurd (omega arith)
+tag_told (Some x) None e = absurd (omega arith)
+tag_told (Some x) (Some y) e = ap Some (omega arith)
 
 tag_some : (o : Option ℕ) → 0 < tag_of o
 unfolding tag_of
-tag_some none = omega arith
-tag_some (some x) = omega arith
+tag_some None = omega arith
+tag_some (Some x) = omega arith
 
 -- an entry's words are before the next one's
 pub before_next : (w k l : ℕ) → k < l → w * k + w ≤ w * l
@@ -33,12 +39,15 @@ before_next w k l h = let n : w * (k + 1) ≤ w * l = mul-le-mul_left w (omega a
 held_same : (memo : List ℕ) (place : ℕ) (a b : List ℕ) → length a ≡ length b → Stands memo place a → Stands memo place b → a ≡ b
 held_same memo place a b l x y = ext_get_or 0 a b l (λ i h. sym (x.same i h) ∙ y.same i (omega arith))
 
--- a part that is the words of a set
-pub part_held : (memo : List ℕ) (place : ℕ) (a : List ℕ) → take (place + length a - place) (drop place memo) ≡ a → Stands memo place a
-part_held memo place a e =
+-- a part that is found to be the words of a set
+pub part_held : (memo : List ℕ) (place : ℕ) (a : List ℕ) (found : Bool) → found ≡ pointwise eqb (take (place + length a - place) (drop place memo)) a
+    → found ≡ true → Stands memo place a
+part_held memo place a found told e =
+    let is : take (place + length a - place) (drop place memo) ≡ a =
+    (slice_eq-Decides (λ x y. (eqb-true x y, eq-eqb x y)) (take (place + length a - place) (drop place memo)) a found told).0 e in
     record {
       same = λ i l.
-          sym (get_or-drop place memo i 0) ∙ sym (get_or-take (place + length a - place) (drop place memo) i 0 (omega arith)) ∙ ap (λ (s : List ℕ). get_or s i 0) e;
+          sym (get_or-drop place memo i 0) ∙ sym (get_or-take (place + length a - place) (drop place memo) i 0 (omega arith)) ∙ ap (λ (s : List ℕ). get_or s i 0) is;
     }
 
 -- writes
@@ -92,48 +101,32 @@ module _ (w slot : ℕ) (s t : List ℕ) (x : Changed (w * slot) (w * slot + w) 
         tagged = ap (λ (y : ℕ). get_or s y 0) (sym z) ∙ sym (word_was 0 l) ∙ ap (λ (y : ℕ). get_or t y 0) z ∙ q.tagged;
       }
 
--- a set is written, word by word
-module _ (src : List ℕ) (at k : ℕ) (s t : List ℕ) (l : at + k < length t) where
-  pub put_more : Changed at (at + k) s t → Changed at (at + (k + 1)) s (set t (at + k) (get_or src k 0))
-  put_more x = changed-more (changed_wider x (omega arith) (omega arith)) (changed-set t (at + k) (get_or src k 0)) (omega arith) (omega arith)
+-- an entry of a tag and two sets is begun: with the first, and then the second behind it
+module _ (at n tag : ℕ) (a b s t u : List ℕ) (la : length a ≡ n) (x : Changed at (at + 1 + length a) s t) (e : get_or t at 0 ≡ tag) (ha : Stands t (at + 1) a)
+    (y : Changed (at + 1 + n) (at + 1 + n + length b) t u) (hb : Stands u (at + 1 + n) b) where
+  pub begun_changed : Changed at (at + 1 + length a + length b) s u
+  begun_changed = changed-more (changed_wider x (omega arith) (omega arith)) y (omega arith) (omega arith)
 
-  pub held_more : ((i : ℕ) → i < k → get_or t (at + i) 0 ≡ get_or src i 0)
-      → (i : ℕ) → i < k + 1 → get_or (set t (at + k) (get_or src k 0)) (at + i) 0 ≡ get_or src i 0
-  held_more h i q = by (dec_lt i k)
-    where
-      by : Dec (i < k) → get_or (set t (at + k) (get_or src k 0)) (at + i) 0 ≡ get_or src i 0
-      by (yes d) = get_or-set_other t (at + k) (at + i) (get_or src k 0) 0 (λ e. omega arith) ∙ h i d
-      by (no d) =
-          let e : i ≡ k = omega arith in
-          subst (λ (j : ℕ). get_or (set t (at + k) (get_or src k 0)) (at + j) 0 ≡ get_or src j 0) (sym e) (get_or-set_same t (at + k) (get_or src k 0) 0 l)
+  pub begun_tagged : get_or u at 0 ≡ tag
+  begun_tagged = y.under at (omega arith) ∙ e
 
--- .. and read
-pub got_more : (memo : List ℕ) (at k : ℕ) (t : List ℕ) → k < length t → ((i : ℕ) → i < k → get_or memo (at + i) 0 ≡ get_or t i 0)
-    → (i : ℕ) → i < k + 1 → get_or memo (at + i) 0 ≡ get_or (set t k (get_or memo (at + k) 0)) i 0
-got_more memo at k t l h i q = by (dec_lt i k)
-  where
-    by : Dec (i < k) → get_or memo (at + i) 0 ≡ get_or (set t k (get_or memo (at + k) 0)) i 0
-    by (yes d) = h i d ∙ sym (get_or-set_other t k i (get_or memo (at + k) 0) 0 (λ e. omega arith))
-    by (no d) =
-        let e : i ≡ k = omega arith in
-        subst (λ (j : ℕ). get_or memo (at + j) 0 ≡ get_or (set t k (get_or memo (at + k) 0)) j 0) (sym e) (sym (get_or-set_same t k (get_or memo (at + k) 0) 0 l))
+  pub begun_first : Stands u (at + 1) a
+  begun_first = held_under (at + 1) a y (omega arith) ha
 
-pub clear_more : (k : ℕ) (t : List ℕ) → k < length t → ((i : ℕ) → i < k → get_or t i 0 ≡ 0) → (i : ℕ) → i < k + 1 → get_or (set t k 0) i 0 ≡ 0
-clear_more k t l h i q = by (dec_lt i k)
-  where
-    by : Dec (i < k) → get_or (set t k 0) i 0 ≡ 0
-    by (yes d) = get_or-set_other t k i 0 0 (λ e. omega arith) ∙ h i d
-    by (no d) = let e : i ≡ k = omega arith in subst (λ (j : ℕ). get_or (set t k 0) j 0 ≡ 0) (sym e) (get_or-set_same t k 0 0 l)
+  pub begun_second : Stands u (at + 1 + length a) b
+  begun_second = subst (λ (k : ℕ). Stands u (at + 1 + k) b) (sym la) hb
 
 -- no entry has the tag of anything recorded
 no_entry : (s : List ℕ) → ((i : ℕ) → i < length s → get_or s i 0 ≡ 0) → (w k : ℕ) (o : Option ℕ) → 0 < w → Entry s w k o → ⊥
 no_entry s h w k o p e = omega (arith, h (w * k) (omega (arith, e.fits)), e.tagged, tag_some o)
 
-pub known_none : (m : Monitor) (n : ℕ) (s : List ℕ) → ((i : ℕ) → i < length s → get_or s i 0 ≡ 0) → Known m n s × KnownBack m n s
-known_none m n s h = (
-  record { entries = λ k o a z la lz e ha hz. absurd (no_entry s h (1 + 2 * n) k o (omega arith) e) },
-  record { entries = λ k o a b z la lb lz e ha hb hz. absurd (no_entry s h (1 + 3 * n) k o (omega arith) e) },
-)
+pub known_none : (m : Monitor) (n long : ℕ) (s : List ℕ) → s ≡ replicate long 0 → Known m n s × KnownBack m n s
+known_none m n long s e =
+    let none : (i : ℕ) → i < length s → get_or s i 0 ≡ 0 =
+    (λ i h. ap (λ (x : List ℕ). get_or x i 0) e ∙ get_or-replicate long i 0 0 (omega (arith, ap length e, length-replicate {A = ℕ}))) in (
+      record { entries = λ k o a z la lz e ha hz. absurd (no_entry s none (1 + 2 * n) k o (omega arith) e) },
+      record { entries = λ k o a b z la lb lz e ha hb hz. absurd (no_entry s none (1 + 3 * n) k o (omega arith) e) },
+    )
 
 -- what is worked out is kept
 module _ (m : Monitor) (n slot : ℕ) (o : Option ℕ) (s t a z : List ℕ) (la : length a ≡ n) (lz : length z ≡ n) where

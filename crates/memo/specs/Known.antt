@@ -1,13 +1,12 @@
 -- What a memory holds: entries of w words one behind the other, each a tag, the sets that were given, and the set that an instant made of them.
-use Rattle.std.specs.Prelude.{ℕ, ◌+◌, ◌*◌, ◌≤◌, ◌<◌, ◌≡◌, List, length, get_or}
-use Rattle.std.proofs.Math.Option.{Option, none, some}
+use Rattle.std.specs.Prelude.{ℕ, ◌+◌, ◌*◌, ◌≤◌, ◌<◌, ◌≡◌, List, length, get_or, Option, Some, None}
 use Rattle.model.specs.Monitor.{Monitor}
 use Rattle.images.specs.Advanced.{AdvancedTo, RetreatedTo}
 
 -- what is recorded at an instant, as a number; 0 is the tag of an entry that holds nothing
 unfoldable pub tag_of : Option ℕ → ℕ
-tag_of none = 1
-tag_of (some kind) = kind + 2
+tag_of None = 1
+tag_of (Some kind) = kind + 2
 
 -- the words of s, from a place on
 pub record Stands (memo : List ℕ) (place : ℕ) (s : List ℕ) : Type 0 where

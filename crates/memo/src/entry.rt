@@ -4,28 +4,20 @@ ghost use Rattle.images.specs.Buffers.{Kept};
 ghost use Rattle.memo.specs.Known.{Stands};
 ghost use Rattle.memo.specs.Changed.{Changed};
 
-use words::equal;
-
 pub(crate) fn put(memo: &mut [u64], at: usize, s: &[u64])
     requires { at + length s.now ≤ length memo.old }
     ensures { Changed at (at + length s.now) memo.old memo.new × Stands memo.new at s.now }
 {
-    let mut k = 0;
-    while k < s.len() {
-        memo[at + k] = s[k];
-        k += 1;
-    }
+    let end = at + s.len();
+    memo[at..end].copy_from_slice(s);
 }
 
 pub(crate) fn get(memo: &[u64], at: usize, s: &mut [u64])
     requires { at + length s.old ≤ length memo.now }
     ensures { Kept s.old s.new × Stands memo.now at s.new }
 {
-    let mut k = 0;
-    while k < s.len() {
-        s[k] = memo[at + k];
-        k += 1;
-    }
+    let end = at + s.len();
+    s.copy_from_slice(&memo[at..end]);
 }
 
 pub(crate) fn holds(memo: &[u64], at: usize, s: &[u64]) -> bool
@@ -33,18 +25,15 @@ pub(crate) fn holds(memo: &[u64], at: usize, s: &[u64]) -> bool
     ensures { result ≡ true → Stands memo.now at s.now }
 {
     let end = at + s.len();
-    equal(&memo[at..end], s)
+    &memo[at..end] == s
 }
 
-// Is the entry that of a tag and a set?
+// Is the entry that of a tag, and of a set first?
 pub(crate) fn is_for(memo: &[u64], at: usize, tag: u64, a: &[u64]) -> bool
     requires { at + 1 + length a.now ≤ length memo.now }
     ensures { result ≡ true → (get_or memo.now at 0 ≡ tag) × Stands memo.now (at + 1) a.now }
 {
-    if memo[at] != tag {
-        return false;
-    }
-    holds(memo, at + 1, a)
+    memo[at] == tag && holds(memo, at + 1, a)
 }
 
 // It becomes that.
@@ -54,23 +43,4 @@ pub(crate) fn begin(memo: &mut [u64], at: usize, tag: u64, a: &[u64])
 {
     memo[at] = tag;
     put(memo, at + 1, a);
-}
-
-// .. of a tag and two sets?
-pub(crate) fn is_for_both(memo: &[u64], at: usize, tag: u64, a: &[u64], b: &[u64]) -> bool
-    requires { at + 1 + length a.now + length b.now ≤ length memo.now }
-    ensures { result ≡ true → (get_or memo.now at 0 ≡ tag) × Stands memo.now (at + 1) a.now × Stands memo.now (at + 1 + length a.now) b.now }
-{
-    if is_for(memo, at, tag, a) {
-        return holds(memo, at + 1 + a.len(), b);
-    }
-    false
-}
-
-pub(crate) fn begin_both(memo: &mut [u64], at: usize, tag: u64, a: &[u64], b: &[u64])
-    requires { at + 1 + length a.now + length b.now ≤ length memo.old }
-    ensures { Changed at (at + 1 + length a.now + length b.now) memo.old memo.new × (get_or memo.new at 0 ≡ tag) × Stands memo.new (at + 1) a.now × Stands memo.new (at + 1 + length a.now) b.now }
-{
-    begin(memo, at, tag, a);
-    put(memo, at + 1 + a.len(), b);
 }

@@ -4,19 +4,18 @@ use native.Mathlib.Nat.{not-suc-le-zero}
 use native.Mathlib.Omega.{arith}
 use mathlib.Core.Path.{◌≡◌, refl, sym, ap, ◌∙◌}
 use mathlib.Core.Logic.{◌⊎◌, inl, inr}
-use mathlib.Core.List.{List, [], ◌∷◌, ◌++◌}
+use mathlib.Core.List.{[], ◌∷◌, ◌++◌}
 use mathlib.Core.Bool.{Bool, true, false, cond, ◌&&◌, ◌||◌, false≢true}
-use mathlib.Core.Option.{Option, none, some, none-ne-some}
-use lib.ListN.{length, get_or, get_elem?, length-append, get_or-append, get_or-eq_default}
+use Rattle.std.specs.Prelude.{Option, Some, None, slice_get, Ok, Err}
+use Rattle.std.proofs.lemmas.Option.{none-some, slice_get-get_or, slice_get_past}
+use lib.ListN.{length, get_or, length-append, get_or-append, get_or-eq_default}
 use lib.Seq.{get_or_at}
 use lib.Dec.{leb}
 use borrow.Author.Tests.{le-leb, lt-leb}
 use native.Mathlib.Decide.{dec_lt, dec_le}
 use Rattle.model.specs.Bytes.{tab}
-use Rattle.model.specs.First.{unless, and_then}
+use Rattle.model.specs.First.{unless, and_then, Reading}
 use Rattle.model.specs.declared.Refusal.{Refusal}
-use Rattle.model.specs.declared.Reading.{Reading}
-use Rattle.model.specs.declared.Reading.TheVariants.{Sound, Unsound}
 
 pub and_left : (a b : Bool) → a && b ≡ true → a ≡ true
 and_left true b e = refl
@@ -49,9 +48,9 @@ same_test false true f g = absurd (false≢true (g refl))
 same_test false false f g = refl
 
 -- a test that must pass
-pub cond-some : {A : Type 0} (b : Bool) (x : Option A) (a : A) → cond b x none ≡ some a → (b ≡ true) × (x ≡ some a)
+pub cond-some : {A : Type 0} (b : Bool) (x : Option A) (a : A) → cond b x None ≡ Some a → (b ≡ true) × (x ≡ Some a)
 cond-some true x a e = (refl, e)
-cond-some false x a e = absurd (none-ne-some a e)
+cond-some false x a e = absurd (none-some a e)
 
 -- comparisons that pass together
 pub leb_same : (a b c d : ℕ) → (a ≤ b → c ≤ d) → (c ≤ d → a ≤ b) → leb a b ≡ leb c d
@@ -63,36 +62,17 @@ leb_same a b c d f g = on (dec_le a b) (dec_le c d)
     on (no p) (yes q) = absurd (p (g q))
     on (no p) (no q) = lt-leb a b (omega arith) ∙ sym (lt-leb c d (omega arith))
 
-pub unless-sound : (t : Bool) (r : Refusal) → unless t r ≡ Sound → t ≡ true
+pub unless-sound : (t : Bool) (r : Refusal) → unless t r ≡ Ok tt → t ≡ true
 unless-sound true r e = refl
 unless-sound false r e = cc
 
-pub and_then-left : (a b : Reading) → and_then a b ≡ Sound → a ≡ Sound
-and_then-left Sound b e = refl
-and_then-left (Unsound r) b e = e
+pub and_then-left : (a b : Reading) → and_then a b ≡ Ok tt → a ≡ Ok tt
+and_then-left (Ok _) b e = refl
+and_then-left (Err r) b e = e
 
-pub and_then-right : (a b : Reading) → and_then a b ≡ Sound → b ≡ Sound
-and_then-right Sound b e = e
-and_then-right (Unsound r) b e = cc
-
-module _ {A : Type 0} where
-  pub get_elem_get_or : (l : List A) (i : ℕ) (d : A) → i < length l → get_elem? l i ≡ some (get_or l i d)
-  get_elem_get_or [] i d h = absurd (not-suc-le-zero h)
-  get_elem_get_or (x ∷ l) zero d h = refl
-  get_elem_get_or (x ∷ l) (suc i) d h = get_elem_get_or l i d (omega arith)
-
-  pub get_elem_past : (l : List A) (i : ℕ) → length l ≤ i → get_elem? l i ≡ none
-  get_elem_past [] i h = refl
-  get_elem_past (x ∷ l) zero h = absurd (not-suc-le-zero h)
-  get_elem_past (x ∷ l) (suc i) h = get_elem_past l i (omega arith)
-
-  pub get_elem_within : (l : List A) (i : ℕ) (a : A) → get_elem? l i ≡ some a → i < length l
-  get_elem_within [] i a e = absurd (no-some a e)
-    where
-      no-some : (b : A) → none ≡ some b → ⊥
-      no-some b q = let z : ◌≡◌ {A = ℕ} 0 1 = cc in omega arith
-  get_elem_within (x ∷ l) zero a e = omega arith
-  get_elem_within (x ∷ l) (suc i) a e = let h : i < length l = get_elem_within l i a e in omega arith
+pub and_then-right : (a b : Reading) → and_then a b ≡ Ok tt → b ≡ Ok tt
+and_then-right (Ok _) b e = e
+and_then-right (Err r) b e = cc
 
 module _ {A : Type 0} (f : ℕ → A) where
   pub length-tab : (n : ℕ) → length (tab f n) ≡ n
@@ -114,8 +94,8 @@ module _ {A : Type 0} (f : ℕ → A) where
   pub get_or_tab_past : (d : A) (n i : ℕ) → n ≤ i → get_or (tab f n) i d ≡ d
   get_or_tab_past d n i h = get_or-eq_default (tab f n) d (omega (arith, length-tab n))
 
-  pub get_elem_tab : (n i : ℕ) → i < n → get_elem? (tab f n) i ≡ some (f i)
-  get_elem_tab n i h = get_elem_get_or (tab f n) i (f i) (omega (arith, length-tab n)) ∙ ap {B = Option A} some (get_or-tab (f i) n i h)
+  pub get_elem_tab : (n i : ℕ) → i < n → slice_get (tab f n) i ≡ Some (f i)
+  get_elem_tab n i h = slice_get-get_or (tab f n) i (f i) (omega (arith, length-tab n)) ∙ ap {B = Option A} Some (get_or-tab (f i) n i h)
 
-  pub get_elem_tab_past : (n i : ℕ) → n ≤ i → get_elem? (tab f n) i ≡ none
-  get_elem_tab_past n i h = get_elem_past (tab f n) i (omega (arith, length-tab n))
+  pub get_elem_tab_past : (n i : ℕ) → n ≤ i → slice_get (tab f n) i ≡ None
+  get_elem_tab_past n i h = slice_get_past (tab f n) i (omega (arith, length-tab n))

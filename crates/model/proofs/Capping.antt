@@ -6,9 +6,10 @@ use mathlib.Core.Path.{◌≡◌, refl, sym, ap, ap₂, subst, ◌∙◌}
 use mathlib.Core.List.{List, [], ◌∷◌, map}
 use mathlib.Core.Bool.{Bool, true, false, cond, not, ◌&&◌}
 use mathlib.Core.Logic.{◌↔◌}
-use mathlib.Core.Option
-use mathlib.Core.Option.{Option, none, some, bind, map-eq-some_iff}
-use lib.ListN.{get_or, get_elem?}
+use Rattle.std.specs.Prelude.{Option, Some, None, slice_get}
+use Rattle.std.specs.Option.{option_map, option_and_then}
+use Rattle.model.proofs.Options.{map-eq-some_iff}
+use lib.ListN.{get_or}
 use lib.Dec.{eqb}
 use borrow.Author.Tests.{lt-ltb, eq-eqb}
 use Rattle.model.specs.Guard.{Guard, always, at_most, at_least, variable, negation, conjunction, holds, largest}
@@ -56,7 +57,7 @@ module _ (m : Monitor) (two : m.clocks ≤ 2) where
       ap₂ ◌&&◌ (same-guard g v c k.0 (λ i. omega (arith, b i))) (same-guard h v c k.1 (λ i. omega (arith, b i)))
 
 -- M is at least each T of a listed transition
-pub largest-listed : (ts : List Transition) (j : ℕ) (t : Transition) → get_elem? ts j ≡ some t → (i : ℕ) → largest i t.guard ≤ largest_in i ts
+pub largest-listed : (ts : List Transition) (j : ℕ) (t : Transition) → slice_get ts j ≡ Some t → (i : ℕ) → largest i t.guard ≤ largest_in i ts
 unfolding largest_in
 largest-listed [] j t e i = let z : ◌≡◌ {A = ℕ} 0 1 = cc in omega arith
 largest-listed (u ∷ ts) zero t e i = let q : u ≡ t = cc in rw (← q) (omega arith)
@@ -110,81 +111,80 @@ module _ (m : Monitor) where
 
   -- two outcomes of a move that are written alike after the tick
   abbrev Alike : Option Situation → Option Situation → Type 0
-  Alike o r = Option.map (tick (capped m)) o ≡ Option.map (written m) (Option.map (tick uncapped) r)
+  Alike o r = option_map (tick (capped m)) o ≡ option_map (written m) (option_map (tick uncapped) r)
 
-  alike-cond : (t : Bool) (o r : Option Situation) → Alike o r → Alike (cond t o none) (cond t r none)
+  alike-cond : (t : Bool) (o r : Option Situation) → Alike o r → Alike (cond t o None) (cond t r None)
   alike-cond true o r h = h
   alike-cond false o r h = refl
 
-  alike_bind : {A : Type 0} (a : Option A) (f g : A → Option Situation) → ((x : A) → Alike (f x) (g x)) → Alike (bind a f) (bind a g)
-  unfolding bind
-  alike_bind none f g h = refl
-  alike_bind (some x) f g h = h x
+  alike_bind : {A : Type 0} (a : Option A) (f g : A → Option Situation) → ((x : A) → Alike (f x) (g x)) → Alike (option_and_then f a) (option_and_then g a)
+  alike_bind None f g h = refl
+  alike_bind (Some x) f g h = h x
 
 module _ {m : Monitor} (sane : Sane m) (s : Situation) (two : TwoClocks s.clocks) where
   -- two outcomes of a transition that are written alike after the tick, whatever the window is then
   abbrev AlikeSent : (k window : ℕ) → (o r : Option Config) → Type 0
-  AlikeSent k window o r = Alike m (Option.map (sending m k window) o) (Option.map (sending m k window) r)
+  AlikeSent k window o r = Alike m (option_map (sending m k window) o) (option_map (sending m k window) r)
 
-  alike-fired : (window j k : ℕ) (t : Transition) → get_elem? m.transitions j ≡ some t → AlikeSent k window (outcome m k (config_of (written m s)) t) (outcome m k (config_of s) t)
+  alike-fired : (window j k : ℕ) (t : Transition) → slice_get m.transitions j ≡ Some t → AlikeSent k window (outcome m k (config_of (written m s)) t) (outcome m k (config_of s) t)
   alike-fired window j k t e =
       rw (same-guard m sane.clocks t.guard s.variables s.clocks (sane.transition j t e).closed (largest-listed m.transitions j t e)) (on (enabled t k (config_of s)))
     where
-      on : (fits : Bool) → AlikeSent k window (cond fits (some (after m t (config_of (written m s)))) none) (cond fits (some (after m t (config_of s))) none)
+      on : (fits : Bool) → AlikeSent k window (cond fits (Some (after m t (config_of (written m s)))) None) (cond fits (Some (after m t (config_of s))) None)
       on true =
           let u : Situation = tick uncapped (sending m k window (after m t (config_of s))) in
-          ap {B = Option Situation} (λ (c : List ℕ). some (record { state = u.state; variables = u.variables; clocks = c; air = u.air; window = u.window })) (reset-ticked m t.resets s.clocks two)
+          ap {B = Option Situation} (λ (c : List ℕ). Some (record { state = u.state; variables = u.variables; clocks = c; air = u.air; window = u.window })) (reset-ticked m t.resets s.clocks two)
       on false = refl
 
   alike-air : (k window : ℕ) (o r : Option Config) → AlikeSent k window o r → Alike m (on_air m k (written m s) window o) (on_air m k s window r)
-  alike-air k window o r = alike-cond m (eqb s.air 0) (Option.map (sending m k window) o) (Option.map (sending m k window) r)
+  alike-air k window o r = alike-cond m (eqb s.air 0) (option_map (sending m k window) o) (option_map (sending m k window) r)
 
   alike-sent : (guess : Bool) (j k : ℕ) → Alike m (sent m guess j k (written m s)) (sent m guess j k s)
-  unfolding sent within_rule fires bind
+  unfolding sent within_rule fires
   alike-sent guess j k =
       alike-air k window (within_rule m s.window guess (fires m j k (config_of (written m s)))) (within_rule m s.window guess (fires m j k (config_of s)))
-      (within (allows m.rule s.window guess) (fires m j k (config_of (written m s))) (fires m j k (config_of s)) (on (get_elem? m.transitions j) (alike-fired window j k)))
+      (within (allows m.rule s.window guess) (fires m j k (config_of (written m s))) (fires m j k (config_of s)) (on (slice_get m.transitions j) (alike-fired window j k)))
     where
       window : ℕ
       window = window_behind m.rule s.window guess
 
-      on : (o : Option Transition) → ((t : Transition) → o ≡ some t → AlikeSent k window (outcome m k (config_of (written m s)) t) (outcome m k (config_of s) t))
-          → AlikeSent k window (bind o (outcome m k (config_of (written m s)))) (bind o (outcome m k (config_of s)))
-      on none h = refl
-      on (some t) h = h t refl
+      on : (o : Option Transition) → ((t : Transition) → o ≡ Some t → AlikeSent k window (outcome m k (config_of (written m s)) t) (outcome m k (config_of s) t))
+          → AlikeSent k window (option_and_then (outcome m k (config_of (written m s))) o) (option_and_then (outcome m k (config_of s)) o)
+      on None h = refl
+      on (Some t) h = h t refl
 
-      within : (allowed : Bool) (o r : Option Config) → AlikeSent k window o r → AlikeSent k window (cond allowed o none) (cond allowed r none)
+      within : (allowed : Bool) (o r : Option Config) → AlikeSent k window o r → AlikeSent k window (cond allowed o None) (cond allowed r None)
       within true o r h = h
       within false o r h = refl
 
   -- the tick alone, whatever it leaves of the air
-  alike-rest : (air : ℕ) → Alike m (some (with_air (config_of (written m s)) air s.window)) (some (with_air (config_of s) air s.window))
+  alike-rest : (air : ℕ) → Alike m (Some (with_air (config_of (written m s)) air s.window)) (Some (with_air (config_of s) air s.window))
   alike-rest air =
-      ap {B = Option Situation} (λ (c : List ℕ). some (record { state = s.state; variables = s.variables; clocks = c; air = air - 1; window = s.window }))
+      ap {B = Option Situation} (λ (c : List ℕ). Some (record { state = s.state; variables = s.variables; clocks = c; air = air - 1; window = s.window }))
       (ticked m s.clocks two)
 
   alike-missed : (k : ℕ) → Alike m (missed m k (written m s)) (missed m k s)
   unfolding missed
-  alike-missed k = alike-air k s.window (cond (to_unit m k) (some (config_of (written m s))) none) (cond (to_unit m k) (some (config_of s)) none) (on (to_unit m k))
+  alike-missed k = alike-air k s.window (cond (to_unit m k) (Some (config_of (written m s))) None) (cond (to_unit m k) (Some (config_of s)) None) (on (to_unit m k))
     where
-      on : (b : Bool) → AlikeSent k s.window (cond b (some (config_of (written m s))) none) (cond b (some (config_of s)) none)
+      on : (b : Bool) → AlikeSent k s.window (cond b (Some (config_of (written m s))) None) (cond b (Some (config_of s)) None)
       on true = alike-rest (airtime m k + 1)
       on false = refl
 
   alike_moved : (recorded : Option ℕ) (a : Move) → Alike m (moved m recorded (written m s) a) (moved m recorded s a)
   unfolding moved
-  alike_moved none (keep j) = refl
-  alike_moved none rest = alike-rest s.air
-  alike_moved none (add j) = alike_bind m (trigger_of m j) (λ k. sent m (is_guess m k) j k (written m s)) (λ k. sent m (is_guess m k) j k s) (λ k. alike-sent (is_guess m k) j k)
-  alike_moved (some r) (keep j) = alike-sent false j r
-  alike_moved (some r) rest = alike-missed r
-  alike_moved (some r) (add j) = refl
+  alike_moved None (keep j) = refl
+  alike_moved None rest = alike-rest s.air
+  alike_moved None (add j) = alike_bind m (trigger_of m j) (λ k. sent m (is_guess m k) j k (written m s)) (λ k. sent m (is_guess m k) j k s) (λ k. alike-sent (is_guess m k) j k)
+  alike_moved (Some r) (keep j) = alike-sent false j r
+  alike_moved (Some r) rest = alike-missed r
+  alike_moved (Some r) (add j) = refl
 
-  pub capped-step : (recorded : Option ℕ) (a : Move) → step_by m (capped m) recorded (written m s) a ≡ Option.map (written m) (step_by m uncapped recorded s a)
+  pub capped-step : (recorded : Option ℕ) (a : Move) → step_by m (capped m) recorded (written m s) a ≡ option_map (written m) (step_by m uncapped recorded s a)
   unfolding step_by
   capped-step = alike_moved
 
-  pub step_two_clocks : (recorded : Option ℕ) (a : Move) {x : Situation} → step_by m uncapped recorded s a ≡ some x → TwoClocks x.clocks
+  pub step_two_clocks : (recorded : Option ℕ) (a : Move) {x : Situation} → step_by m uncapped recorded s a ≡ Some x → TwoClocks x.clocks
   unfolding reset
   step_two_clocks recorded a e =
       every_step m uncapped s (λ x. TwoClocks x.clocks)
@@ -197,9 +197,9 @@ module _ {m : Monitor} (sane : Sane m) (s : Situation) (two : TwoClocks s.clocks
 
 -- lists of moves: the general form starts at any instant, from the number of a situation with real clocks
 
-map-map : {A B C : Type 0} (f : A → B) (g : B → C) (o : Option A) → Option.map g (Option.map f o) ≡ Option.map (λ a. g (f a)) o
-map-map f g none = refl
-map-map f g (some a) = refl
+map-map : {A B C : Type 0} (f : A → B) (g : B → C) (o : Option A) → option_map g (option_map f o) ≡ option_map (λ a. g (f a)) o
+map-map f g None = refl
+map-map f g (Some a) = refl
 
 -- the number at which a situation with real clocks is written
 abbrev pub number_of : Monitor → Situation → ℕ
@@ -207,17 +207,17 @@ number_of m s = number m (written m s)
 
 module _ {m : Monitor} (sane : Sane m) (recording : List Packet) where
   -- the step on numbers is the step with real clocks
-  pub same_step : (t k : ℕ) (s : Situation) → TwoClocks s.clocks → InRange m (written m s) → step_number m recording t (number_of m s) k ≡ Option.map (number_of m) (step_by m uncapped (recorded_at recording t) s (move_of k))
+  pub same_step : (t k : ℕ) (s : Situation) → TwoClocks s.clocks → InRange m (written m s) → step_number m recording t (number_of m s) k ≡ option_map (number_of m) (step_by m uncapped (recorded_at recording t) s (move_of k))
   unfolding step_number
   same_step t k s two r =
-      ap (λ (u : Situation). Option.map (number m) (step_by m (capped m) (recorded_at recording t) u (move_of k))) (back r)
-      ∙ ap (Option.map (number m)) (capped-step sane s two (recorded_at recording t) (move_of k))
+      ap (λ (u : Situation). option_map (number m) (step_by m (capped m) (recorded_at recording t) u (move_of k))) (back r)
+      ∙ ap (option_map (number m)) (capped-step sane s two (recorded_at recording t) (move_of k))
       ∙ map-map (written m) (number m) (step_by m uncapped (recorded_at recording t) s (move_of k))
 
   -- and what it leads to is in range when written
-  pub step-written : (t k : ℕ) (s x : Situation) → TwoClocks s.clocks → InRange m (written m s) → step_by m uncapped (recorded_at recording t) s (move_of k) ≡ some x → InRange m (written m x)
+  pub step-written : (t k : ℕ) (s x : Situation) → TwoClocks s.clocks → InRange m (written m s) → step_by m uncapped (recorded_at recording t) s (move_of k) ≡ Some x → InRange m (written m x)
   step-written t k s x two r e =
-      step_in_range sane (recorded_at recording t) (move_of k) r (capped-step sane s two (recorded_at recording t) (move_of k) ∙ ap (Option.map (written m)) e)
+      step_in_range sane (recorded_at recording t) (move_of k) r (capped-step sane s two (recorded_at recording t) (move_of k) ∙ ap (option_map (written m)) e)
 
   pub on_numbers : (ks : List ℕ) (t : ℕ) (s z : Situation) → TwoClocks s.clocks → InRange m (written m s) → Moves m recording t s ks z → Leads (size m) move_limit (step_number m recording) t (number_of m s) ks (number_of m z)
   on_numbers [] t s z two r e = ap (number_of m) e
@@ -225,7 +225,7 @@ module _ {m : Monitor} (sane : Sane m) (recording : List Packet) where
       let q : InRange m (written m x) = step-written (suc t) k s x two r e in (
         number_of m x,
         few,
-        same_step (suc t) k s two r ∙ ap (Option.map (number_of m)) e,
+        same_step (suc t) k s two r ∙ ap (option_map (number_of m)) e,
         number-below q,
         on_numbers ks (suc t) x z (step_two_clocks sane s two _ _ e) q more,
       )

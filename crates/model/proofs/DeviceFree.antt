@@ -4,7 +4,8 @@ use Prim.Native.Nat.{ℕ, suc, ◌-◌, ◌≤◌}
 use mathlib.Core.Path.{◌≡◌, refl, sym, ap, ap₂, fun_ext, ◌∙◌}
 use mathlib.Core.List.{List, [], ◌∷◌, ◌++◌}
 use mathlib.Core.Bool.{Bool, true, false}
-use mathlib.Core.Option.{Option, none, some, map, bind}
+use Rattle.std.specs.Prelude.{Option, Some, None}
+use Rattle.std.specs.Option.{option_map, option_and_then}
 use lib.ListN.{length}
 use lib.Dec.{ltb}
 use Rattle.model.specs.Monitor.{Monitor, wait, fires, tried, is_guess, within_rule}
@@ -18,9 +19,8 @@ use Rattle.model.specs.declared.Readiness.{Readiness}
 use Rattle.model.specs.declared.Readiness.TheVariants.{NotYet, NoMore}
 use Rattle.model.specs.declared.Situation.{Situation}
 use Rattle.model.specs.declared.Verdict.{Verdict}
-use Rattle.model.specs.declared.Verdict.TheVariants.{Accepted, Rejected, Exhausted, Refused}
-use Rattle.model.specs.declared.Reading.{Reading}
-use Rattle.model.specs.declared.Reading.TheVariants.{Sound, Unsound}
+use Rattle.model.specs.declared.Verdict.TheVariants.{Accepted, Rejected, Exhausted}
+use Rattle.model.specs.First.{Reading, read_as}
 use Rattle.model.specs.Witness.{Row, rows_at}
 use Rattle.model.specs.Rules.{Progress, begin, others, behind_row, guessed, sends, removes, keeps, adds, account, broken, check_refusal}
 use Rattle.model.specs.Validation.{rows_by, rows_of, moves_of, preferred, pairs_at, verdict, refusal_of, validation_of, scratch_left, room_left}
@@ -48,7 +48,7 @@ module _ (m : Monitor) (one : m.rule.window ≡ 1) (any : 1 ≤ m.rule.most) whe
   sent_plain guess j k s = rw (allows-all m.rule s.window guess one any, behind_one m.rule s.window guess one)
 
   sends_plain : (p : Progress) (r : Row) (left : List Packet)
-      → sends m p r left ≡ map (behind_row m r left r.time 0) (fires m r.transition r.kind (wait (r.time - p.now) p.config))
+      → sends m p r left ≡ option_map (behind_row m r left r.time 0) (fires m r.transition r.kind (wait (r.time - p.now) p.config))
   unfolding sends within_rule
   sends_plain p r left = rw (allows-all m.rule p.window (guessed m r) one any, behind_one m.rule p.window (guessed m r) one)
 
@@ -67,18 +67,18 @@ module _ (devices : List ℕ) (d : ℕ) (m : Monitor) (one : m.rule.window ≡ 1
 
   same-moved : (recorded : Option ℕ) (s : Situation) (a : Move) → moved other recorded s a ≡ moved m recorded s a
   unfolding moved missed
-  same-moved none s (keep j) = refl
-  same-moved none s rest = refl
-  same-moved none s (add j) = ap (bind (trigger_of m j)) (fun_ext (λ k. same_sent (is_guess other k) (is_guess m k) j k s))
-  same-moved (some k) s (keep j) = same_sent false false j k s
-  same-moved (some k) s rest = refl
-  same-moved (some k) s (add j) = refl
+  same-moved None s (keep j) = refl
+  same-moved None s rest = refl
+  same-moved None s (add j) = ap (λ (f : ℕ → Option Situation). option_and_then f (trigger_of m j)) (fun_ext (λ k. same_sent (is_guess other k) (is_guess m k) j k s))
+  same-moved (Some k) s (keep j) = same_sent false false j k s
+  same-moved (Some k) s rest = refl
+  same-moved (Some k) s (add j) = refl
 
   same_step : (recording : List Packet) → step_number other recording ≡ step_number m recording
   unfolding step_number step_by number situation_of cap capped
   same_step recording =
       fun_ext (λ t. fun_ext (λ n. fun_ext (λ k.
-      ap (λ (o : Option Situation). map (number m) (map (tick (capped m)) o)) (same-moved (recorded_at recording t) (situation_of m n) (move_of k)))))
+      ap (λ (o : Option Situation). option_map (number m) (option_map (tick (capped m)) o)) (same-moved (recorded_at recording t) (situation_of m n) (move_of k)))))
 
   same_row : (recorded : Option ℕ) (t : ℕ) (a : Move) → rows_by other recorded t a ≡ rows_by m recorded t a
   unfolding rows_by
@@ -128,14 +128,14 @@ module _ (devices : List ℕ) (d : ℕ) (m : Monitor) (one : m.rule.window ≡ 1
   unfolding broken
   same-broken edition p i [] = refl
   same-broken edition p i (r ∷ rs) =
-      ap (λ (o : Option Progress). elim o [ none ↦ some i | some q ↦ broken edition other q (suc i) rs ]) (same-account edition p r)
+      ap (λ (o : Option Progress). elim o [ None ↦ Some i | Some q ↦ broken edition other q (suc i) rs ]) (same-account edition p r)
       ∙ go (account edition m p r) (λ q. same-broken edition q (suc i) rs)
     where
       go :
           (o : Option Progress) → ((q : Progress) → broken edition other q (suc i) rs ≡ broken edition m q (suc i) rs)
-          → ◌≡◌ {A = Option ℕ} (elim o [ none ↦ some i | some q ↦ broken edition other q (suc i) rs ]) (elim o [ none ↦ some i | some q ↦ broken edition m q (suc i) rs ])
-      go none again = refl
-      go (some q) again = again q
+          → ◌≡◌ {A = Option ℕ} (elim o [ None ↦ Some i | Some q ↦ broken edition other q (suc i) rs ]) (elim o [ None ↦ Some i | Some q ↦ broken edition m q (suc i) rs ])
+      go None again = refl
+      go (Some q) again = again q
 
   -- so what is answered for any bytes is the same
 
@@ -148,10 +148,7 @@ module _ (devices : List ℕ) (d : ℕ) (m : Monitor) (one : m.rule.window ≡ 1
       → validation_of given edition other recording budget scratch_length room_length ≡ validation_of given edition m recording budget scratch_length room_length
   unfolding validation_of
   same-validation given edition recording budget scratch_length room_length =
-      ap₂ by (same-refusal given edition recording scratch_length room_length) (same-verdict recording budget)
-    where
-      by : Reading → Verdict → Verdict
-      by x v = elim x [ Sound ↦ v | Unsound r ↦ Refused r ]
+      ap₂ read_as (same-refusal given edition recording scratch_length room_length) (same-verdict recording budget)
 
   pub same-scratch : (given : Reading) (edition : Edition) (recording : List Packet) (budget : ℕ) (scratch room : List ℕ)
       → scratch_left given edition other recording budget scratch room ≡ scratch_left given edition m recording budget scratch room

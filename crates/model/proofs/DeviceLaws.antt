@@ -12,7 +12,7 @@ use lib.Dec.{leb, eqb}
 use borrow.Author.Tests.{leb-true, le-leb, lt-leb, eqb-true, eq-eqb}
 use Rattle.model.specs.Limits.{table_versions, airtime_limit, device_limit, kind_limit, transition_limit, guard_limit}
 use Rattle.model.specs.Bytes.{byte_at, word_at}
-use Rattle.model.specs.First.{first_of}
+use Rattle.model.specs.First.{first_of, Reading}
 use Rattle.model.specs.Frame.{is_version, framed}
 use Rattle.model.specs.Room.{write}
 use Rattle.model.specs.Numbers.{refusal_values, reading_values, writing_values}
@@ -21,8 +21,7 @@ use Rattle.model.specs.Devices.{Suits, SoundDevices, SoundBefore, JudgesDevices}
 use Rattle.model.specs.Table.{kinds_at, kind_column, device_column, table_parts, table_bytes, kind_records, scan_with, answer_with, table_answer, table_writable, write_table, SoundTable}
 use Rattle.model.specs.Same.{SameTable}
 use Rattle.model.specs.declared.TableParts.{TableParts}
-use Rattle.model.specs.declared.Reading.TheVariants.{Sound, Unsound}
-use Rattle.model.specs.declared.Reading.{Reading}
+use Rattle.std.specs.Prelude.{Ok, Err}
 use Rattle.model.specs.declared.Refusal.{Refusal}
 use Rattle.model.specs.declared.Refusal.TheVariants.{TableVersion, TableField}
 use Rattle.model.proofs.Basics.{and_left, and_right}
@@ -78,7 +77,7 @@ read_devices b s =
     let facts : TableFacts (device_column b) b = table_facts b s in
     devices_by (table_parts b) facts.head.numbered facts.head.known (λ i h. rw (direction_of b i h) (facts.kind i h).sender)
 
-written-devices : (t : TableParts) → length t.guards ≡ guard_limit * transition_limit → scan_with t.devices (table_bytes t) ≡ Sound → SoundDevices t
+written-devices : (t : TableParts) → length t.guards ≡ guard_limit * transition_limit → scan_with t.devices (table_bytes t) ≡ Ok tt → SoundDevices t
 unfolding table_parts
 written-devices t full s =
     let b : List ℕ = table_bytes t in
@@ -92,7 +91,7 @@ written-devices t full s =
     ap₂ (λ (v d : ℕ). device_fits v d (byte_at t.devices i)) (sym version) (sym direction) ∙ (facts.kind i within).sender)
 
 -- a record that is there, of a kind whose device does not suit it, is 14 at its offset
-bad_device : (b : List ℕ) (at device : ℕ) → at + kind_width (version_at b) ≤ length b → (Suits (version_at b) (byte_at b at) device → ⊥) → kind_record b at device ≡ Unsound (TableField at)
+bad_device : (b : List ℕ) (at device : ℕ) → at + kind_width (version_at b) ≤ length b → (Suits (version_at b) (byte_at b at) device → ⊥) → kind_record b at device ≡ Err (TableField at)
 unfolding kind_record
 bad_device b at device there bad =
     let fits : Bool = device_fits (version_at b) (byte_at b at) device in
@@ -100,7 +99,7 @@ bad_device b at device there bad =
   where
     go :
         (direction airtime fits : Bool) → (fits ≡ true → ⊥)
-        → first_of (tests ((direction, TableField at) ∷ (airtime, TableField at) ∷ (fits, TableField at) ∷ [])) ≡ Unsound (TableField at)
+        → first_of (tests ((direction, TableField at) ∷ (airtime, TableField at) ∷ (fits, TableField at) ∷ [])) ≡ Err (TableField at)
     go true true true h = absurd (h refl)
     go true true false h = refl
     go true false fits h = refl
@@ -108,11 +107,11 @@ bad_device b at device there bad =
 
 first-device :
     (devices b : List ℕ) (i : ℕ) → i < kinds_at b → SoundBefore devices b i → kind_at (version_at b) (suc i) ≤ length b
-    → (Suits (version_at b) (byte_at b (kind_at (version_at b) i)) (byte_at devices i) → ⊥) → answer_with devices b ≡ Unsound (TableField (kind_at (version_at b) i))
+    → (Suits (version_at b) (byte_at b (kind_at (version_at b) i)) (byte_at devices i) → ⊥) → answer_with devices b ≡ Err (TableField (kind_at (version_at b) i))
 unfolding answer_with scan_with kind_records
 first-device devices b i within before there bad =
     let at : ℕ → ℕ = λ k. kind_at (version_at b) k in
-    let record_is : kind_record b (at i) (byte_at devices i) ≡ Unsound (TableField (at i)) = bad_device b (at i) (byte_at devices i) (omega (arith, kind_next (version_at b) i)) bad in
+    let record_is : kind_record b (at i) (byte_at devices i) ≡ Err (TableField (at i)) = bad_device b (at i) (byte_at devices i) (omega (arith, kind_next (version_at b) i)) bad in
     let kinds = first-refused (λ k. kind_record b (at k) (byte_at devices k)) (kinds_at b) i (TableField (at i)) within before.2 record_is in
     rw (before.0, before.1, kinds)
 
@@ -125,17 +124,17 @@ not_version (suc (suc (suc v))) one two = rw (le-leb 1 (suc (suc (suc v))) (omeg
 -- parts and bytes of one table
 module _ (t : TableParts) (b : List ℕ) (version : version_at b ≡ t.version) (kinds : kinds_at b ≡ t.kinds)
     (direction : (i : ℕ) → i < t.kinds → byte_at b (kind_at (version_at b) i) ≡ byte_at t.directions i) where
-  refuses_version : 8 ≤ length b → word_at b 0 + 2 ≡ length b → (t.version ≡ 1 → ⊥) → (t.version ≡ 2 → ⊥) → answer_with t.devices b ≡ Unsound TableVersion
+  refuses_version : 8 ≤ length b → word_at b 0 + 2 ≡ length b → (t.version ≡ 1 → ⊥) → (t.version ≡ 2 → ⊥) → answer_with t.devices b ≡ Err TableVersion
   unfolding answer_with scan_with framed
   refuses_version least fits one two =
       rw (le-leb 8 (length b) least, eq-eqb (word_at b 0 + 2) (length b) fits, not_version (version_at b) (λ e. one (sym version ∙ e)) (λ e. two (sym version ∙ e)))
 
   refuses_device :
       (i : ℕ) → i < t.kinds → SoundBefore t.devices b i → kind_at t.version (suc i) ≤ length b
-      → (Suits t.version (byte_at t.directions i) (byte_at t.devices i) → ⊥) → answer_with t.devices b ≡ Unsound (TableField (kind_at t.version i))
+      → (Suits t.version (byte_at t.directions i) (byte_at t.devices i) → ⊥) → answer_with t.devices b ≡ Err (TableField (kind_at t.version i))
   refuses_device i h before there bad =
       first-device t.devices b i (rw kinds h) before (subst (λ (v : ℕ). kind_at v (suc i) ≤ length b) (sym version) there) (λ s. bad (moved s))
-      ∙ ap (λ (v : ℕ). Unsound (TableField (kind_at v i))) version
+      ∙ ap (λ (v : ℕ). Err (TableField (kind_at v i))) version
     where
       moved : Suits (version_at b) (byte_at b (kind_at (version_at b) i)) (byte_at t.devices i) → Suits t.version (byte_at t.directions i) (byte_at t.devices i)
       moved s =
@@ -158,7 +157,7 @@ written-judged t full room =
     let b : List ℕ = table_bytes t in
     let version : version_at b ≡ t.version = written-counts t 0 (omega arith) in
     let kinds : kinds_at b ≡ t.kinds = written-counts t 4 (omega arith) in
-    let refusal : (r : Refusal) → table_writable t ≡ Unsound r → writing_values (write (table_writable t) b room).answer ≡ refusal_values r =
+    let refusal : (r : Refusal) → table_writable t ≡ Err r → writing_values (write (table_writable t) b room).answer ≡ refusal_values r =
     λ r e. ap (λ (a : Reading). writing_values (write a b room).answer) e in
     record {
       sound = λ n v.

@@ -2,7 +2,7 @@
 use mathlib.Core.Path.{◌≡◌, refl}
 use mathlib.Core.List.{[], ◌∷◌, map}
 use mathlib.Core.Bool.{true, false}
-use mathlib.Core.Option.{none, some, bind}
+use Rattle.std.specs.Prelude.{Some, None}
 use lib.Dec.{leb}
 use Rattle.model.specs.Guard.{always, holds}
 use Rattle.model.specs.Readiness.{readiness}
@@ -41,6 +41,6 @@ unfolding move_of
 move_order = refl
 
 -- a transition answers to its own kind alone (document 02, R-10)
-pub own_kind : (tried one_kind 0 0 start ≡ some Yes) × (tried one_kind 0 1 start ≡ none)
-unfolding tried readiness holds bind
+pub own_kind : (tried one_kind 0 0 start ≡ Some Yes) × (tried one_kind 0 1 start ≡ None)
+unfolding tried readiness holds
 own_kind = (refl, refl)

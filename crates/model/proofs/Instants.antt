@@ -4,8 +4,9 @@ use native.Mathlib.Omega.{arith}
 use mathlib.Core.Path.{◌≡◌, refl, ap, ◌∙◌}
 use mathlib.Core.List.{List, ◌∷◌}
 use mathlib.Core.Bool.{cond, ◌&&◌}
-use mathlib.Core.Option.{Option, none, some, map, bind, none-ne-some}
-use lib.ListN.{get_elem?}
+use Rattle.std.specs.Prelude.{Option, Some, None, slice_get}
+use Rattle.std.specs.Option.{option_map, option_and_then}
+use Rattle.std.proofs.lemmas.Option.{none-some, slice_get_within}
 use lib.Dec.{eqb}
 use borrow.Author.Tests.{eqb-true, lt-ltb, le-ltb, eq-eqb, ne_eqb}
 use Rattle.model.specs.Limits.{transition_limit}
@@ -14,7 +15,7 @@ use Rattle.model.specs.Monitor.{Monitor, Config, Transition, after, enabled, fir
 use Rattle.model.specs.Trace.{Packet}
 use Rattle.model.specs.Situation.{keep, rest, add, trigger_of, recorded_at, rest_move, first_add, move_of}
 use Rattle.model.specs.Sane.{Sane}
-use Rattle.model.proofs.Basics.{and_left, and_right, cond-some, get_elem_within}
+use Rattle.model.proofs.Basics.{and_left, and_right, cond-some}
 
 -- moves as numbers
 
@@ -41,7 +42,7 @@ move_add k h = let at : k ≡ first_add + (k - first_add) = omega arith in ap mo
 
 -- what is recorded at an instant
 
-pub recorded_here : (q : Packet) (r : List Packet) (t : ℕ) → q.time ≡ t → recorded_at (q ∷ r) t ≡ some q.kind
+pub recorded_here : (q : Packet) (r : List Packet) (t : ℕ) → q.time ≡ t → recorded_at (q ∷ r) t ≡ Some q.kind
 unfolding recorded_at
 recorded_here q r t e = rw (eq-eqb q.time t e, recorded_at)
 
@@ -51,20 +52,20 @@ recorded_later q r t e = rw (ne_eqb q.time t e, recorded_at)
 
 -- a transition fires on its trigger, and is one of the table's
 
-pub fires-trigger : (m : Monitor) (j k : ℕ) (c d : Config) → fires m j k c ≡ some d → trigger_of m j ≡ some k
-unfolding fires bind
-fires-trigger m j k c d e = go (get_elem? m.transitions j) e
+pub fires-trigger : (m : Monitor) (j k : ℕ) (c d : Config) → fires m j k c ≡ Some d → trigger_of m j ≡ Some k
+unfolding fires
+fires-trigger m j k c d e = go (slice_get m.transitions j) e
   where
-    go : (o : Option Transition) → bind o (λ t. cond (enabled t k c) (some (after m t c)) none) ≡ some d → map (λ t. t.trigger) o ≡ some k
-    go none h = absurd (none-ne-some d h)
-    go (some t) h =
-        ap {B = Option ℕ} some
+    go : (o : Option Transition) → option_and_then (λ t. cond (enabled t k c) (Some (after m t c)) None) o ≡ Some d → option_map (λ t. t.trigger) o ≡ Some k
+    go None h = absurd (none-some d h)
+    go (Some t) h =
+        ap {B = Option ℕ} Some
         (eqb-true t.trigger k (and_right (eqb t.source c.state) (eqb t.trigger k)
         (and_left (eqb t.source c.state && eqb t.trigger k) (holds t.guard c.variables c.clocks) (cond-some (enabled t k c) _ d h).0)))
 
-pub trigger-number : (m : Monitor) → Sane m → (j k : ℕ) → trigger_of m j ≡ some k → j < transition_limit
-trigger-number m table j k e = go (get_elem? m.transitions j) refl e
+pub trigger-number : (m : Monitor) → Sane m → (j k : ℕ) → trigger_of m j ≡ Some k → j < transition_limit
+trigger-number m table j k e = go (slice_get m.transitions j) refl e
   where
-    go : (o : Option Transition) → get_elem? m.transitions j ≡ o → map (λ t. t.trigger) o ≡ some k → j < transition_limit
-    go none f g = absurd (none-ne-some k g)
-    go (some t) f g = omega (arith, table.few, get_elem_within m.transitions j t f)
+    go : (o : Option Transition) → slice_get m.transitions j ≡ o → option_map (λ t. t.trigger) o ≡ Some k → j < transition_limit
+    go None f g = absurd (none-some k g)
+    go (Some t) f g = omega (arith, table.few, slice_get_within m.transitions j t f)

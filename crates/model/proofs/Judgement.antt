@@ -6,7 +6,7 @@ use mathlib.Core.Path.{◌≡◌, refl, sym, ap, subst, ◌∙◌}
 use mathlib.Core.Logic.{◌↔◌, ◌⊎◌, inl, inr}
 use mathlib.Core.List.{List}
 use mathlib.Core.Bool.{Bool, true, false}
-use mathlib.Core.Option.{none}
+use Rattle.std.specs.Prelude.{None}
 use lib.ListN.{length}
 use lib.Dec.{ltb}
 use borrow.Author.Tests.{ltb-true, ltb-false, eqb-true, eqb-false}
@@ -76,7 +76,7 @@ module _ (edition : Edition) (m : Monitor) (recording : List Packet) (sane : San
   carried-possible : Carried → PossibleUnder m recording
   carried-possible (ks, z, e, h) =
       let rows : List Row = rows_of m recording 1 ks in
-      let u : broken edition m (begin recording) 0 rows ≡ none = (moves-permitted edition m recording sane sound fits ks z e h).0 in
+      let u : broken edition m (begin recording) 0 rows ≡ None = (moves-permitted edition m recording sane sound fits ks z e h).0 in
       explains_possible_under m recording rows ((explained_under edition m recording rows sane.window (unbroken_formed edition m recording rows u)).0 u)
 
   carried-left : Carried → 0 < left

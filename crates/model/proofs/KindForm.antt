@@ -13,10 +13,10 @@ use Rattle.model.specs.Limits.{table_versions, airtime_limit, device_limit}
 use Rattle.model.specs.Bytes.{byte_at, joined}
 use Rattle.model.specs.Kinds.{version_at, kind_width, kind_at, implied_device, device_at, device_fits, kind_record, kind_fields, kind_bytes}
 use Rattle.model.specs.declared.TableParts.{TableParts}
-use Rattle.model.specs.declared.Reading.{Reading}
+use Rattle.model.specs.First.{Reading}
 use Rattle.model.specs.declared.Refusal.{Refusal}
 use Rattle.model.specs.declared.Refusal.TheVariants.{TableLength, TableField}
-use Rattle.model.specs.declared.Reading.TheVariants.{Sound}
+use Rattle.std.specs.Prelude.{Ok}
 use Rattle.model.proofs.Basics.{unless-sound}
 use Rattle.model.proofs.Tests.{test, le_test, tests}
 use Rattle.model.proofs.Places.{length-joined}
@@ -88,7 +88,7 @@ kind_tests b at device =
     ∷ (device_fits (version_at b) (byte_at b at) device, TableField at)
     ∷ []
 
-pub sound-kind : (b : List ℕ) (at device : ℕ) → kind_record b at device ≡ Sound → SoundKind b at device
+pub sound-kind : (b : List ℕ) (at device : ℕ) → kind_record b at device ≡ Ok tt → SoundKind b at device
 unfolding kind_record
 sound-kind b at device e =
     let l : List Reading = tests (kind_tests b at device) in

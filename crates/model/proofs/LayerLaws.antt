@@ -6,7 +6,7 @@ use native.Mathlib.Decide.{dec_lt}
 use mathlib.Core.Path.{◌≡◌, refl, ◌∙◌}
 use mathlib.Core.List.{List, [], ◌∷◌, ◌++◌}
 use mathlib.Core.Bool.{Bool, true, false}
-use mathlib.Core.Option.{Option, some}
+use Rattle.std.specs.Prelude.{Option, Some}
 use mathlib.Core.Logic.{◌⊎◌, inl, inr, ◌↔◌}
 use lib.ListN.{length, get_or, replicate, length-set, length-append, length-replicate}
 use lib.Seq.{get_or-set_same}
@@ -24,7 +24,7 @@ module _ (N K : ℕ) (step : ℕ → ℕ → ℕ → Option ℕ) where
 
   -- z is in a set, or one of the first k moves leads at instant t from n to z
   abbrev pub Spread : (k t n : ℕ) → List Bool → ℕ → Type 0
-  Spread k t n s z = (get_or s z false ≡ true) ⊎ ((j : ℕ) × (j < k) × (step t n j ≡ some z) × (z < length s))
+  Spread k t n s z = (get_or s z false ≡ true) ⊎ ((j : ℕ) × (j < k) × (step t n j ≡ Some z) × (z < length s))
 
   pub spread_member : (k t n : ℕ) (s : List Bool) (z : ℕ) → (get_or (spread N K step k t n s) z false ≡ true) ↔ Spread k t n s z
   unfolding spread
@@ -36,7 +36,7 @@ module _ (N K : ℕ) (step : ℕ → ℕ → ℕ → Option ℕ) where
   spread_member (suc k) t n s z = go (spread_member k t n s z) (mark_member (spread N K step k t n s) (step t n k) z)
     where
       Now : Type 0
-      Now = (get_or (spread N K step k t n s) z false ≡ true) ⊎ ((step t n k ≡ some z) × (z < length (spread N K step k t n s)))
+      Now = (get_or (spread N K step k t n s) z false ≡ true) ⊎ ((step t n k ≡ Some z) × (z < length (spread N K step k t n s)))
 
       go : (get_or (spread N K step k t n s) z false ≡ true) ↔ Spread k t n s z → (get_or (spread N K step (suc k) t n s) z false ≡ true) ↔ Now
           → (get_or (spread N K step (suc k) t n s) z false ≡ true) ↔ Spread (suc k) t n s z
@@ -80,7 +80,7 @@ module _ (N K : ℕ) (step : ℕ → ℕ → ℕ → Option ℕ) where
 
   -- one of the first m situations, of those in s, leads at instant t to z
   abbrev pub Given : (m t : ℕ) → List Bool → ℕ → Type 0
-  Given m t s z = (n : ℕ) × (k : ℕ) × (n < m) × (get_or s n false ≡ true) × (k < K) × (step t n k ≡ some z) × (z < N)
+  Given m t s z = (n : ℕ) × (k : ℕ) × (n < m) × (get_or s n false ≡ true) × (k < K) × (step t n k ≡ Some z) × (z < N)
 
   pub image_member : (m t : ℕ) (s : List Bool) (z : ℕ) → (get_or (image N K step m t s) z false ≡ true) ↔ Given m t s z
   unfolding image
@@ -113,7 +113,7 @@ module _ (N K : ℕ) (step : ℕ → ℕ → ℕ → Option ℕ) where
           at w (no l) = let p : w.0 ≡ m = omega (arith, w.2) in cc (e, w.3)
 
   -- one more move at the end
-  pub leads-more : (ks : List ℕ) (t n x k z : ℕ) → Leads N K step t n ks x → k < K → step (suc (t + length ks)) x k ≡ some z → z < N
+  pub leads-more : (ks : List ℕ) (t n x k z : ℕ) → Leads N K step t n ks x → k < K → step (suc (t + length ks)) x k ≡ Some z → z < N
       → Leads N K step t n (ks ++ (k ∷ [])) z
   leads-more [] t n x k z c l e h = let p : t + 0 ≡ t = omega arith in (z, l, cc, h, refl)
   leads-more (j ∷ ks) t n x k z c l e h =
@@ -132,9 +132,9 @@ module _ (N K : ℕ) (step : ℕ → ℕ → ℕ → Option ℕ) where
 
     pub layer-leads : (t z : ℕ) → get_or (layer N K step first t) z false ≡ true → (ks : List ℕ) × (length ks ≡ t) × Leads N K step 0 first ks z
     unfolding layer
-    layer-leads zero z e = go ((mark_member (replicate N false) (some first) z).0 e)
+    layer-leads zero z e = go ((mark_member (replicate N false) (Some first) z).0 e)
       where
-        go : (get_or (replicate N false) z false ≡ true) ⊎ ((some first ≡ some z) × (z < length (replicate N false)))
+        go : (get_or (replicate N false) z false ≡ true) ⊎ ((Some first ≡ Some z) × (z < length (replicate N false)))
             → (ks : List ℕ) × (length ks ≡ 0) × Leads N K step 0 first ks z
         go (inl m) = absurd (no_member N z m)
         go (inr w) = ([], refl, cc w.0)

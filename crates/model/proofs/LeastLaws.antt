@@ -6,7 +6,7 @@ use native.Mathlib.Decide.{dec_lt}
 use mathlib.Core.Path.{◌≡◌, refl, sym, ap, ◌∙◌}
 use mathlib.Core.List.{List, [], ◌∷◌}
 use mathlib.Core.Bool.{Bool, true, false, ◌||◌, false≢true}
-use mathlib.Core.Option.{Option, some}
+use Rattle.std.specs.Prelude.{Option, Some}
 use mathlib.Core.Logic.{◌⊎◌, inl, inr, ◌↔◌}
 use lib.ListN.{length, get_or, replicate, length-replicate, get_or-replicate}
 use Rattle.model.specs.Bytes.{tab}
@@ -18,14 +18,14 @@ use Rattle.model.proofs.SetLaws.{member_within, leads_into_member, FirstOf, firs
 module _ (N K : ℕ) (step : ℕ → ℕ → ℕ → Option ℕ) where
   -- one of the first k moves leads at instant t from n into s
   abbrev pub Enters : List Bool → (t n k : ℕ) → Type 0
-  Enters s t n k = (j : ℕ) × (x : ℕ) × (j < k) × (step t n j ≡ some x) × (get_or s x false ≡ true)
+  Enters s t n k = (j : ℕ) × (x : ℕ) × (j < k) × (step t n j ≡ Some x) × (get_or s x false ≡ true)
 
   pub leads_enters : (s : List Bool) (t n k : ℕ) → (leads N K step s t n k ≡ true) ↔ Enters s t n k
   unfolding leads
   leads_enters s t n zero = (λ e. absurd (false≢true e), λ w. absurd (not-suc-le-zero w.2))
   leads_enters s t n (suc k) = go (leads_enters s t n k) (leads_into_member s (step t n k))
     where
-      go : (leads N K step s t n k ≡ true) ↔ Enters s t n k → (leads_into s (step t n k) ≡ true) ↔ ((x : ℕ) × (step t n k ≡ some x) × (get_or s x false ≡ true))
+      go : (leads N K step s t n k ≡ true) ↔ Enters s t n k → (leads_into s (step t n k) ≡ true) ↔ ((x : ℕ) × (step t n k ≡ Some x) × (get_or s x false ≡ true))
           → (leads N K step s t n (suc k) ≡ true) ↔ Enters s t n (suc k)
       go before now = (λ e. there (or_cases (leads N K step s t n k) (leads_into s (step t n k)) e), λ w. back w (dec_lt w.0 k))
         where
@@ -106,7 +106,7 @@ module _ (N K : ℕ) (step : ℕ → ℕ → ℕ → Option ℕ) where
 
   -- where a move k leads into s, so does the least, and it is no later than k
   pub least_into-leads : (s : List Bool) (t n k : ℕ) → k < K → leads_into s (step (suc t) n k) ≡ true
-      → (x : ℕ) × (least_into s t n ≤ k) × (step (suc t) n (least_into s t n) ≡ some x) × (get_or s x false ≡ true)
+      → (x : ℕ) × (least_into s t n ≤ k) × (step (suc t) n (least_into s t n) ≡ Some x) × (get_or s x false ≡ true)
   least_into-leads s t n k l e = into f.found
     where
       f : FirstOf (λ j. leads_into s (step (suc t) n j)) K 0 (least_into s t n)
@@ -117,7 +117,7 @@ module _ (N K : ℕ) (step : ℕ → ℕ → ℕ → Option ℕ) where
       no-later (no h) = omega arith
 
       into : (leads_into s (step (suc t) n (least_into s t n)) ≡ true) ⊎ (least_into s t n ≡ 0 + K)
-          → (x : ℕ) × (least_into s t n ≤ k) × (step (suc t) n (least_into s t n) ≡ some x) × (get_or s x false ≡ true)
+          → (x : ℕ) × (least_into s t n ≤ k) × (step (suc t) n (least_into s t n) ≡ Some x) × (get_or s x false ≡ true)
       into (inl h) = let w = (leads_into_member s (step (suc t) n (least_into s t n))).0 h in (w.0, no-later (dec_lt k (least_into s t n)), w.1, w.2)
       into (inr h) = absurd (omega (arith, no-later (dec_lt k (least_into s t n))))
 
@@ -170,7 +170,7 @@ module _ (N K : ℕ) (step : ℕ → ℕ → ℕ → Option ℕ) where
       same ls r (inl b) = inl (cc)
       same ls r (inr b) = inr (inr (sym r, b))
 
-      start : (y : ℕ) → m ≤ k → step (suc t) n m ≡ some y → get_or s y false ≡ true
+      start : (y : ℕ) → m ≤ k → step (suc t) n m ≡ Some y → get_or s y false ≡ true
           → ((ls : List ℕ) (w : ℕ) → length ls ≡ left → Leads N K step (suc t) y ls w → Foremost (suc t) y (least_from N K step left (suc t) y) ls)
           → Foremost t n (m ∷ least_from N K step left (suc t) (arrived N K step (step (suc t) n m))) (k ∷ ks)
       start y h e g after =

@@ -1,3 +1,4 @@
+pub mod Options
 pub mod Basics
 pub mod RuleLaws
 pub mod Chains

@@ -9,7 +9,7 @@ use mathlib.Core.Bool.{Bool, true, false}
 use lib.ListN.{length}
 use lib.Dec.{leb, ltb}
 use borrow.Author.Tests.{leb-true, leb-false, le-leb}
-use Rattle.model.specs.First.{unless}
+use Rattle.model.specs.First.{unless, Reading}
 use Rattle.model.specs.Edition.{latest_time}
 use Rattle.model.specs.Rule.{Rule}
 use Rattle.model.specs.Monitor.{Monitor}
@@ -23,8 +23,7 @@ use Rattle.model.specs.Validation.{possible_after, last_of, cost_of, passing_of,
 use Rattle.model.specs.Late.{RefusesLateOf}
 use Rattle.model.specs.declared.Edition.{Edition}
 use Rattle.model.specs.declared.Edition.TheVariants.{Two}
-use Rattle.model.specs.declared.Reading.{Reading}
-use Rattle.model.specs.declared.Reading.TheVariants.{Sound}
+use Rattle.std.specs.Prelude.{Ok}
 use Rattle.model.specs.declared.Refusal.TheVariants.{Scratch, WitnessRoom}
 use Rattle.model.specs.declared.Readiness.TheVariants.{NotYet, NoMore}
 use Rattle.model.specs.declared.Verdict.TheVariants.{Accepted, Rejected, Exhausted}
@@ -35,13 +34,13 @@ use Rattle.model.proofs.RuledForm.{recording_sound, facts_under}
 use Rattle.model.proofs.Judgement.{sound-judged, sound_judged_under}
 
 -- a verdict has the number 0, 1 or 2
-verdict-number : (m : Monitor) (recording : List Packet) (budget : ℕ) → (verdict_values (verdict m recording budget)).number ≤ 2
+verdict-number : (m : Monitor) (recording : List Packet) (budget : ℕ) → (verdict_values (Ok (verdict m recording budget))).number ≤ 2
 unfolding verdict
 verdict-number m recording budget = by (ltb budget (cost_of m recording)) (is_empty (possible_after m recording (last_of m recording)))
   where
     by : (over empty : Bool)
         → (verdict_values
-        (elim over [
+        (Ok (elim over [
           | true ↦ Exhausted budget (passing_of m recording budget)
           | false ↦
               elim empty [
@@ -50,7 +49,7 @@ verdict-number m recording budget = by (ltb budget (cost_of m recording)) (is_em
                     (pairs_at m recording NoMore (last_of m recording))
                 | false ↦ Accepted (cost_of m recording) (length (preferred m recording))
               ]
-        ])
+        ]))
         ).number
         ≤ 2
     by true empty = omega arith
@@ -59,7 +58,7 @@ verdict-number m recording budget = by (ltb budget (cost_of m recording)) (is_em
 
 -- where nothing is refused, what is given is sound, and the recording ends early enough
 pub unrefused : (given : Reading) (edition : Edition) (m : Monitor) (recording : List Packet) (scratch_length room_length : ℕ)
-    → refusal_of given edition m recording scratch_length room_length ≡ Sound → (given ≡ Sound) × (end_of recording ≤ latest_time edition)
+    → refusal_of given edition m recording scratch_length room_length ≡ Ok tt → (given ≡ Ok tt) × (end_of recording ≤ latest_time edition)
 unfolding refusal_of
 unrefused given edition m recording scratch_length room_length e =
     let all : List Reading =
@@ -75,7 +74,7 @@ module _ (given : Reading) (edition : Edition) (m : Monitor) (recording : List P
   answer : Values
   answer = verdict_values (validation_of given edition m recording budget scratch_length room_length)
 
-  module _ (sound : given ≡ Sound) (fits : scratch_wanted m recording ≤ scratch_length) where
+  module _ (sound : given ≡ Ok tt) (fits : scratch_wanted m recording ≤ scratch_length) where
     late : leb (end_of recording) (latest_time edition) ≡ false → answer ≡ values 31 0 0
     unfolding answer validation_of refusal_of
     late e = rw (refusal_of, validation_of, sound, le-leb (scratch_wanted m recording) scratch_length fits, e)
@@ -86,7 +85,7 @@ module _ (given : Reading) (edition : Edition) (m : Monitor) (recording : List P
       where
         by : (b : Bool) → leb (room_wanted edition recording) room_length ≡ b → ⊥
         by true h =
-            let judged : answer ≡ verdict_values (verdict m recording budget) =
+            let judged : answer ≡ verdict_values (Ok (verdict m recording budget)) =
             rw (refusal_of, validation_of, sound, le-leb (scratch_wanted m recording) scratch_length fits, e, h)
             in
             omega (arith, verdict-number m recording budget, ap (λ (v : Values). v.number) (sym judged ∙ q))

@@ -7,8 +7,9 @@ use mathlib.Core.Path.{◌≡◌, refl, sym, ap, subst, ◌∙◌}
 use mathlib.Core.List.Memᴰ
 use mathlib.Core.List.{List, [], ◌∷◌, ◌++◌, map, Memᴰ}
 use mathlib.Core.Bool.{Bool, true, false, cond, ◌&&◌}
-use mathlib.Core.Option
-use mathlib.Core.Option.{Option, none, some, bind, none-ne-some, some-injective}
+use Rattle.std.specs.Prelude.{Option, Some, None}
+use Rattle.std.specs.Option.{option_map, option_and_then}
+use Rattle.std.proofs.lemmas.Option.{none-some, same_Some}
 use mathlib.Core.Logic.{⊎_elim}
 use lib.ListN.{length, length-append}
 use lib.Dec.{leb, eqb}
@@ -66,15 +67,15 @@ ahead_first m recording h = record { rising = from recording h; within = within_
     from [] g = tt
     from (p ∷ ps) g = (omega arith, spaced_rising m p ps g.1)
 
-recorded_before : (t : ℕ) (l : List Packet) (u : ℕ) → Rising t l → u ≤ t → recorded_at l u ≡ none
+recorded_before : (t : ℕ) (l : List Packet) (u : ℕ) → Rising t l → u ≤ t → recorded_at l u ≡ None
 unfolding recorded_at
 recorded_before t [] u h g = refl
 recorded_before t (p ∷ l) u h g = recorded_later p l u (omega arith) ∙ recorded_before p.time l u h.1 (omega arith)
 
 -- at instant t + 1 nothing is recorded, or the first of those to come
 pub data Coming (recording : List Packet) (t : ℕ) (left : List Packet) : Type 0 where
-  quiet : recorded_at recording (suc t) ≡ none → Ahead recording (suc t) left → Coming recording t left
-  heard : (k : ℕ) (others : List Packet) → recorded_at recording (suc t) ≡ some k → left ≡ record { time = suc t; kind = k } ∷ others
+  quiet : recorded_at recording (suc t) ≡ None → Ahead recording (suc t) left → Coming recording t left
+  heard : (k : ℕ) (others : List Packet) → recorded_at recording (suc t) ≡ Some k → left ≡ record { time = suc t; kind = k } ∷ others
       → Ahead recording (suc t) others → Coming recording t left
 
 pub coming : (recording : List Packet) (t : ℕ) (left : List Packet) → Ahead recording t left → Coming recording t left
@@ -99,8 +100,8 @@ coming recording t (p ∷ ps) a = go (ℕ_discrete p.time (suc t))
 -- at most one row an instant
 
 row_for_few : (mark t : ℕ) (o : Option ℕ) (j : ℕ) → length (row_for mark t o j) ≤ 1
-row_for_few mark t none j = omega arith
-row_for_few mark t (some k) j = omega arith
+row_for_few mark t None j = omega arith
+row_for_few mark t (Some k) j = omega arith
 
 rows_by_few : (m : Monitor) (recorded : Option ℕ) (t : ℕ) (a : Move) → length (rows_by m recorded t a) ≤ 1
 unfolding rows_by
@@ -121,8 +122,8 @@ situation_at t p = with_air (wait (suc t - p.now) p.config) (p.free - suc t) p.w
 
 -- the row before is not after t
 abbrev Past : ℕ → Option Row → Type 0
-Past t none = Unit {0}
-Past t (some r) = r.time ≤ t
+Past t None = Unit {0}
+Past t (Some r) = r.time ≤ t
 
 -- the rows up to instant t have come to p
 pub record Tied (recording : List Packet) (t : ℕ) (p : Progress) : Type 0 where
@@ -150,7 +151,7 @@ tick-later t now c taken left window h air =
     clocks (x ∷ l) = λ i. (let e : x + (suc t - now) + 1 ≡ x + (suc (suc t) - now) = omega arith in e i) ∷ clocks l i
 
 module _ {A B C : Type 0} (f : A → C) (g : B → C) where
-  map-cond : (b : Bool) (x : Option A) (y : Option B) → Option.map f x ≡ Option.map g y → Option.map f (cond b x none) ≡ Option.map g (cond b y none)
+  map-cond : (b : Bool) (x : Option A) (y : Option B) → option_map f x ≡ option_map g y → option_map f (cond b x None) ≡ option_map g (cond b y None)
   map-cond true x y e = e
   map-cond false x y e = refl
 
@@ -166,19 +167,19 @@ air-free free t = go (leb free (suc t)) refl
 
 -- what rows come to, none where one breaks a rule
 unfoldable pub accounts : Edition → Monitor → Progress → List Row → Option Progress
-accounts edition m p [] = some p
-accounts edition m p (r ∷ rs) = bind (account edition m p r) (λ q. accounts edition m q rs)
+accounts edition m p [] = Some p
+accounts edition m p (r ∷ rs) = option_and_then (λ q. accounts edition m q rs) (account edition m p r)
 
 module _ (m : Monitor) (t : ℕ) (p : Progress) where
   -- a packet on the air at instant t + 1
   on_air_lem : (k window : ℕ) (o : Option Config) (x : Option Progress)
-      → Option.map (tick uncapped) (Option.map (λ c. with_air c (airtime m k + 1) window) o) ≡ Option.map (situation_at (suc t)) x
-      → Option.map (tick uncapped) (on_air m k (situation_at t p) window o) ≡ Option.map (situation_at (suc t)) (cond (leb p.free (suc t)) x none)
+      → option_map (tick uncapped) (option_map (λ c. with_air c (airtime m k + 1) window) o) ≡ option_map (situation_at (suc t)) x
+      → option_map (tick uncapped) (on_air m k (situation_at t p) window o) ≡ option_map (situation_at (suc t)) (cond (leb p.free (suc t)) x None)
   on_air_lem k window o x e = rw (air-free p.free t) (map-cond (tick uncapped) (situation_at (suc t)) (leb p.free (suc t)) _ x e)
 
   sent-sends : (mark k j : ℕ) (left : List Packet)
-      → Option.map (tick uncapped) (sent m (guessed m (marked mark (suc t) k j)) j k (situation_at t p))
-      ≡ Option.map (situation_at (suc t)) (cond (leb p.free (suc t)) (sends m p (marked mark (suc t) k j) left) none)
+      → option_map (tick uncapped) (sent m (guessed m (marked mark (suc t) k j)) j k (situation_at t p))
+      ≡ option_map (situation_at (suc t)) (cond (leb p.free (suc t)) (sends m p (marked mark (suc t) k j) left) None)
   unfolding sent sends
   sent-sends mark k j left = on_air_lem k window (within_rule m p.window guess (fires m j k _)) (sends m p (marked mark (suc t) k j) left) (go (within_rule m p.window guess (fires m j k _)))
     where
@@ -195,40 +196,40 @@ module _ (m : Monitor) (t : ℕ) (p : Progress) where
       air = omega arith
 
       go : (o : Option Config)
-          → Option.map (tick uncapped) (Option.map (λ c. with_air c (airtime m k + 1) window) o)
-          ≡ Option.map (situation_at (suc t)) (Option.map (behind_row m (marked mark (suc t) k j) left (suc t) window) o)
-      go none = refl
-      go (some c) = λ i. some (record { state = c.state; variables = c.variables; clocks = map (λ x. x + clock i) c.clocks; air = air i; window = window })
+          → option_map (tick uncapped) (option_map (λ c. with_air c (airtime m k + 1) window) o)
+          ≡ option_map (situation_at (suc t)) (option_map (behind_row m (marked mark (suc t) k j) left (suc t) window) o)
+      go None = refl
+      go (Some c) = λ i. Some (record { state = c.state; variables = c.variables; clocks = map (λ x. x + clock i) c.clocks; air = air i; window = window })
 
   -- the progress after the next recorded row, of kind k, is removed
   abbrev without : ℕ → Progress
   without k = behind_row m (marked removed (suc t) k no_transition) (others p.left) p.now p.window p.config
 
   missed-removed : p.now ≤ t → (k : ℕ)
-      → Option.map (tick uncapped) (missed m k (situation_at t p))
-      ≡ Option.map (situation_at (suc t)) (cond (leb p.free (suc t)) (cond (to_unit m k) (some (without k)) none) none)
+      → option_map (tick uncapped) (missed m k (situation_at t p))
+      ≡ option_map (situation_at (suc t)) (cond (leb p.free (suc t)) (cond (to_unit m k) (Some (without k)) None) None)
   unfolding missed
   missed-removed h k =
-      on_air_lem k p.window (cond (to_unit m k) (some (wait (suc t - p.now) p.config)) none) (cond (to_unit m k) (some (without k)) none) (go (to_unit m k))
+      on_air_lem k p.window (cond (to_unit m k) (Some (wait (suc t - p.now) p.config)) None) (cond (to_unit m k) (Some (without k)) None) (go (to_unit m k))
     where
       go : (b : Bool)
-          → Option.map (tick uncapped) (Option.map (λ c. with_air c (airtime m k + 1) p.window) (cond b (some (wait (suc t - p.now) p.config)) none))
-          ≡ Option.map (situation_at (suc t)) (cond b (some (without k)) none)
+          → option_map (tick uncapped) (option_map (λ c. with_air c (airtime m k + 1) p.window) (cond b (Some (wait (suc t - p.now) p.config)) None))
+          ≡ option_map (situation_at (suc t)) (cond b (Some (without k)) None)
       go true =
-          ap {B = Option Situation} some
+          ap {B = Option Situation} Some
           (tick-later t p.now p.config (airtime m k + 1) (suc t + airtime m k + 1 - suc (suc t)) p.window h (omega arith))
       go false = refl
 
   sends_tied : (recording : List Packet) (mark k j : ℕ) (left : List Packet) (q : Progress) → Ahead recording (suc t) left
-      → cond (leb p.free (suc t)) (sends m p (marked mark (suc t) k j) left) none ≡ some q → Tied recording (suc t) q
+      → cond (leb p.free (suc t)) (sends m p (marked mark (suc t) k j) left) None ≡ Some q → Tied recording (suc t) q
   sends_tied recording mark k j left q a e =
       subst (Tied recording (suc t)) (sends-fires m p (marked mark (suc t) k j) left q (cond-some (leb p.free (suc t)) _ q e).1).2
       (record { early = omega arith; past = omega arith; ahead = a })
 
 -- a move at instant t + 1 and a tick lead to the situation of what the rows of that move come to
 pub record Instant (edition : Edition) (m : Monitor) (recording : List Packet) (t : ℕ) (p : Progress) (recorded : Option ℕ) (a : Move) : Type 0 where
-  pub step : step_by m uncapped recorded (situation_at t p) a ≡ Option.map (situation_at (suc t)) (accounts edition m p (rows_by m recorded (suc t) a))
-  pub next : (q : Progress) → accounts edition m p (rows_by m recorded (suc t) a) ≡ some q → Tied recording (suc t) q
+  pub step : step_by m uncapped recorded (situation_at t p) a ≡ option_map (situation_at (suc t)) (accounts edition m p (rows_by m recorded (suc t) a))
+  pub next : (q : Progress) → accounts edition m p (rows_by m recorded (suc t) a) ≡ Some q → Tied recording (suc t) q
 
 clear_of : (t u : ℕ) (l : List Packet) → Rising u l → t ≤ u → none_before l (suc t) ≡ true
 clear_of t u [] h g = refl
@@ -239,16 +240,16 @@ none_at_lem t [] h = refl
 none_at_lem t (p ∷ l) h = rw (ne_eqb p.time t (omega arith))
 
 past-later : (t : ℕ) (o : Option Row) → Past t o → Past (suc t) o
-past-later t none h = tt
-past-later t (some r) h = omega arith
+past-later t None h = tt
+past-later t (Some r) h = omega arith
 
 pub one_row : (edition : Edition) (m : Monitor) (p : Progress) (r : Row) → accounts edition m p (r ∷ []) ≡ account edition m p r
-unfolding accounts bind
+unfolding accounts
 one_row edition m p r = go (account edition m p r)
   where
-    go : (o : Option Progress) → bind o some ≡ o
-    go none = refl
-    go (some q) = refl
+    go : (o : Option Progress) → option_and_then Some o ≡ o
+    go None = refl
+    go (Some q) = refl
 
 module _ (edition : Edition) (m : Monitor) (recording : List Packet) (t : ℕ) (p : Progress) (limit : suc t ≤ latest_time edition) (tied : Tied recording t p) where
   formed : leb 1 (suc t) && leb (suc t) (latest_time edition) && true ≡ true
@@ -258,8 +259,8 @@ module _ (edition : Edition) (m : Monitor) (recording : List Packet) (t : ℕ) (
   in_place_lem mark k j f = go p.before tied.past
     where
       go : (o : Option Row) → Past t o → in_place edition o (marked mark (suc t) k j) ≡ true
-      go none h = f
-      go (some r) h = both_true (in_form edition (marked mark (suc t) k j)) (follows r (marked mark (suc t) k j)) f (rw (lt-ltb r.time (suc t) (omega arith)))
+      go None h = f
+      go (Some r) h = both_true (in_form edition (marked mark (suc t) k j)) (follows r (marked mark (suc t) k j)) f (rw (lt-ltb r.time (suc t) (omega arith)))
 
   -- a row in form at instant t + 1: the air and the rule for its mark are left
   account_by : (mark k j : ℕ) → in_form edition (marked mark (suc t) k j) ≡ true
@@ -267,30 +268,30 @@ module _ (edition : Edition) (m : Monitor) (recording : List Packet) (t : ℕ) (
       ≡ cond (leb p.free (suc t))
       (cond (eqb mark kept) (keeps m p (marked mark (suc t) k j))
       (cond (eqb mark removed) (removes m p (marked mark (suc t) k j)) (adds m p (marked mark (suc t) k j))))
-      none
+      None
   unfolding account
   account_by mark k j f = rw (in_place_lem mark k j f, clear_of t t p.left tied.ahead.rising (omega arith))
 
   instant_by : (recorded : Option ℕ) (a : Move) (o : Option Progress) → accounts edition m p (rows_by m recorded (suc t) a) ≡ o
-      → step_by m uncapped recorded (situation_at t p) a ≡ Option.map (situation_at (suc t)) o → ((q : Progress) → o ≡ some q → Tied recording (suc t) q)
+      → step_by m uncapped recorded (situation_at t p) a ≡ option_map (situation_at (suc t)) o → ((q : Progress) → o ≡ Some q → Tied recording (suc t) q)
       → Instant edition m recording t p recorded a
-  instant_by recorded a o e s n = record { step = s ∙ ap (Option.map (situation_at (suc t))) (sym e); next = λ q h. n q (sym e ∙ h) }
+  instant_by recorded a o e s n = record { step = s ∙ ap (option_map (situation_at (suc t))) (sym e); next = λ q h. n q (sym e ∙ h) }
 
   module _ (ahead : Ahead recording (suc t) p.left) where
     account-added : (k j : ℕ)
-        → account edition m p (marked added (suc t) k j) ≡ cond (leb p.free (suc t)) (sends m p (marked added (suc t) k j) p.left) none
+        → account edition m p (marked added (suc t) k j) ≡ cond (leb p.free (suc t)) (sends m p (marked added (suc t) k j) p.left) None
     unfolding in_form adds
     account-added k j = account_by added k j formed ∙ rw (none_at_lem (suc t) p.left ahead.rising)
 
-    quiet-instant : (a : Move) → HasRows m none a → Instant edition m recording t p none a
-    unfolding accounts rows_by step_by moved bind
+    quiet-instant : (a : Move) → HasRows m None a → Instant edition m recording t p None a
+    unfolding accounts rows_by step_by moved
     quiet-instant (keep j) f = absurd f
     quiet-instant rest f =
-        instant_by none rest (some p) refl (ap {B = Option Situation} some (tick-later t p.now p.config (p.free - suc t) (p.free - suc (suc t)) p.window tied.early (omega arith)))
-        (λ q h. subst (Tied recording (suc t)) (some-injective p q h)
+        instant_by None rest (Some p) refl (ap {B = Option Situation} Some (tick-later t p.now p.config (p.free - suc t) (p.free - suc (suc t)) p.window tied.early (omega arith)))
+        (λ q h. subst (Tied recording (suc t)) (same_Some p q h)
         (record { early = omega (arith, tied.early); past = past-later t p.before tied.past; ahead = ahead }))
     quiet-instant (add j) f =
-        instant_by none (add j) (cond (leb p.free (suc t)) (sends m p (marked added (suc t) f.0 j) p.left) none)
+        instant_by None (add j) (cond (leb p.free (suc t)) (sends m p (marked added (suc t) f.0 j) p.left) None)
         (rw f.1 (one_row edition m p (marked added (suc t) f.0 j) ∙ account-added f.0 j))
         (rw f.1 (sent-sends m t p added f.0 j p.left))
         (λ q h. sends_tied m t p recording added f.0 j p.left q ahead h)
@@ -304,28 +305,28 @@ module _ (edition : Edition) (m : Monitor) (recording : List Packet) (t : ℕ) (
     ahead-others = subst (Ahead recording (suc t)) (sym (ap others first)) a
 
     account-kept : (j : ℕ)
-        → account edition m p (marked kept (suc t) k j) ≡ cond (leb p.free (suc t)) (sends m p (marked kept (suc t) k j) (others p.left)) none
+        → account edition m p (marked kept (suc t) k j) ≡ cond (leb p.free (suc t)) (sends m p (marked kept (suc t) k j) (others p.left)) None
     unfolding in_form keeps
     account-kept j = account_by kept k j formed ∙ rw (is-next kept j)
 
     account-removed : account edition m p (marked removed (suc t) k no_transition)
-        ≡ cond (leb p.free (suc t)) (cond (to_unit m k) (some (without m t p k)) none) none
+        ≡ cond (leb p.free (suc t)) (cond (to_unit m k) (Some (without m t p k)) None) None
     unfolding in_form removes
     account-removed = account_by removed k no_transition formed ∙ rw (is-next removed no_transition)
 
-    heard-instant : (b : Move) → HasRows m (some k) b → Instant edition m recording t p (some k) b
+    heard-instant : (b : Move) → HasRows m (Some k) b → Instant edition m recording t p (Some k) b
     unfolding rows_by step_by moved
     heard-instant (keep j) f =
-        instant_by (some k) (keep j) (cond (leb p.free (suc t)) (sends m p (marked kept (suc t) k j) (others p.left)) none)
+        instant_by (Some k) (keep j) (cond (leb p.free (suc t)) (sends m p (marked kept (suc t) k j) (others p.left)) None)
         (one_row edition m p (marked kept (suc t) k j) ∙ account-kept j)
         (sent-sends m t p kept k j (others p.left))
         (λ q h. sends_tied m t p recording kept k j (others p.left) q ahead-others h)
     heard-instant rest f =
-        instant_by (some k) rest (cond (leb p.free (suc t)) (cond (to_unit m k) (some (without m t p k)) none) none)
+        instant_by (Some k) rest (cond (leb p.free (suc t)) (cond (to_unit m k) (Some (without m t p k)) None) None)
         (one_row edition m p (marked removed (suc t) k no_transition) ∙ account-removed)
         (missed-removed m t p tied.early k)
         (λ q h. subst (Tied recording (suc t))
-        (some-injective (without m t p k) q (cond-some (to_unit m k) _ q (cond-some (leb p.free (suc t)) _ q h).1).1)
+        (same_Some (without m t p k) q (cond-some (to_unit m k) _ q (cond-some (leb p.free (suc t)) _ q h).1).1)
         (record { early = omega (arith, tied.early); past = omega arith; ahead = ahead-others }))
     heard-instant (add j) f = absurd f
 
@@ -339,42 +340,41 @@ module _ (edition : Edition) (m : Monitor) (recording : List Packet) (t : ℕ) (
 -- from moves to rows
 
 -- an added row's transition has a trigger
-bound : (o : Option ℕ) (f : ℕ → Option Situation) (g : Situation → Situation) (x : Situation) → Option.map g (bind o f) ≡ some x → (a : ℕ) × (o ≡ some a)
-unfolding bind
-bound none f g x e = absurd (none-ne-some x e)
-bound (some a) f g x e = (a, refl)
+bound : (o : Option ℕ) (f : ℕ → Option Situation) (g : Situation → Situation) (x : Situation) → option_map g (option_and_then f o) ≡ Some x → (a : ℕ) × (o ≡ Some a)
+bound None f g x e = absurd (none-some x e)
+bound (Some a) f g x e = (a, refl)
 
 -- a move that leads somewhere has its rows
 pub fits-step : (m : Monitor) (write : List ℕ → List ℕ) (recorded : Option ℕ) (s : Situation) (a : Move) (x : Situation)
-    → step_by m write recorded s a ≡ some x → HasRows m recorded a
+    → step_by m write recorded s a ≡ Some x → HasRows m recorded a
 unfolding step_by moved
-fits-step m write none s (keep j) x e = none-ne-some x e
-fits-step m write (some k) s (keep j) x e = tt
+fits-step m write None s (keep j) x e = none-some x e
+fits-step m write (Some k) s (keep j) x e = tt
 fits-step m write recorded s rest x e = tt
-fits-step m write none s (add j) x e = bound (trigger_of m j) _ (tick write) x e
-fits-step m write (some k) s (add j) x e = none-ne-some x e
+fits-step m write None s (add j) x e = bound (trigger_of m j) _ (tick write) x e
+fits-step m write (Some k) s (add j) x e = none-some x e
 
 row-time : (t : ℕ) (rows : List Row) → At t rows → (r : Row) → Memᴰ r rows → r.time ≡ t
 row-time t [] h r i = absurd (Memᴰ.not-nil i)
 row-time t (a ∷ rows) h r i = ⊎_elim (λ e. ap (λ x. x.time) e ∙ h.0) (λ j. row-time t rows h.1 r j) (Memᴰ.cases_cons i)
 
-broken-end : (edition : Edition) (m : Monitor) (p : Progress) (i : ℕ) → p.left ≡ [] → broken edition m p i [] ≡ none
+broken-end : (edition : Edition) (m : Monitor) (p : Progress) (i : ℕ) → p.left ≡ [] → broken edition m p i [] ≡ None
 unfolding broken
 broken-end edition m p i e = go p.left e
   where
-    go : (l : List Packet) → l ≡ [] → ◌≡◌ {A = Option ℕ} (elim l [ [] ↦ none | q ∷ qs ↦ some i ]) none
+    go : (l : List Packet) → l ≡ [] → ◌≡◌ {A = Option ℕ} (elim l [ [] ↦ None | q ∷ qs ↦ Some i ]) None
     go l h = rw h
 
-broken-accounts : (edition : Edition) (m : Monitor) (more rows : List Row) (p q : Progress) → accounts edition m p rows ≡ some q → ((i : ℕ) → broken edition m q i more ≡ none)
-    → (i : ℕ) → broken edition m p i (rows ++ more) ≡ none
-unfolding accounts bind
-broken-accounts edition m more [] p q e h i = subst (λ x. broken edition m x i more ≡ none) (sym (some-injective p q e)) (h i)
+broken-accounts : (edition : Edition) (m : Monitor) (more rows : List Row) (p q : Progress) → accounts edition m p rows ≡ Some q → ((i : ℕ) → broken edition m q i more ≡ None)
+    → (i : ℕ) → broken edition m p i (rows ++ more) ≡ None
+unfolding accounts
+broken-accounts edition m more [] p q e h i = subst (λ x. broken edition m x i more ≡ None) (sym (same_Some p q e)) (h i)
 broken-accounts edition m more (r ∷ rows) p q e h i = go (λ u g. broken-accounts edition m more rows u q g h (suc i)) (account edition m p r) refl e
   where
-    go : ((u : Progress) → accounts edition m u rows ≡ some q → broken edition m u (suc i) (rows ++ more) ≡ none)
-        → (o : Option Progress) → account edition m p r ≡ o → bind o (λ u. accounts edition m u rows) ≡ some q → broken edition m p i (r ∷ rows ++ more) ≡ none
-    go again none f g = absurd (none-ne-some q g)
-    go again (some u) f g = broken_next edition m p r u f i (rows ++ more) ∙ again u g
+    go : ((u : Progress) → accounts edition m u rows ≡ Some q → broken edition m u (suc i) (rows ++ more) ≡ None)
+        → (o : Option Progress) → account edition m p r ≡ o → option_and_then (λ u. accounts edition m u rows) o ≡ Some q → broken edition m p i (r ∷ rows ++ more) ≡ None
+    go again None f g = absurd (none-some q g)
+    go again (Some u) f g = broken_next edition m p r u f i (rows ++ more) ∙ again u g
 
 -- after the last recorded time nothing is left
 all_past : (t last : ℕ) (l : List Packet) → Rising t l → Within last l → last ≤ t → l ≡ []
@@ -384,22 +384,22 @@ all_past t last (p ∷ l) h w g = absurd (omega arith)
 module _ (edition : Edition) (m : Monitor) (recording : List Packet) (sane : SaneRecording m recording) (fits : end_of recording ≤ latest_time edition) where
   -- a move that can be carried: its rows are accounted for, and come to the situation after it
   carried : (t : ℕ) (p : Progress) → Tied recording t p → suc t ≤ end_of recording → (a : Move) (x : Situation)
-      → step_by m uncapped (recorded_at recording (suc t)) (situation_at t p) a ≡ some x
-      → (q : Progress) × (accounts edition m p (rows_by m (recorded_at recording (suc t)) (suc t) a) ≡ some q) × (x ≡ situation_at (suc t) q) × Tied recording (suc t) q
+      → step_by m uncapped (recorded_at recording (suc t)) (situation_at t p) a ≡ Some x
+      → (q : Progress) × (accounts edition m p (rows_by m (recorded_at recording (suc t)) (suc t) a) ≡ Some q) × (x ≡ situation_at (suc t) q) × Tied recording (suc t) q
   carried t p tied l a x e = go (accounts edition m p (rows_by m (recorded_at recording (suc t)) (suc t) a)) refl
     where
       now : Instant edition m recording t p (recorded_at recording (suc t)) a
       now = instant edition m recording t p (omega arith) tied a (fits-step m uncapped (recorded_at recording (suc t)) (situation_at t p) a x e)
 
       go : (o : Option Progress) → accounts edition m p (rows_by m (recorded_at recording (suc t)) (suc t) a) ≡ o
-          → (q : Progress) × (accounts edition m p (rows_by m (recorded_at recording (suc t)) (suc t) a) ≡ some q) × (x ≡ situation_at (suc t) q) × Tied recording (suc t) q
-      go none f = absurd (none-ne-some x (sym (now.step ∙ ap (Option.map (situation_at (suc t))) f) ∙ e))
-      go (some q) f =
-          (q, f, some-injective x (situation_at (suc t) q) (sym e ∙ now.step ∙ ap (Option.map (situation_at (suc t))) f), now.next q f)
+          → (q : Progress) × (accounts edition m p (rows_by m (recorded_at recording (suc t)) (suc t) a) ≡ Some q) × (x ≡ situation_at (suc t) q) × Tied recording (suc t) q
+      go None f = absurd (none-some x (sym (now.step ∙ ap (option_map (situation_at (suc t))) f) ∙ e))
+      go (Some q) f =
+          (q, f, same_Some x (situation_at (suc t) q) (sym e ∙ now.step ∙ ap (option_map (situation_at (suc t))) f), now.next q f)
 
   moves-rows : (ks : List ℕ) (t : ℕ) (p : Progress) (z : Situation) → length ks + t ≡ end_of recording → Tied recording t p
       → Moves m recording t (situation_at t p) ks z
-      → ((i : ℕ) → broken edition m p i (rows_of m recording (suc t) ks) ≡ none) × EndsBy (end_of recording) (rows_of m recording (suc t) ks)
+      → ((i : ℕ) → broken edition m p i (rows_of m recording (suc t) ks) ≡ None) × EndsBy (end_of recording) (rows_of m recording (suc t) ks)
   unfolding rows_of
   moves-rows [] t p z e tied moves =
       (λ i. broken-end edition m p i (all_past t (end_of recording) p.left tied.ahead.rising tied.ahead.within (omega arith)), λ r h. absurd (Memᴰ.not-nil h))
@@ -416,7 +416,7 @@ module _ (edition : Edition) (m : Monitor) (recording : List Packet) (sane : San
 
 pub moves-permitted : (edition : Edition) (m : Monitor) (recording : List Packet) → Sane m → SaneRecording m recording → end_of recording ≤ latest_time edition → (ks : List ℕ) (z : Situation)
     → length ks ≡ end_of recording → Moves m recording 0 (first_by uncapped) ks z
-    → (broken edition m (begin recording) 0 (rows_of m recording 1 ks) ≡ none) × EndsBy (end_of recording) (rows_of m recording 1 ks)
+    → (broken edition m (begin recording) 0 (rows_of m recording 1 ks) ≡ None) × EndsBy (end_of recording) (rows_of m recording 1 ks)
 moves-permitted edition m recording _ sane fits ks z e moves =
     let h = moves-rows edition m recording sane fits ks 0 (begin recording) z (omega arith) (tied_first m recording sane) moves in
     (h.0 0, h.1)

@@ -5,8 +5,9 @@ use native.Mathlib.Omega.{arith}
 use mathlib.Core.Path.{◌≡◌, refl, sym, ap, ap₂, subst, ◌∙◌}
 use mathlib.Core.List.{List, [], ◌∷◌}
 use mathlib.Core.Bool.{Bool, true, false, cond}
-use mathlib.Core.Option.{Option, none, some, map, bind}
-use lib.ListN.{get_or, get_elem?}
+use Rattle.std.specs.Prelude.{Option, Some, None, slice_get}
+use Rattle.std.specs.Option.{option_map, option_and_then}
+use lib.ListN.{get_or}
 use lib.Arith.{digits_lt}
 use lib.Dec.{eqb}
 use Rattle.model.specs.Rule.{Rule, masks, window_behind, allows}
@@ -112,7 +113,7 @@ module _ {m : Monitor} (sane : Sane m) where
 
 -- what a transition does with a packet of kind k
 abbrev pub outcome : Monitor → ℕ → Config → Transition → Option Config
-outcome m k c t = cond (enabled t k c) (some (after m t c)) none
+outcome m k c t = cond (enabled t k c) (Some (after m t c)) None
 
 -- the situation once a packet is on the air, before the tick: the air is taken
 abbrev pub sending : Monitor → (k window : ℕ) → Config → Situation
@@ -120,24 +121,23 @@ sending m k window c = with_air c (airtime m k + 1) window
 
 -- a condition on the outcome, if there is one
 abbrev Every : {A : Type 0} → (A → Type 0) → Option A → Type 0
-Every P none = Unit {0}
-Every P (some a) = P a
+Every P None = Unit {0}
+Every P (Some a) = P a
 
 module _ {B : Type 0} (P : B → Type 0) where
-  every_cond : (t : Bool) (o : Option B) → Every P o → Every P (cond t o none)
+  every_cond : (t : Bool) (o : Option B) → Every P o → Every P (cond t o None)
   every_cond true o h = h
   every_cond false o h = tt
 
-  every_bind : {A : Type 0} (o : Option A) (f : A → Option B) → ((a : A) → o ≡ some a → Every P (f a)) → Every P (bind o f)
-  unfolding bind
-  every_bind none f h = tt
-  every_bind (some a) f h = h a refl
+  every_bind : {A : Type 0} (o : Option A) (f : A → Option B) → ((a : A) → o ≡ Some a → Every P (f a)) → Every P (option_and_then f o)
+  every_bind None f h = tt
+  every_bind (Some a) f h = h a refl
 
-  every_map : {A : Type 0} (f : A → B) (o : Option A) → Every (λ a. P (f a)) o → Every P (map f o)
-  every_map f none h = tt
-  every_map f (some a) h = h
+  every_map : {A : Type 0} (f : A → B) (o : Option A) → Every (λ a. P (f a)) o → Every P (option_map f o)
+  every_map f None h = tt
+  every_map f (Some a) h = h
 
-  every_some : (o : Option B) {b : B} → Every P o → o ≡ some b → P b
+  every_some : (o : Option B) {b : B} → Every P o → o ≡ Some b → P b
   every_some o h e = subst (Every P) e h
 
 -- before the tick, a step changes nothing, takes the air, or takes it and fires one transition: so what holds of these holds of its outcome
@@ -145,7 +145,7 @@ module _
     (m : Monitor) (write : List ℕ → List ℕ) (s : Situation) (P : Situation → Type 0)
     (same : P (tick write s))
     (taken : (k : ℕ) → P (tick write (sending m k s.window (config_of s))))
-    (fired : (guess : Bool) (j k : ℕ) (t : Transition) → get_elem? m.transitions j ≡ some t
+    (fired : (guess : Bool) (j k : ℕ) (t : Transition) → slice_get m.transitions j ≡ Some t
     → P (tick write (sending m k (window_behind m.rule s.window guess) (after m t (config_of s)))))
   where
     abbrev Ticked : Situation → Type 0
@@ -155,7 +155,7 @@ module _
     Sent k window c = Ticked (sending m k window c)
 
     every-air : (k window : ℕ) (o : Option Config) → Every (Sent k window) o → Every Ticked (on_air m k s window o)
-    every-air k window o h = every_cond Ticked (eqb s.air 0) (map (sending m k window) o) (every_map Ticked (sending m k window) o h)
+    every-air k window o h = every_cond Ticked (eqb s.air 0) (option_map (sending m k window) o) (every_map Ticked (sending m k window) o h)
 
     every-sent : (guess : Bool) (j k : ℕ) → Every Ticked (sent m guess j k s)
     unfolding sent within_rule fires
@@ -163,25 +163,25 @@ module _
         let window : ℕ = window_behind m.rule s.window guess in
         every-air k window (within_rule m s.window guess (fires m j k (config_of s)))
         (every_cond (Sent k window) (allows m.rule s.window guess) (fires m j k (config_of s))
-        (every_bind (Sent k window) (get_elem? m.transitions j) (outcome m k (config_of s))
-        (λ t e. every_cond (Sent k window) (enabled t k (config_of s)) (some (after m t (config_of s))) (fired guess j k t e))))
+        (every_bind (Sent k window) (slice_get m.transitions j) (outcome m k (config_of s))
+        (λ t e. every_cond (Sent k window) (enabled t k (config_of s)) (Some (after m t (config_of s))) (fired guess j k t e))))
 
     every-missed : (k : ℕ) → Every Ticked (missed m k s)
     unfolding missed
     every-missed k =
-        every-air k s.window (cond (to_unit m k) (some (config_of s)) none)
-        (every_cond (Sent k s.window) (to_unit m k) (some (config_of s)) (taken k))
+        every-air k s.window (cond (to_unit m k) (Some (config_of s)) None)
+        (every_cond (Sent k s.window) (to_unit m k) (Some (config_of s)) (taken k))
 
     every-moved : (recorded : Option ℕ) (a : Move) → Every Ticked (moved m recorded s a)
     unfolding moved
-    every-moved none (keep j) = tt
-    every-moved none rest = same
-    every-moved none (add j) = every_bind Ticked (trigger_of m j) (λ k. sent m (is_guess m k) j k s) (λ k e. every-sent (is_guess m k) j k)
-    every-moved (some r) (keep j) = every-sent false j r
-    every-moved (some r) rest = every-missed r
-    every-moved (some r) (add j) = tt
+    every-moved None (keep j) = tt
+    every-moved None rest = same
+    every-moved None (add j) = every_bind Ticked (trigger_of m j) (λ k. sent m (is_guess m k) j k s) (λ k e. every-sent (is_guess m k) j k)
+    every-moved (Some r) (keep j) = every-sent false j r
+    every-moved (Some r) rest = every-missed r
+    every-moved (Some r) (add j) = tt
 
-    pub every_step : (recorded : Option ℕ) (a : Move) {x : Situation} → step_by m write recorded s a ≡ some x → P x
+    pub every_step : (recorded : Option ℕ) (a : Move) {x : Situation} → step_by m write recorded s a ≡ Some x → P x
     unfolding step_by
     every_step recorded a e = every_some P _ (every_map P (tick write) (moved m recorded s a) (every-moved recorded a)) e
 
@@ -212,7 +212,7 @@ in_range_lem m s v air window c hs hv ha hw =
     record { state = hs; variables = hv; clocks = refl; first = min-le_right _ _; second = min-le_right _ _; air = ha; window = hw }
 
 module _ {m : Monitor} (sane : Sane m) where
-  pub step_in_range : (recorded : Option ℕ) (a : Move) {s x : Situation} → InRange m s → step_by m (capped m) recorded s a ≡ some x → InRange m x
+  pub step_in_range : (recorded : Option ℕ) (a : Move) {s x : Situation} → InRange m s → step_by m (capped m) recorded s a ≡ Some x → InRange m x
   step_in_range recorded a {s} r e =
       every_step m (capped m) s (InRange m)
       (in_range_lem m _ _ _ _ _ r.state r.variables (omega arith) r.window)

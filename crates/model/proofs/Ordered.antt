@@ -4,7 +4,8 @@ use native.Mathlib.Omega.{arith}
 use mathlib.Core.Path.{◌≡◌, refl, sym, ap, ◌∙◌}
 use mathlib.Core.List.{List, [], ◌∷◌, ◌++◌, append-nil}
 use mathlib.Core.Bool.{Bool, true, false, cond}
-use mathlib.Core.Option.{Option, none, some, map, bind}
+use Rattle.std.specs.Prelude.{Option, Some, None}
+use Rattle.std.specs.Option.{option_map, option_and_then}
 use mathlib.Core.Logic.{inl, inr}
 use lib.Dec.{ltb, eqb}
 use borrow.Author.Tests.{ltb-true, ltb-false, eqb-true, eqb-false, eq-eqb, ne_eqb}
@@ -44,8 +45,8 @@ rows_on_other t u [] h n = refl
 rows_on_other t u (r ∷ rs) h n = rw (ne_eqb r.time u (λ e. n (sym h.0 ∙ e))) (rows_on_other t u rs h.1 n)
 
 row_for_at : (mark t : ℕ) (o : Option ℕ) (j : ℕ) → At t (row_for mark t o j)
-row_for_at mark t none j = tt
-row_for_at mark t (some k) j = (refl, tt)
+row_for_at mark t None j = tt
+row_for_at mark t (Some k) j = (refl, tt)
 
 pub rows_by_at : (m : Monitor) (recorded : Option ℕ) (t : ℕ) (a : Move) → At t (rows_by m recorded t a)
 unfolding rows_by
@@ -84,20 +85,20 @@ chosen rest = nothing
 chosen (add j) = adding j
 
 -- an added row has a trigger
-choice-added : (t j : ℕ) (a : Option ℕ) (send : ℕ → Option Situation) {x : Situation} → map (tick uncapped) (bind a send) ≡ some x → choice (row_for added t a j) ≡ adding j
-unfolding choice bind
-choice-added t j none send {x} e = let z : ◌≡◌ {A = ℕ} 0 1 = cc in absurd (omega arith)
-choice-added t j (some a) send e = refl
+choice-added : (t j : ℕ) (a : Option ℕ) (send : ℕ → Option Situation) {x : Situation} → option_map (tick uncapped) (option_and_then send a) ≡ Some x → choice (row_for added t a j) ≡ adding j
+unfolding choice
+choice-added t j None send {x} e = let z : ◌≡◌ {A = ℕ} 0 1 = cc in absurd (omega arith)
+choice-added t j (Some a) send e = refl
 
 -- a move that can be made comes to its choice
-choice_by : (m : Monitor) (recorded : Option ℕ) (t : ℕ) (a : Move) (s x : Situation) → step_by m uncapped recorded s a ≡ some x → choice (rows_by m recorded t a) ≡ chosen a
+choice_by : (m : Monitor) (recorded : Option ℕ) (t : ℕ) (a : Move) (s x : Situation) → step_by m uncapped recorded s a ≡ Some x → choice (rows_by m recorded t a) ≡ chosen a
 unfolding step_by moved rows_by choice
-choice_by m none t (keep j) s x e = let z : ◌≡◌ {A = ℕ} 0 1 = cc in absurd (omega arith)
-choice_by m (some k) t (keep j) s x e = refl
-choice_by m none t rest s x e = refl
-choice_by m (some k) t rest s x e = refl
-choice_by m none t (add j) s x e = choice-added t j (trigger_of m j) _ e
-choice_by m (some k) t (add j) s x e = let z : ◌≡◌ {A = ℕ} 0 1 = cc in absurd (omega arith)
+choice_by m None t (keep j) s x e = let z : ◌≡◌ {A = ℕ} 0 1 = cc in absurd (omega arith)
+choice_by m (Some k) t (keep j) s x e = refl
+choice_by m None t rest s x e = refl
+choice_by m (Some k) t rest s x e = refl
+choice_by m None t (add j) s x e = choice-added t j (trigger_of m j) _ e
+choice_by m (Some k) t (add j) s x e = let z : ◌≡◌ {A = ℕ} 0 1 = cc in absurd (omega arith)
 
 -- the number of a move
 abbrev MoveNumber : ℕ → Move → Type 0

@@ -9,7 +9,7 @@ use lib.Seq.{get_or-take, get_or-drop}
 use lib.Dec.{ltb}
 use Rattle.model.specs.Limits.{kind_limit, transition_limit, guard_limit}
 use Rattle.model.specs.Bytes.{byte_at, tab}
-use Rattle.model.specs.First.{first_of}
+use Rattle.model.specs.First.{first_of, Reading}
 use Rattle.model.specs.Rule.{Rule}
 use Rattle.model.specs.Monitor.{Monitor, airtime}
 use Rattle.model.specs.Kinds.{version_at, kind_at}
@@ -20,7 +20,6 @@ use Rattle.model.specs.Rules.{checked, check_answer}
 use Rattle.model.specs.Same.{SameTable}
 use Rattle.model.specs.Versions.{SameOtherBytes, SameAnswers}
 use Rattle.model.specs.declared.TableParts.{TableParts}
-use Rattle.model.specs.declared.Reading.{Reading}
 use Rattle.model.proofs.Places.{get_or_column}
 use Rattle.model.proofs.TableForm.{table_facts, guard_byte, plain_rule}
 use Rattle.model.proofs.TableTrip.{length-few, same_monitor}

@@ -8,8 +8,10 @@ use mathlib.Core.Logic.{◌↔◌, ◌⊎◌, inl, inr, ⊎_elim}
 use mathlib.Core.List.Memᴰ
 use mathlib.Core.List.{List, [], ◌∷◌, ◌++◌, Memᴰ}
 use mathlib.Core.Bool.{Bool, true, false, cond, ◌&&◌, false≢true}
-use mathlib.Core.Option.{Option, none, some, bind, none-ne-some, some-injective}
-use lib.ListN.{length, get_or, get_elem?, length-append}
+use Rattle.std.specs.Prelude.{Option, Some, None, slice_get}
+use Rattle.std.specs.Option.{option_and_then}
+use Rattle.std.proofs.lemmas.Option.{none-some, same_Some, slice_get_within}
+use lib.ListN.{length, get_or, length-append}
 use lib.Dec.{eqb}
 use borrow.Author.Tests.{eqb-true, eq-eqb}
 use Rattle.model.specs.Readiness.{GuardAnswers, readiness}
@@ -24,7 +26,7 @@ use Rattle.model.specs.Sane.{Sane}
 use Rattle.model.specs.declared.Readiness.{Readiness}
 use Rattle.model.specs.declared.Readiness.TheVariants.{Yes, NotYet, NoMore}
 use Rattle.model.specs.declared.Situation.{Situation}
-use Rattle.model.proofs.Basics.{and_left, and_right, both_true, cond-some, get_elem_within}
+use Rattle.model.proofs.Basics.{and_left, and_right, both_true, cond-some}
 use Rattle.model.proofs.SetLaws.{member_within}
 use Rattle.model.proofs.LayerLaws.{length-layer}
 use Rattle.model.proofs.Numbering.{forth}
@@ -196,32 +198,31 @@ same_self Yes = refl
 same_self NotYet = refl
 same_self NoMore = refl
 
-is_some : (a : Readiness) (o : Option Readiness) → is_answer a o ≡ true → o ≡ some a
-is_some a none e = absurd (false≢true e)
-is_some a (some b) e = ap {B = Option Readiness} some (same-is a b e)
+is_some : (a : Readiness) (o : Option Readiness) → is_answer a o ≡ true → o ≡ Some a
+is_some a None e = absurd (false≢true e)
+is_some a (Some b) e = ap {B = Option Readiness} Some (same-is a b e)
 
-bind_some : {A B : Type 0} (o : Option A) (f : A → Option B) (b : B) → bind o f ≡ some b → (a : A) × (o ≡ some a) × (f a ≡ some b)
-unfolding bind
-bind_some none f b e = absurd (none-ne-some b e)
-bind_some (some a) f b e = (a, refl, e)
+bind_some : {A B : Type 0} (o : Option A) (f : A → Option B) (b : B) → option_and_then f o ≡ Some b → (a : A) × (o ≡ Some a) × (f a ≡ Some b)
+bind_some None f b e = absurd (none-some b e)
+bind_some (Some a) f b e = (a, refl, e)
 
 module _ (m : Monitor) (j k : ℕ) (c : Config) where
   -- transition j of kind k answers, from its state
   abbrev Fits : Transition → Type 0
-  Fits t = (get_elem? m.transitions j ≡ some t) × (t.source ≡ c.state) × (t.trigger ≡ k)
+  Fits t = (slice_get m.transitions j ≡ Some t) × (t.source ≡ c.state) × (t.trigger ≡ k)
 
-  tried-some : (a : Readiness) → tried m j k c ≡ some a → (t : Transition) × Fits t × (readiness t.guard c.variables c.clocks ≡ a)
+  tried-some : (a : Readiness) → tried m j k c ≡ Some a → (t : Transition) × Fits t × (readiness t.guard c.variables c.clocks ≡ a)
   unfolding tried
   tried-some a e =
-      let (t, listed, answer) = bind_some (get_elem? m.transitions j) _ a e in
-      let (fits, is) = cond-some (eqb t.source c.state && eqb t.trigger k) (some (readiness t.guard c.variables c.clocks)) a answer in (
+      let (t, listed, answer) = bind_some (slice_get m.transitions j) _ a e in
+      let (fits, is) = cond-some (eqb t.source c.state && eqb t.trigger k) (Some (readiness t.guard c.variables c.clocks)) a answer in (
         t,
         (listed, eqb-true _ _ (and_left _ _ fits), eqb-true _ _ (and_right (eqb t.source c.state) _ fits)),
-        some-injective (readiness t.guard c.variables c.clocks) a is,
+        same_Some (readiness t.guard c.variables c.clocks) a is,
       )
 
-  some-tried : (t : Transition) → Fits t → tried m j k c ≡ some (readiness t.guard c.variables c.clocks)
-  unfolding tried bind
+  some-tried : (t : Transition) → Fits t → tried m j k c ≡ Some (readiness t.guard c.variables c.clocks)
+  unfolding tried
   some-tried t (listed, from, on) = rw (listed, eq-eqb t.source c.state from, eq-eqb t.trigger k on)
 
 module _ {m : Monitor} (sane : Sane m) (recording : List Packet) (instant : ℕ) (a : Readiness) where
@@ -235,18 +236,18 @@ module _ {m : Monitor} (sane : Sane m) (recording : List Packet) (instant : ℕ)
   test = is_pair m set (recorded_at recording instant) a
 
   pair_passes : (n j : ℕ) → Pair m recording instant a n j → Passing test (size m) (length m.transitions) n j
-  unfolding answer_in bind
+  unfolding answer_in
   pair_passes n j p =
       let s : Situation = situation_of m n in
       let below : n < size m = omega (arith, member_within set n p.possible, set-length) in
       let range : InRange m s = (forth sane n below).1 in
       let answer : a ≡ readiness p.transition.guard s.variables s.clocks =
       answer-is p.transition.guard s.variables s.clocks a (p.answers s.clocks range.clocks (written_back m s range)) in
-      let tries : tried m j p.transition.trigger (config_of s) ≡ some a =
-      some-tried m j p.transition.trigger (config_of s) p.transition (p.listed, p.from, refl) ∙ ap {B = Option Readiness} some (sym answer) in
-      let is : answer_in m (recorded_at recording instant) s j ≡ some a = rw (eq-eqb s.air 0 p.free, p.kind) tries in (
+      let tries : tried m j p.transition.trigger (config_of s) ≡ Some a =
+      some-tried m j p.transition.trigger (config_of s) p.transition (p.listed, p.from, refl) ∙ ap {B = Option Readiness} Some (sym answer) in
+      let is : answer_in m (recorded_at recording instant) s j ≡ Some a = rw (eq-eqb s.air 0 p.free, p.kind) tries in (
         below,
-        get_elem_within m.transitions j p.transition p.listed,
+        slice_get_within m.transitions j p.transition p.listed,
         both_true (get_or set n false) _ p.possible (ap (is_answer a) is ∙ same_self a),
       )
 
@@ -255,8 +256,8 @@ module _ {m : Monitor} (sane : Sane m) (recording : List Packet) (instant : ℕ)
   passes_pair n j (below, within, e) =
       let s : Situation = situation_of m n in
       let there : get_or set n false ≡ true = and_left _ _ e in
-      let is : answer_in m (recorded_at recording instant) s j ≡ some a = is_some a _ (and_right (get_or set n false) _ e) in
-      let (free, tries) = cond-some (eqb s.air 0) (bind (recorded_at recording instant) (λ k. tried m j k (config_of s))) a is in
+      let is : answer_in m (recorded_at recording instant) s j ≡ Some a = is_some a _ (and_right (get_or set n false) _ e) in
+      let (free, tries) = cond-some (eqb s.air 0) (option_and_then (λ k. tried m j k (config_of s)) (recorded_at recording instant)) a is in
       let (k, heard, try) = bind_some (recorded_at recording instant) (λ k. tried m j k (config_of s)) a tries in
       let (t, (listed, from, on), answer) = tried-some m j k (config_of s) a try in
       record {
@@ -264,7 +265,7 @@ module _ {m : Monitor} (sane : Sane m) (recording : List Packet) (instant : ℕ)
         free = eqb-true s.air 0 free;
         transition = t;
         listed = listed;
-        kind = heard ∙ ap {B = Option ℕ} some (sym on);
+        kind = heard ∙ ap {B = Option ℕ} Some (sym on);
         from = from;
         answers = λ clocks two writes.
             let same : readiness t.guard s.variables clocks ≡ a =

@@ -10,7 +10,7 @@ use lib.Dec.{leb, ltb}
 use borrow.Author.Tests.{ltb-true}
 use Rattle.model.specs.Limits.{row_limit, time_limit}
 use Rattle.model.specs.Bytes.{byte_at, word_bytes, tab, joined}
-use Rattle.model.specs.First.{unless, first_of}
+use Rattle.model.specs.First.{unless, first_of, Reading}
 use Rattle.model.specs.Monitor.{Monitor, airtime}
 use Rattle.model.specs.Trace.{Packet, Spaced}
 use Rattle.model.specs.Table.{table_answer, kinds_at, SoundTable, monitor_at}
@@ -18,8 +18,7 @@ use Rattle.model.specs.Recording.{count_at, time_at, row_kind_at, clear_of_befor
 use Rattle.model.specs.Same.{SameRecording, RecordingZero}
 use Rattle.model.specs.declared.RecordingParts.{RecordingParts}
 use Rattle.model.specs.declared.Edition.TheVariants.{One}
-use Rattle.model.specs.declared.Reading.{Reading}
-use Rattle.model.specs.declared.Reading.TheVariants.{Sound}
+use Rattle.std.specs.Prelude.{Ok}
 use Rattle.model.specs.declared.Refusal.TheVariants.{RecordingFrame, RecordingVersion, RecordingCount, RecordingRange, RecordingOrder}
 use Rattle.model.proofs.Basics.{unless-sound, length-tab}
 use Rattle.model.specs.Sane.{SaneRecording}
@@ -34,7 +33,7 @@ pub record SoundRow (table b : List ℕ) (i : ℕ) : Type 0 where
   pub kind : row_kind_at b i < kinds_at table
   pub clear : clear_of_before table b i ≡ true
 
-sound_row : (table b : List ℕ) (i : ℕ) → recorded_row table b i ≡ Sound → SoundRow table b i
+sound_row : (table b : List ℕ) (i : ℕ) → recorded_row table b i ≡ Ok tt → SoundRow table b i
 unfolding recorded_row
 sound_row table b i e =
     let l : List Reading =
@@ -51,14 +50,14 @@ sound_row table b i e =
       clear = unless-sound (clear_of_before table b i) (RecordingOrder i) (test l e 3);
     }
 
-rows-sound : (n : ℕ) (table b : List ℕ) (i k : ℕ) → recorded_rows n table b i ≡ Sound → i ≤ k → k < i + n → SoundRow table b k
+rows-sound : (n : ℕ) (table b : List ℕ) (i k : ℕ) → recorded_rows n table b i ≡ Ok tt → i ≤ k → k < i + n → SoundRow table b k
 unfolding recorded_rows
 rows-sound zero table b i k e p q = absurd (omega arith)
 rows-sound (suc n) table b i k e p q =
     let l : List Reading = recorded_row table b i ∷ recorded_rows n table b (suc i) ∷ [] in
     split (ℕ_discrete i k) (test l e 0) (λ r. rows-sound n table b (suc i) k (test l e 1) r (omega arith))
   where
-    split : Dec (i ≡ k) → recorded_row table b i ≡ Sound → (suc i ≤ k → SoundRow table b k) → SoundRow table b k
+    split : Dec (i ≡ k) → recorded_row table b i ≡ Ok tt → (suc i ≤ k → SoundRow table b k) → SoundRow table b k
     split (yes s) here again = sound_row table b k (rw s at here)
     split (no s) here again = again (omega arith)
 
@@ -73,7 +72,7 @@ unfolding recording_answer recording_scan recording_frame
 recording_facts table b e =
     let all : List Reading = table_answer table ∷ recording_scan table b ∷ [] in
     let l : List Reading = recording_frame b ∷ recorded_rows (count_at b) table b 0 ∷ [] in
-    let s : first_of l ≡ Sound = test all e 1 in
+    let s : first_of l ≡ Ok tt = test all e 1 in
     record {
       sound = test all e 0;
       rows = rows_facts One b 3 row_limit RecordingFrame RecordingVersion RecordingCount (test l s 0);

@@ -3,7 +3,10 @@ use Prim.Native.Nat.{ℕ, suc, ◌-◌, ◌≤◌}
 use mathlib.Core.Path.{◌≡◌, refl, sym, ◌∙◌}
 use mathlib.Core.List.{List, ◌∷◌}
 use mathlib.Core.Bool.{Bool, true, false, cond, not, ◌&&◌, ◌||◌}
-use mathlib.Core.Option.{Option, none, some, map, none-ne-some, some-ne-none, some-injective}
+use Rattle.std.specs.Prelude.{Option, Some, None}
+use Rattle.std.specs.Option.{option_map}
+use Rattle.std.proofs.lemmas.Option.{none-some, same_Some}
+use Rattle.model.proofs.Options.{some-ne-none}
 use lib.Dec.{leb, eqb}
 use borrow.Author.Tests.{eqb-true, leb-true, eq-eqb}
 use Rattle.model.specs.Edition.{latest_time}
@@ -33,8 +36,8 @@ in_form_lem edition o r e =
     }
   where
     form : (x : Option Row) → in_place edition x r ≡ true → in_form edition r ≡ true
-    form none f = f
-    form (some p) f = and_left (in_form edition r) (follows p r) f
+    form None f = f
+    form (Some p) f = and_left (in_form edition r) (follows p r) f
 
     four-true : (a b c d : Bool) → a && b && c && d ≡ true → (a ≡ true) × (b ≡ true) × (c ≡ true) × (d ≡ true)
     four-true a b c d q =
@@ -51,9 +54,9 @@ pub record Passed (edition : Edition) (m : Monitor) (p : Progress) (r : Row) (q 
   pub placed : in_place edition p.before r ≡ true
   pub turn : none_before p.left r.time ≡ true
   pub free : p.free ≤ r.time
-  pub by : by_mark m p r ≡ some q
+  pub by : by_mark m p r ≡ Some q
 
-pub passed : (edition : Edition) (m : Monitor) (p : Progress) (r : Row) (q : Progress) → account edition m p r ≡ some q → Passed edition m p r q
+pub passed : (edition : Edition) (m : Monitor) (p : Progress) (r : Row) (q : Progress) → account edition m p r ≡ Some q → Passed edition m p r q
 unfolding account
 passed edition m p r q e =
     let placed : Bool = in_place edition p.before r in
@@ -72,9 +75,9 @@ abbrev pub behind_sent : Monitor → Progress → Row → List Packet → Config
 behind_sent m p r left c = behind_row m r left r.time (window_behind m.rule p.window (guessed m r)) c
 
 -- a kept or added row fires its transition and keeps the rule
-pub sends-fires : (m : Monitor) (p : Progress) (r : Row) (left : List Packet) (q : Progress) → sends m p r left ≡ some q
+pub sends-fires : (m : Monitor) (p : Progress) (r : Row) (left : List Packet) (q : Progress) → sends m p r left ≡ Some q
     → (c : Config)
-    × (fires m r.transition r.kind (wait (r.time - p.now) p.config) ≡ some c)
+    × (fires m r.transition r.kind (wait (r.time - p.now) p.config) ≡ Some c)
     × (behind_sent m p r left c ≡ q)
     × (allows m.rule p.window (guessed m r) ≡ true)
 unfolding sends within_rule
@@ -82,26 +85,26 @@ sends-fires m p r left q e = go (allows m.rule p.window (guessed m r)) refl (fir
   where
     go : (allowed : Bool) → allows m.rule p.window (guessed m r) ≡ allowed
         → (o : Option Config) → fires m r.transition r.kind (wait (r.time - p.now) p.config) ≡ o
-        → map (behind_sent m p r left) (cond allowed o none) ≡ some q
+        → option_map (behind_sent m p r left) (cond allowed o None) ≡ Some q
         → (c : Config)
-        × (fires m r.transition r.kind (wait (r.time - p.now) p.config) ≡ some c)
+        × (fires m r.transition r.kind (wait (r.time - p.now) p.config) ≡ Some c)
         × (behind_sent m p r left c ≡ q)
         × (allows m.rule p.window (guessed m r) ≡ true)
-    go true a none f h = absurd (none-ne-some q h)
-    go true a (some c) f h = (c, f, some-injective (behind_sent m p r left c) q h, a)
-    go false a o f h = absurd (none-ne-some q h)
+    go true a None f h = absurd (none-some q h)
+    go true a (Some c) f h = (c, f, same_Some (behind_sent m p r left c) q h, a)
+    go false a o f h = absurd (none-some q h)
 
 -- rows, the first of which is accounted for
 
-pub broken_next : (edition : Edition) (m : Monitor) (p : Progress) (r : Row) (q : Progress) → account edition m p r ≡ some q → (i : ℕ) (rs : List Row) → broken edition m p i (r ∷ rs) ≡ broken edition m q (suc i) rs
+pub broken_next : (edition : Edition) (m : Monitor) (p : Progress) (r : Row) (q : Progress) → account edition m p r ≡ Some q → (i : ℕ) (rs : List Row) → broken edition m p i (r ∷ rs) ≡ broken edition m q (suc i) rs
 unfolding broken
 broken_next edition m p r q e i rs = rw (e, broken)
 
-pub first-row : (edition : Edition) (m : Monitor) (p : Progress) (i : ℕ) (r : Row) (rs : List Row) → broken edition m p i (r ∷ rs) ≡ none
-    → (q : Progress) × (account edition m p r ≡ some q) × (broken edition m q (suc i) rs ≡ none)
+pub first-row : (edition : Edition) (m : Monitor) (p : Progress) (i : ℕ) (r : Row) (rs : List Row) → broken edition m p i (r ∷ rs) ≡ None
+    → (q : Progress) × (account edition m p r ≡ Some q) × (broken edition m q (suc i) rs ≡ None)
 unfolding broken
 first-row edition m p i r rs e = go (account edition m p r) refl
   where
-    go : (o : Option Progress) → account edition m p r ≡ o → (q : Progress) × (account edition m p r ≡ some q) × (broken edition m q (suc i) rs ≡ none)
-    go none f = absurd (some-ne-none i (rw (f, broken) at e))
-    go (some q) f = (q, f, sym (broken_next edition m p r q f i rs) ∙ e)
+    go : (o : Option Progress) → account edition m p r ≡ o → (q : Progress) × (account edition m p r ≡ Some q) × (broken edition m q (suc i) rs ≡ None)
+    go None f = absurd (some-ne-none i (rw (f, broken) at e))
+    go (Some q) f = (q, f, sym (broken_next edition m p r q f i rs) ∙ e)

@@ -4,7 +4,7 @@ use mathlib.Core.Path.{◌≡◌}
 use mathlib.Core.List.{List, [], ◌∷◌}
 use lib.Dec.{leb}
 use Rattle.model.specs.Limits.{device_limit, window_limit, size_limit}
-use Rattle.model.specs.First.{unless}
+use Rattle.model.specs.First.{unless, Reading}
 use Rattle.model.specs.Guard.{Guard, always, at_most, at_least, variable, negation, conjunction}
 use Rattle.model.specs.Rule.{Rule}
 use Rattle.model.specs.Monitor.{Monitor, under}
@@ -14,8 +14,7 @@ use Rattle.model.specs.Table.{monitor_at}
 use Rattle.model.specs.Recording.{recording_answer, packets_at, SoundRecording}
 use Rattle.model.specs.Ruled.{monitor_under, rule_answer, ruled_answer, SoundUnder}
 use Rattle.model.specs.Sane.{Closed, Sane, SaneRecording}
-use Rattle.model.specs.declared.Reading.{Reading}
-use Rattle.model.specs.declared.Reading.TheVariants.{Sound}
+use Rattle.std.specs.Prelude.{Ok}
 use Rattle.model.specs.declared.Refusal.TheVariants.{RuleRange, RuleSize}
 use Rattle.model.proofs.Tests.{test, le_test}
 use Rattle.model.proofs.TableForm.{sane_table}
@@ -29,7 +28,7 @@ pub record RuleFacts (m : Monitor) : Type 0 where
   pub most : m.rule.most ≤ m.rule.window
   pub small : size m ≤ size_limit
 
-pub rule_facts : (m : Monitor) → rule_answer m ≡ Sound → RuleFacts m
+pub rule_facts : (m : Monitor) → rule_answer m ≡ Ok tt → RuleFacts m
 unfolding rule_answer
 rule_facts m e =
     let all : List Reading =

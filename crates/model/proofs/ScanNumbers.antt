@@ -9,14 +9,13 @@ use lib.Dec.{leb, ltb, eqb}
 use borrow.Author.Tests.{ltb-true}
 use Rattle.model.specs.Limits.{table_versions}
 use Rattle.model.specs.Bytes.{byte_at, tab}
-use Rattle.model.specs.First.{unless, and_then, first_of}
+use Rattle.model.specs.First.{unless, and_then, first_of, Reading}
 use Rattle.model.specs.Frame.{framed}
 use Rattle.model.specs.Table.{states_at, variables_at, clocks_at, counts_of, kind_records, transition_fields, guard_record, transition_record, transition_records, kinds_at, transitions_at, guard_length_at, transition_at, device_column, scan_with, table_scan}
 use Rattle.model.specs.Kinds.{version_at, kind_at, kind_record}
 use Rattle.model.specs.Numbers.{refusal_values, reading_values}
 use Rattle.model.specs.declared.Edition.TheVariants.{One}
-use Rattle.model.specs.declared.Reading.{Reading}
-use Rattle.model.specs.declared.Reading.TheVariants.{Sound, Unsound}
+use Rattle.std.specs.Prelude.{Ok, Err}
 use Rattle.model.specs.declared.Refusal.{Refusal}
 use Rattle.model.specs.declared.Refusal.TheVariants.{TableFrame, TableVersion, TableLength, TableState}
 use Rattle.model.proofs.Basics.{and_left, and_right}
@@ -28,15 +27,15 @@ use Rattle.model.proofs.TableForm.{count_tests, field_tests, guard_tests}
 pub record Earlier (x : Reading) : Type 0 where
   pub number : (reading_values x).number < 17
 
-none_earlier : Earlier Sound
+none_earlier : Earlier (Ok tt)
 none_earlier = record { number = omega arith }
 
 then_earlier : {x y : Reading} → Earlier x → Earlier y → Earlier (and_then x y)
 then_earlier {x} {y} p q = go x p
   where
     go : (x : Reading) → Earlier x → Earlier (and_then x y)
-    go Sound h = q
-    go (Unsound r) h = h
+    go (Ok _) h = q
+    go (Err r) h = h
 
 pub unless_earlier : (t : Bool) (r : Refusal) → ltb (refusal_values r).number 17 ≡ true → Earlier (unless t r)
 unless_earlier true r h = none_earlier
@@ -83,7 +82,7 @@ scan_earlier b =
     (then_earlier (transitions_earlier (transitions_at b) b (transition_at b 0)) none_earlier)))
 
 -- an earlier number goes before 17
-pub behind_earlier : (x y : Reading) (s : ℕ) → Earlier x → first_of (x ∷ y ∷ []) ≡ Unsound (TableState s) → (x ≡ Sound) × (y ≡ Unsound (TableState s))
-behind_earlier (Unsound r) y s h e = absurd (omega (arith, h.number, ap (λ (w : Reading). (reading_values w).number) e))
-behind_earlier Sound (Unsound r) s h e = (refl, e)
-behind_earlier Sound Sound s h e = (refl, e)
+pub behind_earlier : (x y : Reading) (s : ℕ) → Earlier x → first_of (x ∷ y ∷ []) ≡ Err (TableState s) → (x ≡ Ok tt) × (y ≡ Err (TableState s))
+behind_earlier (Err r) y s h e = absurd (omega (arith, h.number, ap (λ (w : Reading). (reading_values w).number) e))
+behind_earlier (Ok _) (Err r) s h e = (refl, e)
+behind_earlier (Ok _) (Ok _) s h e = (refl, e)

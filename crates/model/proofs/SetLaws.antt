@@ -6,7 +6,7 @@ use native.Mathlib.Decide.{ℕ_discrete}
 use mathlib.Core.Path.{◌≡◌, refl, sym, ◌∙◌}
 use mathlib.Core.List.{List, [], ◌∷◌}
 use mathlib.Core.Bool.{Bool, true, false, false≢true}
-use mathlib.Core.Option.{Option, none, some}
+use Rattle.std.specs.Prelude.{Option, Some, None}
 use mathlib.Core.Logic.{◌⊎◌, inl, inr, ◌↔◌}
 use lib.ListN.{length, get_or, set, replicate, length-set}
 use lib.Seq.{get_or-set_same, get_or-set_other}
@@ -49,28 +49,28 @@ count_member s z e = go (eq-zero-or-pos (count s))
     go (inr c) = c
 
 pub length-mark : (s : List Bool) (o : Option ℕ) → length (mark s o) ≡ length s
-length-mark s none = refl
-length-mark s (some n) = length-set s n true
+length-mark s None = refl
+length-mark s (Some n) = length-set s n true
 
 pub mark_member : (s : List Bool) (o : Option ℕ) (z : ℕ)
-    → (get_or (mark s o) z false ≡ true) ↔ ((get_or s z false ≡ true) ⊎ ((o ≡ some z) × (z < length s)))
-mark_member s none z = (inl, back)
+    → (get_or (mark s o) z false ≡ true) ↔ ((get_or s z false ≡ true) ⊎ ((o ≡ Some z) × (z < length s)))
+mark_member s None z = (inl, back)
   where
-    back : (get_or s z false ≡ true) ⊎ ((none ≡ some z) × (z < length s)) → get_or s z false ≡ true
+    back : (get_or s z false ≡ true) ⊎ ((None ≡ Some z) × (z < length s)) → get_or s z false ≡ true
     back (inl e) = e
     back (inr e) = cc e.0
-mark_member s (some n) z = at (ℕ_discrete z n)
+mark_member s (Some n) z = at (ℕ_discrete z n)
   where
-    at : Dec (z ≡ n) → (get_or (set s n true) z false ≡ true) ↔ ((get_or s z false ≡ true) ⊎ ((some n ≡ some z) × (z < length s)))
+    at : Dec (z ≡ n) → (get_or (set s n true) z false ≡ true) ↔ ((get_or s z false ≡ true) ⊎ ((Some n ≡ Some z) × (z < length s)))
     at (yes p) = (there, back)
       where
-        there : get_or (set s n true) z false ≡ true → (get_or s z false ≡ true) ⊎ ((some n ≡ some z) × (z < length s))
+        there : get_or (set s n true) z false ≡ true → (get_or s z false ≡ true) ⊎ ((Some n ≡ Some z) × (z < length s))
         there e = inr (cc, omega (arith, member_within (set s n true) z e, length-set s n true))
 
         same : z < length s → get_or (set s n true) z false ≡ true
         same l = rw p (get_or-set_same s n true false (omega arith))
 
-        back : (get_or s z false ≡ true) ⊎ ((some n ≡ some z) × (z < length s)) → get_or (set s n true) z false ≡ true
+        back : (get_or s z false ≡ true) ⊎ ((Some n ≡ Some z) × (z < length s)) → get_or (set s n true) z false ≡ true
         back (inl e) = same (member_within s z e)
         back (inr e) = same e.1
     at (no p) = (there, back)
@@ -78,16 +78,16 @@ mark_member s (some n) z = at (ℕ_discrete z n)
         other : get_or (set s n true) z false ≡ get_or s z false
         other = get_or-set_other s n z true false p
 
-        there : get_or (set s n true) z false ≡ true → (get_or s z false ≡ true) ⊎ ((some n ≡ some z) × (z < length s))
+        there : get_or (set s n true) z false ≡ true → (get_or s z false ≡ true) ⊎ ((Some n ≡ Some z) × (z < length s))
         there e = inl (sym other ∙ e)
 
-        back : (get_or s z false ≡ true) ⊎ ((some n ≡ some z) × (z < length s)) → get_or (set s n true) z false ≡ true
+        back : (get_or s z false ≡ true) ⊎ ((Some n ≡ Some z) × (z < length s)) → get_or (set s n true) z false ≡ true
         back (inl e) = other ∙ e
         back (inr e) = let q : z ≡ n = cc e.0 in absurd (p q)
 
-pub leads_into_member : (s : List Bool) (o : Option ℕ) → (leads_into s o ≡ true) ↔ ((x : ℕ) × (o ≡ some x) × (get_or s x false ≡ true))
-leads_into_member s none = (λ e. absurd (false≢true e), λ w. cc w.1)
-leads_into_member s (some n) = (λ e. (n, refl, e), λ w. let p : n ≡ w.0 = cc w.1 in rw p w.2)
+pub leads_into_member : (s : List Bool) (o : Option ℕ) → (leads_into s o ≡ true) ↔ ((x : ℕ) × (o ≡ Some x) × (get_or s x false ≡ true))
+leads_into_member s None = (λ e. absurd (false≢true e), λ w. cc w.1)
+leads_into_member s (Some n) = (λ e. (n, refl, e), λ w. let p : n ≡ w.0 = cc w.1 in rw p w.2)
 
 -- r is the first of t, t + 1, .. (n of them) at which the test passes, or t + n
 pub record FirstOf (test : ℕ → Bool) (n t r : ℕ) : Type 0 where

@@ -6,13 +6,13 @@ use native.Mathlib.Omega.{arith}
 use mathlib.Core.Path.{◌≡◌, refl, sym, ap, subst, ◌∙◌}
 use mathlib.Core.List.{List, [], ◌∷◌}
 use mathlib.Core.Bool.{Bool, true}
-use mathlib.Core.Option.{some}
+use Rattle.std.specs.Prelude.{Some, Ok}
 use lib.ListN.{length, take, drop, length-take, length-drop}
 use lib.Seq.{length-take-le}
 use lib.Dec.{leb, ltb}
 use Rattle.model.specs.Limits.{table_versions, state_limit, variable_limit, clock_limit, kind_limit, transition_limit, guard_limit, size_limit}
 use Rattle.model.specs.Bytes.{byte_at, tab, joined}
-use Rattle.model.specs.First.{unless, first_of}
+use Rattle.model.specs.First.{unless, first_of, Reading}
 use Rattle.model.specs.Frame.{framed}
 use Rattle.model.specs.Guard.{up_to, guard_at, ends_at, guard_of}
 use Rattle.model.specs.Kinds.{version_at, kind_at, kind_record}
@@ -21,11 +21,10 @@ use Rattle.model.specs.Monitor.{Transition}
 use Rattle.model.specs.Size.{table_size, size}
 use Rattle.model.specs.Reach.{states_answer}
 use Rattle.model.specs.Table.{guard_in, transition_in, monitor_of, states_at, variables_at, clocks_at, kinds_at, transitions_at, table_counts, counts_of, kind_records, apart, guard_length_at, transition_fields, guard_record, transition_record, transition_records, transition_at, guard_place, device_column, table_parts, scan_with, table_scan, whole_answer, answer_with, table_answer, SoundTable, monitor_at}
-use Rattle.model.specs.declared.Reading.{Reading}
-use Rattle.model.specs.declared.Reading.TheVariants.{Sound}
 use Rattle.model.specs.declared.Refusal.{Refusal}
 use Rattle.model.specs.declared.Refusal.TheVariants.{TableFrame, TableVersion, TableCount, TableLength, TableField, TableGuard, TableSize}
-use Rattle.model.proofs.Basics.{unless-sound, length-tab, get_elem_tab, get_elem_within}
+use Rattle.model.proofs.Basics.{unless-sound, length-tab, get_elem_tab}
+use Rattle.std.proofs.lemmas.Option.{slice_get_within}
 use Rattle.model.specs.Sane.{Sane, SaneTransition}
 use Rattle.model.specs.declared.Edition.TheVariants.{One}
 use Rattle.model.proofs.Tests.{test, le_test, lt_test, eq_test, tests, Framed, framed_facts, passed_each}
@@ -54,7 +53,7 @@ count_tests states variables clocks kinds transitions =
     ∷ (leb transitions transition_limit, TableCount 7)
     ∷ []
 
-counts : (b : List ℕ) → table_counts b ≡ Sound → SoundCounts b
+counts : (b : List ℕ) → table_counts b ≡ Ok tt → SoundCounts b
 unfolding counts_of
 counts b e =
     let l : List Reading = tests (count_tests (states_at b) (variables_at b) (clocks_at b) (kinds_at b) (transitions_at b)) in
@@ -77,7 +76,7 @@ pub record SoundTransition (b : List ℕ) (at : ℕ) : Type 0 where
   pub clears : byte_at b (at + 4) < 2 ^ variables_at b
   pub resets : byte_at b (at + 5) < 2 ^ clocks_at b
   pub disjoint : apart (variables_at b) (byte_at b (at + 3)) (byte_at b (at + 4)) ≡ true
-  pub some : 1 ≤ guard_length_at b at
+  pub Some : 1 ≤ guard_length_at b at
   pub few : guard_length_at b at ≤ guard_limit
   pub fits : at + 7 + guard_length_at b at ≤ length b
   pub guard : ends_at (guard_at guard_limit (variables_at b) (clocks_at b) b (at + 7) (at + 7 + guard_length_at b at)) (at + 7 + guard_length_at b at) ≡ true
@@ -101,7 +100,7 @@ guard_tests b at =
     ∷ (ends_at (guard_at guard_limit (variables_at b) (clocks_at b) b (at + 7) (at + 7 + guard_length_at b at)) (at + 7 + guard_length_at b at), TableGuard at)
     ∷ []
 
-pub sound-transition : (b : List ℕ) (at : ℕ) → transition_record b at ≡ Sound → SoundTransition b at
+pub sound-transition : (b : List ℕ) (at : ℕ) → transition_record b at ≡ Ok tt → SoundTransition b at
 unfolding transition_record transition_fields guard_record
 sound-transition b at e =
     let parsed : Bool = ends_at (guard_at guard_limit (variables_at b) (clocks_at b) b (at + 7) (at + 7 + guard_length_at b at)) (at + 7 + guard_length_at b at) in
@@ -114,8 +113,8 @@ sound-transition b at e =
     in
     let guards : List Reading = tests (guard_tests b at) in
     let fields : List Reading = tests (field_tests b at) in
-    let f : first_of fields ≡ Sound = test l e 1 in
-    let g : first_of guards ≡ Sound = test l e 2 in
+    let f : first_of fields ≡ Ok tt = test l e 1 in
+    let g : first_of guards ≡ Ok tt = test l e 2 in
     record {
       source = lt_test _ _ (TableField at) (test fields f 0);
       target = lt_test _ _ (TableField at) (test fields f 1);
@@ -124,7 +123,7 @@ sound-transition b at e =
       clears = lt_test _ _ (TableField at) (test fields f 4);
       resets = lt_test _ _ (TableField at) (test fields f 5);
       disjoint = unless-sound separate (TableField at) (test fields f 6);
-      some = le_test _ _ (TableGuard at) (test guards g 0);
+      Some = le_test _ _ (TableGuard at) (test guards g 0);
       few = le_test _ _ (TableGuard at) (test guards g 1);
       fits = le_test _ _ (TableLength at) (test guards g 2);
       guard = unless-sound parsed (TableGuard at) (test guards g 3);
@@ -133,18 +132,18 @@ sound-transition b at e =
 -- every transition record from number i on
 
 transitions-sound :
-    (n : ℕ) (b : List ℕ) (i j : ℕ) → transition_records n b (transition_at b i) ≡ Sound → i ≤ j → j < i + n → SoundTransition b (transition_at b j)
+    (n : ℕ) (b : List ℕ) (i j : ℕ) → transition_records n b (transition_at b i) ≡ Ok tt → i ≤ j → j < i + n → SoundTransition b (transition_at b j)
 unfolding transition_records transition_at
 transitions-sound zero b i j e p q = absurd (omega arith)
 transitions-sound (suc n) b i j e p q =
     let l : List Reading = transition_record b (transition_at b i) ∷ transition_records n b (transition_at b (suc i)) ∷ [] in
     split (ℕ_discrete i j) (test l e 0) (λ r. transitions-sound n b (suc i) j (test l e 1) r (omega arith))
   where
-    split : Dec (i ≡ j) → transition_record b (transition_at b i) ≡ Sound → (suc i ≤ j → SoundTransition b (transition_at b j)) → SoundTransition b (transition_at b j)
+    split : Dec (i ≡ j) → transition_record b (transition_at b i) ≡ Ok tt → (suc i ≤ j → SoundTransition b (transition_at b j)) → SoundTransition b (transition_at b j)
     split (yes s) here again = sound-transition b (transition_at b j) (ap (λ (x : ℕ). transition_record b (transition_at b x)) (sym s) ∙ here)
     split (no s) here again = again (omega arith)
 
-transitions-end : (n : ℕ) (b : List ℕ) (i : ℕ) → transition_records n b (transition_at b i) ≡ Sound → transition_at b (i + n) ≡ length b
+transitions-end : (n : ℕ) (b : List ℕ) (i : ℕ) → transition_records n b (transition_at b i) ≡ Ok tt → transition_at b (i + n) ≡ length b
 unfolding transition_records transition_at
 transitions-end zero b i e = ap (λ (x : ℕ). transition_at b x) (add-zero i) ∙ eq_test (transition_at b i) (length b) (TableLength (transition_at b i)) e
 transitions-end (suc n) b i e =
@@ -168,7 +167,7 @@ scan_tests devices b =
     ∷ transition_records (transitions_at b) b (transition_at b 0)
     ∷ []
 
-pub scan_facts : (devices b : List ℕ) → scan_with devices b ≡ Sound → TableFacts devices b
+pub scan_facts : (devices b : List ℕ) → scan_with devices b ≡ Ok tt → TableFacts devices b
 unfolding scan_with kind_records
 scan_facts devices b s =
     let l : List Reading = scan_tests devices b in
@@ -181,7 +180,7 @@ scan_facts devices b s =
       end = ap (λ (x : ℕ). transition_at b x) (sym (zero-add (transitions_at b))) ∙ transitions-end (transitions_at b) b 0 (test l s 3);
     }
 
-pub scan_sound : (devices b : List ℕ) → answer_with devices b ≡ Sound → scan_with devices b ≡ Sound
+pub scan_sound : (devices b : List ℕ) → answer_with devices b ≡ Ok tt → scan_with devices b ≡ Ok tt
 unfolding answer_with
 scan_sound devices b e = let l : List Reading = scan_with devices b ∷ whole_answer (monitor_at b) ∷ [] in test l e 0
 
@@ -288,8 +287,8 @@ sane_table b s =
       clocks = counts.clocks;
       few = rw n counts.transitions;
       transition = λ j t e.
-          let h : j < transitions_at b = rw n at (get_elem_within (tab (transition_in (table_parts b)) (transitions_at b)) j t e) in
-          let f : some (transition_in (table_parts b) j) ≡ some t = sym (get_elem_tab (transition_in (table_parts b)) (transitions_at b) j h) ∙ e in
+          let h : j < transitions_at b = rw n at (slice_get_within (tab (transition_in (table_parts b)) (transitions_at b)) j t e) in
+          let f : Some (transition_in (table_parts b) j) ≡ Some t = sym (get_elem_tab (transition_in (table_parts b)) (transitions_at b) j h) ∙ e in
           let same : transition_in (table_parts b) j ≡ t = cc in
           subst (λ (x : Transition). SaneTransition (monitor_at b) x) same (sane-transition b facts j h);
       window = omega arith;

@@ -7,15 +7,14 @@ use mathlib.Core.Bool.{Bool, true, false, false≢true}
 use lib.Dec.{leb}
 use borrow.Author.Tests.{le-leb}
 use Rattle.model.specs.Limits.{size_limit}
-use Rattle.model.specs.First.{unless, first_of}
+use Rattle.model.specs.First.{unless, first_of, Reading}
 use Rattle.model.specs.Monitor.{Monitor}
 use Rattle.model.specs.Reach.{Reached, LowestUnreached, StatesJudged, is_reached, lowest_missing, states_answer}
 use Rattle.model.specs.Size.{table_size}
 use Rattle.model.specs.Table.{table_parts, table_scan, whole_answer, answer_with, table_answer, monitor_of, monitor_at}
 use Rattle.model.specs.Numbers.{reading_values}
 use Rattle.model.specs.Answers.{SoundButStates, RefusesUnreached}
-use Rattle.model.specs.declared.Reading.{Reading}
-use Rattle.model.specs.declared.Reading.TheVariants.{Sound, Unsound}
+use Rattle.std.specs.Prelude.{Ok, Err}
 use Rattle.model.specs.declared.Refusal.TheVariants.{TableSize, TableState}
 use Rattle.model.proofs.Tests.{le_test, test}
 use Rattle.model.proofs.Reaching.{reached_test}
@@ -40,7 +39,7 @@ module _ (m : Monitor) where
         refused = λ s. (lowest s, λ u. one_missing (is_reached m) n s u.state (λ r l. (reached_test m r).0 (u.lower r l)) (unfound s u.unreached));
       }
     where
-      lowest : (s : ℕ) → lowest_missing (is_reached m) m.states ≡ Unsound (TableState s) → LowestUnreached m s
+      lowest : (s : ℕ) → lowest_missing (is_reached m) m.states ≡ Err (TableState s) → LowestUnreached m s
       lowest s e =
           let w = missing_one (is_reached m) m.states s e in
           record { state = w.0; unreached = λ r. false≢true (sym w.1 ∙ (reached_test m s).0 r); lower = λ r l. (reached_test m r).1 (w.2 r l) }
@@ -62,18 +61,18 @@ module _ (b : List ℕ) where
 
   -- what is asked of the states is asked last
 
-  sound-last : (table_answer b ≡ Sound) ↔ (SoundButStates b × (states ≡ Sound))
+  sound-last : (table_answer b ≡ Ok tt) ↔ (SoundButStates b × (states ≡ Ok tt))
   unfolding table_answer answer_with table_scan whole_answer
   sound-last = (there, λ w. rw (w.0.0, le-leb (table_size (monitor_at b)) size_limit w.0.1, w.1))
     where
-      there : first_of all ≡ Sound → SoundButStates b × (states ≡ Sound)
-      there e = let w : first_of whole ≡ Sound = test all e 1 in ((test all e 0, le_test _ _ TableSize (test whole w 0)), test whole w 1)
+      there : first_of all ≡ Ok tt → SoundButStates b × (states ≡ Ok tt)
+      there e = let w : first_of whole ≡ Ok tt = test all e 1 in ((test all e 0, le_test _ _ TableSize (test whole w 0)), test whole w 1)
 
-  refused-last : (s : ℕ) → (table_answer b ≡ Unsound (TableState s)) ↔ (SoundButStates b × (states ≡ Unsound (TableState s)))
+  refused-last : (s : ℕ) → (table_answer b ≡ Err (TableState s)) ↔ (SoundButStates b × (states ≡ Err (TableState s)))
   unfolding table_answer answer_with table_scan whole_answer
   refused-last s = (there, λ w. rw (w.0.0, le-leb (table_size (monitor_at b)) size_limit w.0.1, w.1))
     where
-      there : first_of all ≡ Unsound (TableState s) → SoundButStates b × (states ≡ Unsound (TableState s))
+      there : first_of all ≡ Err (TableState s) → SoundButStates b × (states ≡ Err (TableState s))
       there e =
           let scanned = behind_earlier (table_scan b) (first_of whole) s (scan_earlier b) e in
           let last = behind_earlier sized states s (unless_earlier (leb (table_size (monitor_at b)) size_limit) TableSize refl) scanned.1 in

@@ -15,7 +15,7 @@ use Rattle.model.specs.Rule.{no_rule}
 use Rattle.model.specs.Table.{guard_in, transition_in, monitor_of, monitor_at, kinds_at, transitions_at, guard_length_at, transition_at, guard_place, table_parts, SoundTable, kind_records, scan_with, answer_with, table_answer, table_writable, kind_column, device_column, transition_column, field_bytes, guard_bytes_in, transition_bytes, count_bytes, table_body, table_bytes}
 use Rattle.model.specs.Kinds.{version_at, kind_width, kind_at, device_at, kind_record, kind_fields, kind_bytes}
 use Rattle.model.specs.Same.{Zero, SameTable, TableZero}
-use Rattle.model.specs.declared.Reading.TheVariants.{Sound}
+use Rattle.std.specs.Prelude.{Ok}
 use Rattle.model.specs.declared.TableParts.{TableParts}
 use Rattle.model.proofs.Places.{AllBytes, Stands, stands-append, stands-left, stands-right, stands-moved, stands_self, stands-whole, word_at_lem, length-padded, get_or_padded_past, get_or_column, get_or_column_past, stands-joined, joined-stands, tab-same, tab-alike}
 use Rattle.model.proofs.KindForm.{two_or_three, kind-length, kinds-length, kind_byte, device_byte, device-back}
@@ -281,14 +281,14 @@ devices-same d e b same =
     let kinds = tab-same (λ i. kind_record b (at i) (byte_at d i)) (λ i. kind_record b (at i) (byte_at e i)) (kinds_at b) (λ i h. ap (kind_record b (at i)) (same i h)) in
     rw kinds
 
-pub sound_back : (t : TableParts) → length t.guards ≡ guard_limit * transition_limit → table_writable t ≡ Sound → SoundTable (table_bytes t)
+pub sound_back : (t : TableParts) → length t.guards ≡ guard_limit * transition_limit → table_writable t ≡ Ok tt → SoundTable (table_bytes t)
 unfolding table_answer
 sound_back t full s =
     let facts : TableFacts t.devices (table_bytes t) = scan_facts t.devices (table_bytes t) (scan_sound t.devices (table_bytes t) s) in
     let n : kinds_at (table_bytes t) ≡ t.kinds = written-counts t 4 (omega arith) in
     devices-same (device_column (table_bytes t)) t.devices (table_bytes t) (λ i h. back-device t full facts i (rw n at h)) ∙ s
 
-pub table_back_lem : (t : TableParts) → length t.guards ≡ guard_limit * transition_limit → scan_with t.devices (table_bytes t) ≡ Sound → SameTable (table_parts (table_bytes t)) t
+pub table_back_lem : (t : TableParts) → length t.guards ≡ guard_limit * transition_limit → scan_with t.devices (table_bytes t) ≡ Ok tt → SameTable (table_parts (table_bytes t)) t
 unfolding table_parts
 table_back_lem t full s =
     let facts : TableFacts t.devices (table_bytes t) = scan_facts t.devices (table_bytes t) s in
@@ -356,5 +356,5 @@ module _ (t u : TableParts) (same : SameTable t u) (few : (j : ℕ) → j < u.tr
         rule = no_rule;
       }
 
-pub monitor_back : (t : TableParts) → length t.guards ≡ guard_limit * transition_limit → scan_with t.devices (table_bytes t) ≡ Sound → monitor_at (table_bytes t) ≡ monitor_of t
+pub monitor_back : (t : TableParts) → length t.guards ≡ guard_limit * transition_limit → scan_with t.devices (table_bytes t) ≡ Ok tt → monitor_at (table_bytes t) ≡ monitor_of t
 monitor_back t full s = same_monitor (table_parts (table_bytes t)) t (table_back_lem t full s) (back-few t full (scan_facts t.devices (table_bytes t) s))

@@ -9,28 +9,27 @@ use lib.ListN.{length, get_or}
 use lib.Dec.{leb, ltb, eqb}
 use borrow.Author.Tests.{leb-true, ltb-true, eqb-true}
 use Rattle.model.specs.Bytes.{byte_at, tab}
-use Rattle.model.specs.First.{unless, and_then, first_of}
+use Rattle.model.specs.First.{unless, and_then, first_of, Reading}
 use Rattle.model.specs.Edition.{size_width, size_at, version_of, version_place, count_place, rows_place}
 use Rattle.model.specs.Frame.{is_version, framed, rows_size, framed_rows}
 use Rattle.model.specs.declared.Edition.{Edition}
 use Rattle.model.specs.declared.Refusal.{Refusal}
-use Rattle.model.specs.declared.Reading.{Reading}
-use Rattle.model.specs.declared.Reading.TheVariants.{Sound, Unsound}
+use Rattle.std.specs.Prelude.{Ok, Err}
 use Rattle.model.proofs.Basics.{and_left, and_right, unless-sound, and_then-left, and_then-right, get_or-tab}
 
 -- test number i, counted from 0
-pub test : (l : List Reading) → first_of l ≡ Sound → (i : ℕ) → get_or l i Sound ≡ Sound
+pub test : (l : List Reading) → first_of l ≡ Ok tt → (i : ℕ) → get_or l i (Ok tt) ≡ Ok tt
 test [] e i = refl
 test (x ∷ l) e zero = and_then-left x (first_of l) e
 test (x ∷ l) e (suc i) = test l (and_then-right x (first_of l) e) i
 
-pub le_test : (a b : ℕ) (r : Refusal) → unless (leb a b) r ≡ Sound → a ≤ b
+pub le_test : (a b : ℕ) (r : Refusal) → unless (leb a b) r ≡ Ok tt → a ≤ b
 le_test a b r e = leb-true a b (unless-sound (leb a b) r e)
 
-pub lt_test : (a b : ℕ) (r : Refusal) → unless (ltb a b) r ≡ Sound → a < b
+pub lt_test : (a b : ℕ) (r : Refusal) → unless (ltb a b) r ≡ Ok tt → a < b
 lt_test a b r e = ltb-true a b (unless-sound (ltb a b) r e)
 
-pub eq_test : (a b : ℕ) (r : Refusal) → unless (eqb a b) r ≡ Sound → a ≡ b
+pub eq_test : (a b : ℕ) (r : Refusal) → unless (eqb a b) r ≡ Ok tt → a ≡ b
 eq_test a b r e = eqb-true a b (unless-sound (eqb a b) r e)
 
 -- a test is a condition and the refusal where it fails
@@ -53,7 +52,7 @@ pub record Framed (edition : Edition) (b : List ℕ) (least oldest latest : ℕ)
   pub numbered : oldest ≤ byte_at b (version_place edition)
   pub known : byte_at b (version_place edition) ≤ latest
 
-pub framed_facts : (edition : Edition) (b : List ℕ) (least oldest latest : ℕ) (f v : Refusal) → framed edition b least oldest latest f v ≡ Sound
+pub framed_facts : (edition : Edition) (b : List ℕ) (least oldest latest : ℕ) (f v : Refusal) → framed edition b least oldest latest f v ≡ Ok tt
     → Framed edition b least oldest latest
 unfolding framed
 framed_facts edition b least oldest latest f v e =
@@ -74,7 +73,7 @@ pub record FramedRows (edition : Edition) (b : List ℕ) (width limit : ℕ) : T
   pub count : size_at edition b (count_place edition) ≤ limit
   pub sized : size_at edition b 0 ≡ rows_size edition width (size_at edition b (count_place edition))
 
-pub rows_facts : (edition : Edition) (b : List ℕ) (width limit : ℕ) (f v c : Refusal) → framed_rows edition b width limit f v c ≡ Sound → FramedRows edition b width limit
+pub rows_facts : (edition : Edition) (b : List ℕ) (width limit : ℕ) (f v c : Refusal) → framed_rows edition b width limit f v c ≡ Ok tt → FramedRows edition b width limit
 unfolding framed_rows
 rows_facts edition b width limit f v c e =
     let l : List Reading =
@@ -93,47 +92,47 @@ rows_facts edition b width limit f v c e =
       sized = eq_test _ _ c (test l e 2);
     }
 
-pub sound_unsound : (r : Refusal) → Sound ≡ Unsound r → ⊥
+pub sound_unsound : (r : Refusal) → ◌≡◌ {A = Reading} (Ok tt) (Err r) → ⊥
 sound_unsound r e = let z : ◌≡◌ {A = ℕ} 0 1 = cc in omega arith
 
-pub then_sound : (x : Reading) → and_then x Sound ≡ x
-then_sound Sound = refl
-then_sound (Unsound r) = refl
+pub then_sound : (x : Reading) → and_then x (Ok tt) ≡ x
+then_sound (Ok _) = refl
+then_sound (Err r) = refl
 
 -- tests one behind the other, by number
 
 pub first-last : (l : List Reading) (x : Reading) → first_of (l ++ (x ∷ [])) ≡ and_then (first_of l) x
-first-last [] Sound = refl
-first-last [] (Unsound r) = refl
-first-last (Sound ∷ l) x = first-last l x
-first-last (Unsound r ∷ l) x = refl
+first-last [] (Ok _) = refl
+first-last [] (Err r) = refl
+first-last ((Ok _) ∷ l) x = first-last l x
+first-last (Err r ∷ l) x = refl
 
 module _ (f : ℕ → Reading) where
-  pub first_passed : (n : ℕ) → ((i : ℕ) → i < n → f i ≡ Sound) → first_of (tab f n) ≡ Sound
+  pub first_passed : (n : ℕ) → ((i : ℕ) → i < n → f i ≡ Ok tt) → first_of (tab f n) ≡ Ok tt
   unfolding tab
   first_passed zero h = refl
   first_passed (suc n) h = first-last (tab f n) (f n) ∙ rw (first_passed n (λ i l. h i (omega arith)), h n (omega arith))
 
-  pub first-refused : (n i : ℕ) (r : Refusal) → i < n → ((k : ℕ) → k < i → f k ≡ Sound) → f i ≡ Unsound r → first_of (tab f n) ≡ Unsound r
+  pub first-refused : (n i : ℕ) (r : Refusal) → i < n → ((k : ℕ) → k < i → f k ≡ Ok tt) → f i ≡ Err r → first_of (tab f n) ≡ Err r
   unfolding tab
   first-refused zero i r l h e = absurd (omega arith)
   first-refused (suc n) i r l h e = first-last (tab f n) (f n) ∙ go (dec_lt i n) (λ k. first-refused n i r k h e)
     where
-      go : Dec (i < n) → (i < n → first_of (tab f n) ≡ Unsound r) → and_then (first_of (tab f n)) (f n) ≡ Unsound r
+      go : Dec (i < n) → (i < n → first_of (tab f n) ≡ Err r) → and_then (first_of (tab f n)) (f n) ≡ Err r
       go (yes k) again = rw (again k)
       go (no k) again = let q : i ≡ n = omega arith in rw (first_passed n (λ j p. h j (omega arith)), ← q, e)
 
-  pub passed_each : (n : ℕ) → first_of (tab f n) ≡ Sound → (i : ℕ) → i < n → f i ≡ Sound
-  passed_each n e i l = sym (get_or-tab f Sound n i l) ∙ test (tab f n) e i
+  pub passed_each : (n : ℕ) → first_of (tab f n) ≡ Ok tt → (i : ℕ) → i < n → f i ≡ Ok tt
+  passed_each n e i l = sym (get_or-tab f (Ok tt) n i l) ∙ test (tab f n) e i
 
-  pub refused_which : (n : ℕ) (r : Refusal) → first_of (tab f n) ≡ Unsound r → (i : ℕ) × (i < n) × ((k : ℕ) → k < i → f k ≡ Sound) × (f i ≡ Unsound r)
+  pub refused_which : (n : ℕ) (r : Refusal) → first_of (tab f n) ≡ Err r → (i : ℕ) × (i < n) × ((k : ℕ) → k < i → f k ≡ Ok tt) × (f i ≡ Err r)
   unfolding tab
   refused_which zero r e = absurd (sound_unsound r e)
   refused_which (suc n) r e = go (first_of (tab f n)) refl (λ h. refused_which n r h) (sym (first-last (tab f n) (f n)) ∙ e)
     where
       Which : ℕ → Type 0
-      Which n = (i : ℕ) × (i < n) × ((k : ℕ) → k < i → f k ≡ Sound) × (f i ≡ Unsound r)
+      Which n = (i : ℕ) × (i < n) × ((k : ℕ) → k < i → f k ≡ Ok tt) × (f i ≡ Err r)
 
-      go : (x : Reading) → first_of (tab f n) ≡ x → (first_of (tab f n) ≡ Unsound r → Which n) → and_then x (f n) ≡ Unsound r → Which (suc n)
-      go Sound p again h = (n, omega arith, passed_each n p, h)
-      go (Unsound q) p again h = let w : Which n = again (p ∙ h) in (w.0, omega (arith, w.1), w.2, w.3)
+      go : (x : Reading) → first_of (tab f n) ≡ x → (first_of (tab f n) ≡ Err r → Which n) → and_then x (f n) ≡ Err r → Which (suc n)
+      go (Ok _) p again h = (n, omega arith, passed_each n p, h)
+      go (Err q) p again h = let w : Which n = again (p ∙ h) in (w.0, omega (arith, w.1), w.2, w.3)

@@ -7,7 +7,10 @@ use mathlib.Core.Path.{◌≡◌, refl, sym, ap, subst, ◌∙◌}
 use mathlib.Core.List.Memᴰ
 use mathlib.Core.List.{List, [], ◌∷◌, map-map, map-id, Memᴰ}
 use mathlib.Core.Bool.{Bool, true, false, not, ◌&&◌, ◌||◌}
-use mathlib.Core.Option.{Option, none, some, map, bind, none-ne-some, some-ne-none, some-injective}
+use Rattle.std.specs.Prelude.{Option, Some, None}
+use Rattle.std.specs.Option.{option_map}
+use Rattle.std.proofs.lemmas.Option.{none-some, same_Some}
+use Rattle.model.proofs.Options.{some-ne-none}
 use mathlib.Core.Logic.{◌↔◌, ◌⊎◌, inl, inr, ⊎_elim}
 use lib.ListN.{length}
 use lib.Dec.{eqb}
@@ -27,37 +30,37 @@ use Rattle.model.proofs.Spacing.{TraceFrom, free_after, trace-from, from_earlier
 
 -- what is recorded at an instant is in the recording
 
-pub recorded_member : (recording : List Packet) (t k : ℕ) → recorded_at recording t ≡ some k → Memᴰ (record { time = t; kind = k }) recording
+pub recorded_member : (recording : List Packet) (t k : ℕ) → recorded_at recording t ≡ Some k → Memᴰ (record { time = t; kind = k }) recording
 unfolding recorded_at
-recorded_member [] t k e = absurd (none-ne-some k e)
+recorded_member [] t k e = absurd (none-some k e)
 recorded_member (p ∷ ps) t k e = split (λ q. recorded_member ps t k q) (ℕ_discrete p.time t)
   where
     same : p.time ≡ t → p.kind ≡ k → record { time = t; kind = k } ≡ p
     same a b = λ i. record { time = sym a i; kind = sym b i }
 
-    split : (recorded_at ps t ≡ some k → Memᴰ (record { time = t; kind = k }) ps) → Dec (p.time ≡ t) → Memᴰ (record { time = t; kind = k }) (p ∷ ps)
-    split below (yes a) = Memᴰ.head (same a (some-injective p.kind k (sym (recorded_here p ps t a) ∙ e)))
+    split : (recorded_at ps t ≡ Some k → Memᴰ (record { time = t; kind = k }) ps) → Dec (p.time ≡ t) → Memᴰ (record { time = t; kind = k }) (p ∷ ps)
+    split below (yes a) = Memᴰ.head (same a (same_Some p.kind k (sym (recorded_here p ps t a) ∙ e)))
     split below (no a) = Memᴰ.tail (below (sym (recorded_later p ps t a) ∙ e))
 
 -- and so it is recorded as an entry; at an instant where nothing is, no entry is
 
-entry_recorded : (recording : List Packet) (p : Packet) → recorded_at recording p.time ≡ some p.kind → is_recorded recording p ≡ true
+entry_recorded : (recording : List Packet) (p : Packet) → recorded_at recording p.time ≡ Some p.kind → is_recorded recording p ≡ true
 unfolding recorded_at is_recorded
-entry_recorded [] p e = absurd (none-ne-some p.kind e)
+entry_recorded [] p e = absurd (none-some p.kind e)
 entry_recorded (q ∷ qs) p e = split (λ f. entry_recorded qs p f) (ℕ_discrete q.time p.time)
   where
-    split : (recorded_at qs p.time ≡ some p.kind → is_recorded qs p ≡ true) → Dec (q.time ≡ p.time)
+    split : (recorded_at qs p.time ≡ Some p.kind → is_recorded qs p ≡ true) → Dec (q.time ≡ p.time)
         → (eqb q.time p.time && eqb q.kind p.kind) || is_recorded qs p ≡ true
     split below (yes a) =
-        rw (eq-eqb q.time p.time a, eq-eqb q.kind p.kind (some-injective q.kind p.kind (sym (recorded_here q qs p.time a) ∙ e)))
+        rw (eq-eqb q.time p.time a, eq-eqb q.kind p.kind (same_Some q.kind p.kind (sym (recorded_here q qs p.time a) ∙ e)))
     split below (no a) = rw (ne_eqb q.time p.time a) (below (sym (recorded_later q qs p.time a) ∙ e))
 
-entry_absent : (recording : List Packet) (p : Packet) → recorded_at recording p.time ≡ none → is_recorded recording p ≡ false
+entry_absent : (recording : List Packet) (p : Packet) → recorded_at recording p.time ≡ None → is_recorded recording p ≡ false
 unfolding recorded_at is_recorded
 entry_absent [] p e = refl
 entry_absent (q ∷ qs) p e = split (λ f. entry_absent qs p f) (ℕ_discrete q.time p.time)
   where
-    split : (recorded_at qs p.time ≡ none → is_recorded qs p ≡ false) → Dec (q.time ≡ p.time)
+    split : (recorded_at qs p.time ≡ None → is_recorded qs p ≡ false) → Dec (q.time ≡ p.time)
         → (eqb q.time p.time && eqb q.kind p.kind) || is_recorded qs p ≡ false
     split below (yes a) = absurd (some-ne-none q.kind (sym (recorded_here q qs p.time a) ∙ e))
     split below (no a) = rw (ne_eqb q.time p.time a) (below (sym (recorded_later q qs p.time a) ∙ e))
@@ -84,17 +87,17 @@ module _ (m : Monitor) where
   recorded_within [] x p i = absurd (Memᴰ.not-nil i)
   recorded_within (q ∷ r) x p i = (from-time m 1 (q ∷ r) x p i, by_end q r x.1 p i)
 
-  ahead_at : (n : ℕ) (recording : List Packet) → TraceFrom m n recording → (p : Packet) → Memᴰ p recording → recorded_at recording p.time ≡ some p.kind
+  ahead_at : (n : ℕ) (recording : List Packet) → TraceFrom m n recording → (p : Packet) → Memᴰ p recording → recorded_at recording p.time ≡ Some p.kind
   ahead_at n [] x p i = absurd (Memᴰ.not-nil i)
   ahead_at n (q ∷ r) x p i =
       let after : TraceFrom m (free_after m q) r = (spaced-from m q r).0 x.1 in
-      ⊎_elim (λ e. recorded_here q r p.time (ap (λ (a : Packet). a.time) (sym e)) ∙ ap (λ (a : Packet). some a.kind) (sym e))
+      ⊎_elim (λ e. recorded_here q r p.time (ap (λ (a : Packet). a.time) (sym e)) ∙ ap (λ (a : Packet). Some a.kind) (sym e))
       (λ l. recorded_later q r p.time (omega (arith, from-time m (free_after m q) r after p l)) ∙ ahead_at (free_after m q) r after p l)
       (Memᴰ.cases_cons i)
 
   -- and each is the one recorded at its instant
   pub recorded_at_lem :
-      (recording : List Packet) → PacketTrace m recording → (p : Packet) → Memᴰ p recording → recorded_at recording p.time ≡ some p.kind
+      (recording : List Packet) → PacketTrace m recording → (p : Packet) → Memᴰ p recording → recorded_at recording p.time ≡ Some p.kind
   recorded_at_lem recording x = ahead_at 1 recording ((trace-from m recording).0 x)
 
   -- in a trace whose packets are all later, the monitor may as well start one tick later
@@ -107,27 +110,27 @@ module _ (m : Monitor) where
 
   module _ (s : Situation) where
     -- a packet can be sent where the air is free, its transition fires, and the rule is kept
-    sent-free : (guess : Bool) (j k : ℕ) (d : Config) → s.air ≡ 0 → allows m.rule s.window guess ≡ true → fires m j k (config_of s) ≡ some d
-        → sent m guess j k s ≡ some (with_air d (airtime m k + 1) (window_behind m.rule s.window guess))
+    sent-free : (guess : Bool) (j k : ℕ) (d : Config) → s.air ≡ 0 → allows m.rule s.window guess ≡ true → fires m j k (config_of s) ≡ Some d
+        → sent m guess j k s ≡ Some (with_air d (airtime m k + 1) (window_behind m.rule s.window guess))
     unfolding sent within_rule
     sent-free guess j k d free allowed e = rw (eq-eqb s.air 0, allowed, e)
 
     -- the move by which a packet of kind k goes by transition j: it keeps what is recorded, if anything is
     sends :
-        (j k : ℕ) → j < transition_limit → trigger_of m j ≡ some k → (recorded : Option ℕ) → ((a : ℕ) → recorded ≡ some a → a ≡ k)
-        → (guess : Bool) → ((a : ℕ) → recorded ≡ some a → guess ≡ false) → (recorded ≡ none → guess ≡ is_guess m k)
+        (j k : ℕ) → j < transition_limit → trigger_of m j ≡ Some k → (recorded : Option ℕ) → ((a : ℕ) → recorded ≡ Some a → a ≡ k)
+        → (guess : Bool) → ((a : ℕ) → recorded ≡ Some a → guess ≡ false) → (recorded ≡ None → guess ≡ is_guess m k)
         → (n : ℕ) × (n < move_limit) × (moved m recorded s (move_of n) ≡ sent m guess j k s)
-    unfolding moved bind
-    sends j k few trigger none same guess heard silent = (first_add + j, omega arith, rw (move_of-add j, trigger, silent refl))
-    sends j k few trigger (some a) same guess heard silent = (j, omega arith, rw (move_of-keep j few, same a refl, heard a refl))
-
-    rests : (recorded : Option ℕ) → ((a : ℕ) → recorded ≡ some a → ⊥) → moved m recorded s (move_of rest_move) ≡ some s
     unfolding moved
-    rests none quiet = rw move_of-rest
-    rests (some a) quiet = absurd (quiet a refl)
+    sends j k few trigger None same guess heard silent = (first_add + j, omega arith, rw (move_of-add j, trigger, silent refl))
+    sends j k few trigger (Some a) same guess heard silent = (j, omega arith, rw (move_of-keep j few, same a refl, heard a refl))
+
+    rests : (recorded : Option ℕ) → ((a : ℕ) → recorded ≡ Some a → ⊥) → moved m recorded s (move_of rest_move) ≡ Some s
+    unfolding moved
+    rests None quiet = rw move_of-rest
+    rests (Some a) quiet = absurd (quiet a refl)
 
     -- a recorded packet to the unit can be removed where the air is free
-    misses : (k : ℕ) → s.air ≡ 0 → to_unit m k ≡ true → moved m (some k) s (move_of rest_move) ≡ some (with_air (config_of s) (airtime m k + 1) s.window)
+    misses : (k : ℕ) → s.air ≡ 0 → to_unit m k ≡ true → moved m (Some k) s (move_of rest_move) ≡ Some (with_air (config_of s) (airtime m k + 1) s.window)
     unfolding moved missed
     misses k free inbound = rw (move_of-rest, eq-eqb s.air 0 free, inbound)
 
@@ -147,7 +150,7 @@ module _ (m : Monitor) where
       number : ℕ
       below : number < move_limit
       next : Situation
-      moves : step_by m uncapped (recorded_at recording (suc t)) s (move_of number) ≡ some next
+      moves : step_by m uncapped (recorded_at recording (suc t)) s (move_of number) ≡ Some next
       all : List Packet
       trace : List Packet
       tracks : Tracks (suc t) next all trace
@@ -161,7 +164,7 @@ module _ (m : Monitor) where
           below = omega arith;
           next = tick uncapped s;
           moves =
-              ap (map (tick uncapped))
+              ap (option_map (tick uncapped))
               (rests s (recorded_at recording (suc t))
               (λ a e. none-now (record { time = suc t; kind = a }) (inl (recorded_member recording (suc t) a e)) refl));
           all = all;
@@ -197,7 +200,7 @@ module _ (m : Monitor) where
             below = omega arith;
             next = tick uncapped (with_air (config_of s) (airtime m p.kind + 1) s.window);
             moves =
-                ap (map (tick uncapped))
+                ap (option_map (tick uncapped))
                 (ap (λ (o : Option ℕ). moved m o s (move_of rest_move)) heard
                 ∙ misses s p.kind (omega (arith, x.ahead.0)) (x.mutation p recorded (omega arith) lacks));
             all = r;
@@ -220,7 +223,7 @@ module _ (m : Monitor) where
           recorded : Memᴰ p recording
           recorded = ⊎_elim (λ i. i) (λ i. absurd (lacks i)) ((x.entries p (omega arith)).0 (Memᴰ.head refl))
 
-          heard : recorded_at recording (suc t) ≡ some p.kind
+          heard : recorded_at recording (suc t) ≡ Some p.kind
           heard = ap (recorded_at recording) (sym now) ∙ recorded_at_lem recording sound p recorded
 
       -- the move of the packet's transition, where the packet on the air at instant t + 1 is in the trace
@@ -231,7 +234,7 @@ module _ (m : Monitor) where
             number = sending.0;
             below = sending.1;
             next = tick uncapped (with_air d (airtime m p.kind + 1) (window_behind m.rule s.window guess));
-            moves = ap (map (tick uncapped)) (sending.2 ∙ sent-free s guess j p.kind d (omega (arith, x.ahead.0)) x.kept.0 fired);
+            moves = ap (option_map (tick uncapped)) (sending.2 ∙ sent-free s guess j p.kind d (omega (arith, x.ahead.0)) x.kept.0 fired);
             all = r;
             trace = tr;
             tracks =
@@ -260,10 +263,10 @@ module _ (m : Monitor) where
           at_once : (n : ℕ) → n ≡ 0 → wait n (config_of s) ≡ config_of s
           at_once n e = rw e (wait_none (config_of s))
 
-          fired : fires m j p.kind (config_of s) ≡ some d
+          fired : fires m j p.kind (config_of s) ≡ Some d
           fired = ap (fires m j p.kind) (sym (at_once (p.time - suc t) (omega arith))) ∙ x.carries.2
 
-          trigger : trigger_of m j ≡ some p.kind
+          trigger : trigger_of m j ≡ Some p.kind
           trigger = fires-trigger m j p.kind (config_of s) d fired
 
           after : TraceFrom m (free_after m p) r
@@ -272,7 +275,7 @@ module _ (m : Monitor) where
           behind : TraceFrom m (free_after m p) tr
           behind = (spaced-from m p tr).0 x.later.1
 
-          same : (a : ℕ) → recorded_at recording (suc t) ≡ some a → a ≡ p.kind
+          same : (a : ℕ) → recorded_at recording (suc t) ≡ Some a → a ≡ p.kind
           same a e =
               ap (λ (b : Packet). b.kind)
               (only-first m p r after (record { time = suc t; kind = a }) (sym now)
@@ -282,10 +285,10 @@ module _ (m : Monitor) where
           guess = not (is_recorded recording p) && is_guess m p.kind
 
           -- what is recorded at this instant is this packet, which then is no guess
-          if-heard : (a : ℕ) → recorded_at recording (suc t) ≡ some a → guess ≡ false
-          if-heard a e = rw (entry_recorded recording p (ap (recorded_at recording) now ∙ e ∙ ap {B = Option ℕ} some (same a e)))
+          if-heard : (a : ℕ) → recorded_at recording (suc t) ≡ Some a → guess ≡ false
+          if-heard a e = rw (entry_recorded recording p (ap (recorded_at recording) now ∙ e ∙ ap {B = Option ℕ} Some (same a e)))
 
-          if-silent : recorded_at recording (suc t) ≡ none → guess ≡ is_guess m p.kind
+          if-silent : recorded_at recording (suc t) ≡ None → guess ≡ is_guess m p.kind
           if-silent e = rw (entry_absent recording p (ap (recorded_at recording) now ∙ e))
 
           sending : (n : ℕ) × (n < move_limit) × (moved m (recorded_at recording (suc t)) s (move_of n) ≡ sent m guess j p.kind s)

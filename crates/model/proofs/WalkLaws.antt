@@ -6,7 +6,7 @@ use mathlib.Core.Path.{◌≡◌, refl, sym, ap, subst, ◌∙◌}
 use mathlib.Core.Logic.{◌⊎◌, inl, inr}
 use mathlib.Core.List.{List}
 use mathlib.Core.Bool.{Bool, true, false, ◌&&◌, true≢false}
-use mathlib.Core.Option.{Option, none, some}
+use Rattle.std.specs.Prelude.{Option, Some, None}
 use lib.ListN.{get_or}
 use lib.Dec.{ltb}
 use borrow.Author.Tests.{lt-ltb, le-ltb}
@@ -43,13 +43,13 @@ module _ (N K : ℕ) (step : ℕ → ℕ → ℕ → Option ℕ) (first : ℕ) w
       meet false true h = h refl
       meet false false h = refl
 
-      arrive : (z : ℕ) → step (suc t) n k ≡ some z → get_or (alive N K step left (suc t)) z false ≡ true → get_or (layer N K step first (suc t)) z false ≡ true
+      arrive : (z : ℕ) → step (suc t) n k ≡ Some z → get_or (alive N K step left (suc t)) z false ≡ true → get_or (layer N K step first (suc t)) z false ≡ true
       arrive z e h =
           (layer_suc N K step first t z).1 (n, k, inside, here, few, e, subst (λ (l : ℕ). z < l) (length-alive N K step left (suc t)) (member_within (alive N K step left (suc t)) z h))
 
       by : (o : Option ℕ) → step (suc t) n k ≡ o → into test o ≡ leads_into (alive N K step left (suc t)) o
-      by none e = refl
-      by (some z) e = pruned z ∙ meet (get_or (layer N K step first (suc t)) z false) (get_or (alive N K step left (suc t)) z false) (arrive z e)
+      by None e = refl
+      by (Some z) e = pruned z ∙ meet (get_or (layer N K step first (suc t)) z false) (get_or (alive N K step left (suc t)) z false) (arrive z e)
 
   -- the least move into a pruned set is the least into the set from which the end can be reached
   pub least_same : (left t n : ℕ) (test : ℕ → Bool) → Pruned left (suc t) test → n < N → get_or (layer N K step first t) n false ≡ true

@@ -5,7 +5,7 @@ use mathlib.Core.Path.{◌≡◌, refl, ap, ◌∙◌}
 use mathlib.Core.List.{List, [], ◌∷◌}
 use borrow.Author.Tests.{le-leb}
 use Rattle.model.specs.Limits.{device_limit, size_limit}
-use Rattle.model.specs.First.{first_of}
+use Rattle.model.specs.First.{first_of, Reading}
 use Rattle.model.specs.Rule.{rule_of}
 use Rattle.model.specs.Monitor.{Monitor}
 use Rattle.model.specs.Size.{size}
@@ -15,8 +15,7 @@ use Rattle.model.specs.Ruled.{monitor_under, rule_answer, ruled_answer}
 use Rattle.model.specs.Witness.{rows_at}
 use Rattle.model.specs.Rules.{checked, check_answer, check_answer_under}
 use Rattle.model.specs.Without.{AsWithout}
-use Rattle.model.specs.declared.Reading.{Reading}
-use Rattle.model.specs.declared.Reading.TheVariants.{Sound, Unsound}
+use Rattle.std.specs.Prelude.{Ok, Err}
 use Rattle.model.proofs.TableForm.{table_small, plain_size}
 use Rattle.model.proofs.RecordingForm.{sound_table}
 use Rattle.model.proofs.DeviceFree.{with_devices, same_size, same-validation, same-scratch, same-room, same-checking}
@@ -41,7 +40,7 @@ module _ (d : ℕ) (few : d ≤ device_limit) (table : List ℕ) where
   small : size (monitor_under (rule_of d 1 1) table) ≡ size m
   small = ap size same_monitor ∙ same_size m.devices d m
 
-  rule_passes : (recording : List ℕ) → recording_answer table recording ≡ Sound → rule_answer (monitor_under (rule_of d 1 1) table) ≡ Sound
+  rule_passes : (recording : List ℕ) → recording_answer table recording ≡ Ok tt → rule_answer (monitor_under (rule_of d 1 1) table) ≡ Ok tt
   unfolding rule_answer
   rule_passes recording e =
       let within : size (monitor_under (rule_of d 1 1) table) ≤ size_limit = omega (arith, small, plain_size table, table_small table (sound_table table recording e)) in
@@ -52,8 +51,8 @@ module _ (d : ℕ) (few : d ≤ device_limit) (table : List ℕ) where
   same_answer_lem recording = by (recording_answer table recording) refl
     where
       by : (x : Reading) → recording_answer table recording ≡ x → first_of (recording_answer table recording ∷ rule_answer (monitor_under (rule_of d 1 1) table) ∷ []) ≡ recording_answer table recording
-      by Sound e = rw (e, rule_passes recording e)
-      by (Unsound r) e = rw e
+      by (Ok _) e = rw (e, rule_passes recording e)
+      by (Err r) e = rw e
 
   pub as_without : AsWithout (rule_of d 1 1) table
   unfolding check_answer check_answer_under

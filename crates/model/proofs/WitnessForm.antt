@@ -3,8 +3,8 @@ use Prim.Native.Nat.{ℕ, zero, suc, ◌+◌, ◌*◌, ◌<◌, ◌≤◌}
 use native.Mathlib.Omega.{arith}
 use mathlib.Core.Path.{◌≡◌, refl, sym, ap, ap₂, subst, ◌∙◌}
 use mathlib.Core.List.{List, [], ◌∷◌, ◌++◌, append_assoc, append-nil}
-use mathlib.Core.Option.{Option, none, some}
-use lib.ListN.{length, get_or, get_elem?, length-append}
+use Rattle.std.specs.Prelude.{Option, Some, None, slice_get, Ok}
+use lib.ListN.{length, get_or, length-append}
 use borrow.Author.Tests.{le-leb, eq-eqb}
 use Rattle.model.specs.Limits.{witness_places}
 use Rattle.model.specs.Bytes.{byte_at, word_at, word_bytes, tab, joined}
@@ -14,10 +14,10 @@ use Rattle.model.specs.Witness.{Row, misformed, Formed, witness_count_at, row_pl
 use Rattle.model.specs.Same.{SameWitness, WitnessZero}
 use Rattle.model.specs.declared.Edition.{Edition}
 use Rattle.model.specs.declared.WitnessParts.{WitnessParts}
-use Rattle.model.specs.declared.Reading.{Reading}
-use Rattle.model.specs.declared.Reading.TheVariants.{Sound}
+use Rattle.model.specs.First.{Reading}
 use Rattle.model.specs.declared.Refusal.TheVariants.{WitnessFrame, WitnessVersion, WitnessCount}
-use Rattle.model.proofs.Basics.{length-tab, get_elem_get_or}
+use Rattle.model.proofs.Basics.{length-tab}
+use Rattle.std.proofs.lemmas.Option.{slice_get-get_or}
 use Rattle.model.proofs.Tests.{test, then_sound, FramedRows, rows_facts}
 use Rattle.model.proofs.Places.{AllBytes, Stands, stands_nil, stands_cons, stands-left, stands-right, stands-append, stands-moved, stands_self, stands-whole, word_at_lem, word_back, get_or_column, get_or_column_past, stands-joined, joined-stands, length-joined, tab-same, tab-get_or}
 use Rattle.model.proofs.EditionLaws.{size_at_lem, size_back, rows_sizeable, frame_length, stands_headed, headed_size, headed_version, headed_count, headed_rows}
@@ -30,15 +30,15 @@ pub record WitnessFacts (edition : Edition) (b : List ℕ) : Type 0 where
 pub witness_facts : (edition : Edition) (b : List ℕ) → SoundForm edition b → WitnessFacts edition b
 unfolding witness_answer witness_frame
 witness_facts edition b e =
-    let l : List Reading = witness_frame edition b ∷ bad_row (misformed edition none 0 (rows_at edition b)) ∷ [] in
+    let l : List Reading = witness_frame edition b ∷ bad_row (misformed edition None 0 (rows_at edition b)) ∷ [] in
     record {
       rows = rows_facts edition b 5 (most_rows edition) WitnessFrame (WitnessVersion (version_place edition)) (WitnessCount (count_place edition)) (test l e 0);
-      formed = good (misformed edition none 0 (rows_at edition b)) (test l e 1);
+      formed = good (misformed edition None 0 (rows_at edition b)) (test l e 1);
     }
   where
-    good : (x : Option ℕ) → bad_row x ≡ Sound → x ≡ none
-    good none h = refl
-    good (some i) h = cc
+    good : (x : Option ℕ) → bad_row x ≡ Ok tt → x ≡ None
+    good None h = refl
+    good (Some i) h = cc
 
 -- the bytes of rows, one behind the other
 
@@ -156,7 +156,7 @@ module _ (edition : Edition) (f : ℕ → Row) (n : ℕ) (few : n ≤ most_rows 
   written-rows = ap (λ (k : ℕ). tab (row_at edition bytes) k) written_count ∙ tab-same (row_at edition bytes) f n written_row
 
   -- what is written is framed as it should be, so its rows alone decide
-  written_frame : witness_frame edition bytes ≡ Sound
+  written_frame : witness_frame edition bytes ≡ Ok tt
   unfolding witness_frame framed_rows framed
   written_frame =
       let size : size_at edition bytes 0 ≡ rows_size edition 5 n =
@@ -177,16 +177,16 @@ module _ (edition : Edition) (f : ℕ → Row) (n : ℕ) (few : n ≤ most_rows 
         eq-eqb (rows_size edition 5 n) (rows_size edition 5 n) refl,
       )
 
-  pub written-answer : witness_answer edition bytes ≡ bad_row (misformed edition none 0 (tab f n))
+  pub written-answer : witness_answer edition bytes ≡ bad_row (misformed edition None 0 (tab f n))
   unfolding witness_answer
-  written-answer = rw (written_frame, written-rows) (then_sound (bad_row (misformed edition none 0 (tab f n))))
+  written-answer = rw (written_frame, written-rows) (then_sound (bad_row (misformed edition None 0 (tab f n))))
 
 pub witness_back_lem :
-    (edition : Edition) (rows : List Row) → length rows ≤ most_rows edition → ((i : ℕ) (r : Row) → get_elem? rows i ≡ some r → r.time < 65536)
+    (edition : Edition) (rows : List Row) → length rows ≤ most_rows edition → ((i : ℕ) (r : Row) → slice_get rows i ≡ Some r → r.time < 65536)
     → rows_at edition (witness_bytes edition rows) ≡ rows
 witness_back_lem edition rows few times =
     subst (λ (l : List Row). rows_at edition (witness_bytes edition l) ≡ l) (tab-get_or blank rows)
-    (written-rows edition (λ i. get_or rows i blank) (length rows) few (λ i h. times i (get_or rows i blank) (get_elem_get_or rows i blank h)))
+    (written-rows edition (λ i. get_or rows i blank) (length rows) few (λ i h. times i (get_or rows i blank) (slice_get-get_or rows i blank h)))
   where
     blank : Row
     blank = record { mark = 0; time = 0; kind = 0; transition = 0 }

@@ -1,5 +1,5 @@
 -- What reading and writing promise of an answer, in document 01's number, second and third value.
-use Rattle.std.specs.Prelude.{ℕ, ◌<◌, ◌≤◌, ◌≡◌, ◌↔◌, List}
+use Rattle.std.specs.Prelude.{ℕ, ◌<◌, ◌≤◌, ◌≡◌, ◌↔◌, List, Result, Ok, Err}
 use Rattle.model.specs.Limits.{size_limit}
 use Rattle.model.specs.Room.{Lent}
 use Rattle.model.specs.Size.{table_size}
@@ -7,19 +7,16 @@ use Rattle.model.specs.Reach.{Reached, LowestUnreached}
 use Rattle.model.specs.Table.{states_at, table_scan, monitor_at}
 use Rattle.model.specs.Numbers.{values, refusal_values, reading_values, writing_values}
 use Rattle.model.specs.declared.Refusal.{Refusal}
-use Rattle.model.specs.declared.Reading.{Reading}
-use Rattle.model.specs.declared.Reading.TheVariants.{Sound, Unsound}
-use Rattle.model.specs.declared.Writing.{Writing}
+use Rattle.model.specs.First.{Reading, Writing, answer_of}
 
--- "Reading sound bytes gives 0, 0 and 0 beside the parts; in a refused reading every number of the parts is 0". given: what the definition answers; whole: the
--- parts of the bytes; none: parts that are all 0
-pub record Reads {P : Type 0} (given : Reading) (whole none : P) (answer : Reading) (parts : P) : Type 0 where
-  pub sound : given ≡ Sound → (reading_values answer ≡ values 0 0 0) × (parts ≡ whole)
-  pub refused : (why : Refusal) → given ≡ Unsound why → (reading_values answer ≡ refusal_values why) × (parts ≡ none)
+-- "Reading sound bytes gives 0, 0 and 0 beside the parts"; a refused reading gives none. given: what the definition answers; whole: the parts of the bytes
+pub record Reads {P : Type 0} (given : Reading) (whole : P) (result : Result P Refusal) : Type 0 where
+  pub sound : given ≡ Ok tt → (reading_values (answer_of result) ≡ values 0 0 0) × (result ≡ Ok whole)
+  pub refused : (why : Refusal) → given ≡ Err why → (reading_values (answer_of result) ≡ refusal_values why) × (result ≡ Err why)
 
 -- none of the numbers 10 to 16 applies
 abbrev pub SoundButStates : List ℕ → Type 0
-SoundButStates b = (table_scan b ≡ Sound) × (table_size (monitor_at b) ≤ size_limit)
+SoundButStates b = (table_scan b ≡ Ok tt) × (table_size (monitor_at b) ≤ size_limit)
 
 -- "Refuse with 17, after 16, a table in which some state cannot be reached from state 0 [..]; second value the lowest such state" (document 02, R-8)
 pub record RefusesUnreached (b : List ℕ) (answer : Reading) : Type 0 where

@@ -1,7 +1,6 @@
 -- The customer's demands 2 and 3, in the paper's words.
-use Rattle.std.specs.Prelude.{ℕ, ◌+◌, ◌*◌, ◌-◌, ◌<◌, ◌≤◌, ◌≡◌, ◌↔◌, Bool, true, cond, length, take, eqb}
+use Rattle.std.specs.Prelude.{ℕ, ◌+◌, ◌*◌, ◌-◌, ◌<◌, ◌≤◌, ◌≡◌, ◌↔◌, Bool, true, cond, length, take, eqb, Option, Some}
 use mathlib.Core.List.{List, [], ◌∷◌, Memᴰ}
-use Rattle.std.proofs.Math.Option.{Option, some}
 use Rattle.model.specs.Rule.{KeepsRule}
 use Rattle.model.specs.Monitor.{Monitor, Config, start, wait, fires, to_unit}
 use Rattle.model.specs.Trace.{Packet, PacketTrace, Possible, PossibleUnder}
@@ -18,7 +17,7 @@ use Rattle.model.specs.declared.Edition.{Edition}
 use Rattle.model.specs.declared.Readiness.TheVariants.{NotYet, NoMore}
 use Rattle.model.specs.declared.Situation.{Situation}
 use Rattle.model.specs.declared.Verdict.{Verdict}
-use Rattle.model.specs.declared.Verdict.TheVariants.{Accepted, Rejected, Exhausted, Refused}
+use Rattle.model.specs.declared.Verdict.TheVariants.{Accepted, Rejected, Exhausted}
 
 -- Demand 2
 
@@ -43,7 +42,7 @@ packets (r ∷ rs) = packet_of r ∷ packets rs
 abbrev pub CarriedBy : Monitor → ℕ → Config → List Row → Type 0
 CarriedBy m now c [] = Unit {0}
 CarriedBy m now c (r ∷ rs) =
-    (d : Config) × (fires m r.transition r.kind (wait (r.time - now) c) ≡ some d) × CarriedBy m r.time d rs
+    (d : Config) × (fires m r.transition r.kind (wait (r.time - now) c) ≡ Some d) × CarriedBy m r.time d rs
 
 -- "its rows account for the whole recording, every removed row was to the unit", all rows, kept, removed and added together, are a packet trace (R-3), "and the
 -- named transitions carry the monitor along" the kept and added ones
@@ -74,19 +73,16 @@ abbrev pub IsAccepted : Verdict → Type 0
 IsAccepted (Accepted cost rows) = Unit {0}
 IsAccepted (Rejected cost instant not_yet no_more) = ⊥
 IsAccepted (Exhausted budget instant) = ⊥
-IsAccepted (Refused r) = ⊥
 
 abbrev pub IsRejected : Verdict → Type 0
 IsRejected (Accepted cost rows) = ⊥
 IsRejected (Rejected cost instant not_yet no_more) = Unit {0}
 IsRejected (Exhausted budget instant) = ⊥
-IsRejected (Refused r) = ⊥
 
 abbrev pub IsExhausted : Verdict → Type 0
 IsExhausted (Accepted cost rows) = ⊥
 IsExhausted (Rejected cost instant not_yet no_more) = ⊥
 IsExhausted (Exhausted budget instant) = Unit {0}
-IsExhausted (Refused r) = ⊥
 
 -- "instant with none left": the first after whose moves no situation is left
 pub record FirstEmpty (m : Monitor) (recording : List Packet) (instant : ℕ) : Type 0 where
@@ -106,7 +102,6 @@ ValuesOf m recording budget (Accepted cost rows) = (cost ≡ cost_of m recording
 ValuesOf m recording budget (Rejected cost instant not_yet no_more) =
     (cost ≡ cost_of m recording) × FirstEmpty m recording instant × Counted (Pair m recording instant NotYet) not_yet × Counted (Pair m recording instant NoMore) no_more
 ValuesOf m recording budget (Exhausted limit instant) = (limit ≡ budget) × FirstPast m recording budget instant
-ValuesOf m recording budget (Refused r) = ⊥
 
 -- "The work of an instant is the number of distinct situations": a situation of the table and its number, which is below N, determine each other, and each
 -- possible situation is one of the table. So counting numbers counts situations
@@ -115,7 +110,7 @@ pub record Numbered (m : Monitor) : Type 0 where
   pub back : (s : Situation) → InRange m s → situation_of m (number m s) ≡ s
   pub forth : (n : ℕ) → n < size m → (number m (situation_of m n) ≡ n) × InRange m (situation_of m n)
   pub first : InRange m (first_by (capped m))
-  pub step : (recorded : Option ℕ) (a : Move) (s x : Situation) → InRange m s → step_by m (capped m) recorded s a ≡ some x → InRange m x
+  pub step : (recorded : Option ℕ) (a : Move) (s x : Situation) → InRange m s → step_by m (capped m) recorded s a ≡ Some x → InRange m x
 
 -- "exhausted exactly when the cost is above the budget; within budget accepted exactly when some mutation trace of any length, at any positive times, satisfies the
 -- monitor, else rejected; [..] the preferred witness is permitted, has no row after the last recorded time, and comes before every other such one. A budget of T

@@ -1,8 +1,6 @@
 -- The two counts of a rejection, in R-10's words.
-use Rattle.std.specs.Prelude.{ℕ, ◌-◌, ◌≡◌, ◌↔◌, true, false, length, get_or}
+use Rattle.std.specs.Prelude.{ℕ, ◌-◌, ◌≡◌, ◌↔◌, true, false, length, get_or, Some, slice_get}
 use mathlib.Core.List.{List, [], ◌∷◌, Memᴰ}
-use Rattle.std.proofs.Math.Option.{some}
-use Rattle.std.proofs.Math.ListN.{get_elem?}
 use Rattle.model.specs.Readiness.{GuardAnswers}
 use Rattle.model.specs.Monitor.{Monitor, Transition}
 use Rattle.model.specs.Trace.{Packet}
@@ -16,8 +14,8 @@ pub record Pair (m : Monitor) (recording : List Packet) (instant : ℕ) (a : Rea
   pub possible : get_or (possible_after m recording (instant - 1)) n false ≡ true
   pub free : (situation_of m n).air ≡ 0
   pub transition : Transition
-  pub listed : get_elem? m.transitions j ≡ some transition
-  pub kind : recorded_at recording instant ≡ some transition.trigger
+  pub listed : slice_get m.transitions j ≡ Some transition
+  pub kind : recorded_at recording instant ≡ Some transition.trigger
   pub from : transition.source ≡ (situation_of m n).state
   pub answers : (clocks : List ℕ) → TwoClocks clocks → capped m clocks ≡ (situation_of m n).clocks
       → GuardAnswers transition.guard (situation_of m n).variables clocks a

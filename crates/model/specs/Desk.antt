@@ -1,5 +1,5 @@
 -- The program: how it splits its input, and the lines that it prints, as bytes.
-use Rattle.std.specs.Prelude.{ℕ, zero, suc, ◌+◌, ◌-◌, ◌/◌, ◌%◌, List, [], ◌∷◌, ◌++◌, Bool, true, false, cond, ◌&&◌, length, take, drop, leb, ltb, eqb}
+use Rattle.std.specs.Prelude.{ℕ, zero, suc, ◌+◌, ◌-◌, ◌/◌, ◌%◌, List, [], ◌∷◌, ◌++◌, Bool, true, false, cond, ◌&&◌, length, take, drop, leb, ltb, eqb, Ok, Err}
 use Rattle.model.specs.Bytes.{word_at, long_at}
 use Rattle.model.specs.Numbers.{refusal_values}
 use Rattle.model.specs.Table.{monitor_at}
@@ -7,8 +7,8 @@ use Rattle.model.specs.Recording.{packets_at}
 use Rattle.model.specs.Witness.{Row, kept, removed}
 use Rattle.model.specs.Validation.{validation, preferred, scratch_after, room_after}
 use Rattle.model.specs.declared.Edition.TheVariants.{One}
-use Rattle.model.specs.declared.Verdict.{Verdict}
-use Rattle.model.specs.declared.Verdict.TheVariants.{Accepted, Rejected, Exhausted, Refused}
+use Rattle.model.specs.First.{Validating}
+use Rattle.model.specs.declared.Verdict.TheVariants.{Accepted, Rejected, Exhausted}
 
 -- "a four-byte budget at the very end"
 abbrev pub budget_in : List ℕ → ℕ
@@ -86,11 +86,11 @@ unfoldable pub row_lines : List Row → List ℕ
 row_lines [] = []
 row_lines (r ∷ rs) = row_line r ++ row_lines rs
 
-unfoldable pub verdict_lines : Verdict → List Row → List ℕ
-verdict_lines (Accepted cost rows) witness = line accepted_word cost rows ++ row_lines witness
-verdict_lines (Rejected cost instant not_yet no_more) witness = rejected_line cost instant not_yet no_more
-verdict_lines (Exhausted budget instant) witness = line exhausted_word budget instant
-verdict_lines (Refused r) witness = line refused_word (refusal_values r).number (refusal_values r).second
+unfoldable pub verdict_lines : Validating → List Row → List ℕ
+verdict_lines (Ok (Accepted cost rows)) witness = line accepted_word cost rows ++ row_lines witness
+verdict_lines (Ok (Rejected cost instant not_yet no_more)) witness = rejected_line cost instant not_yet no_more
+verdict_lines (Ok (Exhausted budget instant)) witness = line exhausted_word budget instant
+verdict_lines (Err r) witness = line refused_word (refusal_values r).number (refusal_values r).second
 
 -- the lines for a table and a recording, judged with a scratch and a witness room of these lengths: "the program keeps edition 1 and its room" (R-5)
 unfoldable pub judged_lines : (scratch_length room_length : ℕ) → (table recording : List ℕ) → ℕ → List ℕ

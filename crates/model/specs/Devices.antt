@@ -1,5 +1,5 @@
 -- A table's version and the devices of its kinds, in the words of document 02, R-6.
-use Rattle.std.specs.Prelude.{ℕ, suc, ◌+◌, ◌<◌, ◌≤◌, ◌≡◌, ◌⊎◌, List, length}
+use Rattle.std.specs.Prelude.{ℕ, suc, ◌+◌, ◌<◌, ◌≤◌, ◌≡◌, ◌⊎◌, List, length, Ok}
 use Rattle.model.specs.Limits.{table_versions, device_limit}
 use Rattle.model.specs.Bytes.{byte_at, word_at}
 use Rattle.model.specs.Frame.{framed}
@@ -8,7 +8,6 @@ use Rattle.model.specs.Table.{table_counts}
 use Rattle.model.specs.Numbers.{Values, values}
 use Rattle.model.specs.declared.TableParts.{TableParts}
 use Rattle.model.specs.declared.Edition.TheVariants.{One}
-use Rattle.model.specs.declared.Reading.TheVariants.{Sound}
 use Rattle.model.specs.declared.Refusal.TheVariants.{TableFrame, TableVersion}
 
 -- device 0 on a kind from the unit, 1 to 15 on a kind to it; in version 1 "kinds to it device 1"
@@ -24,9 +23,9 @@ pub record SoundDevices (t : TableParts) : Type 0 where
 -- the kinds having these devices, no number applies to length, version, counts and the kinds before number i
 abbrev pub SoundBefore : (devices b : List ℕ) → ℕ → Type 0
 SoundBefore devices b i =
-    (framed One b 8 1 table_versions TableFrame TableVersion ≡ Sound)
-    × (table_counts b ≡ Sound)
-    × ((k : ℕ) → k < i → kind_record b (kind_at (version_at b) k) (byte_at devices k) ≡ Sound)
+    (framed One b 8 1 table_versions TableFrame TableVersion ≡ Ok tt)
+    × (table_counts b ≡ Ok tt)
+    × ((k : ℕ) → k < i → kind_record b (kind_at (version_at b) k) (byte_at devices k) ≡ Ok tt)
 
 -- what the answer to a table says of its version and devices; t: its parts, b: its bytes. What is accepted has version 1 or 2 and devices that suit. If the
 -- length matches, another version is 11. The first device that does not suit is 14 with the offset of its kind's record, if the record is there

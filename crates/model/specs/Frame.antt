@@ -2,11 +2,10 @@
 -- of a witness length and number are longer (document 02, R-5); tables and recordings have the frame of edition 1.
 use Rattle.std.specs.Prelude.{ℕ, ◌+◌, ◌*◌, List, [], ◌∷◌, ◌++◌, Bool, ◌&&◌, length, leb, eqb}
 use Rattle.model.specs.Bytes.{byte_at}
-use Rattle.model.specs.First.{unless, first_of}
+use Rattle.model.specs.First.{unless, first_of, Reading}
 use Rattle.model.specs.Edition.{size_width, size_at, size_bytes, version_of, version_place, count_place, rows_place}
 use Rattle.model.specs.declared.Edition.{Edition}
 use Rattle.model.specs.declared.Refusal.{Refusal}
-use Rattle.model.specs.declared.Reading.{Reading}
 
 -- one of the versions from the oldest to the latest
 abbrev pub is_version : (oldest latest version : ℕ) → Bool

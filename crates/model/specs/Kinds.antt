@@ -2,9 +2,8 @@
 use Rattle.std.specs.Prelude.{ℕ, ◌+◌, ◌*◌, List, [], ◌∷◌, Bool, cond, ◌&&◌, length, get_or, take, leb, eqb}
 use Rattle.model.specs.Limits.{airtime_limit, device_limit}
 use Rattle.model.specs.Bytes.{byte_at}
-use Rattle.model.specs.First.{unless, first_of}
+use Rattle.model.specs.First.{unless, first_of, Reading}
 use Rattle.model.specs.declared.TableParts.{TableParts}
-use Rattle.model.specs.declared.Reading.{Reading}
 use Rattle.model.specs.declared.Refusal.TheVariants.{TableLength, TableField}
 
 abbrev pub version_at : List ℕ → ℕ

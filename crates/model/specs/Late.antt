@@ -1,6 +1,6 @@
 -- What the caller's edition decides (document 02, R-5): "Edition 1 keeps its limits and is written only if T is at most 4,096; otherwise 31 is given with 0 however
 -- large the room". In edition 2 no recording ends too late.
-use Rattle.std.specs.Prelude.{ℕ, ◌<◌, ◌≤◌, ◌≡◌, ◌↔◌, List}
+use Rattle.std.specs.Prelude.{ℕ, ◌<◌, ◌≤◌, ◌≡◌, ◌↔◌, List, Ok}
 use Rattle.model.specs.Edition.{latest_time}
 use Rattle.model.specs.Rule.{Rule}
 use Rattle.model.specs.Monitor.{Monitor}
@@ -11,13 +11,12 @@ use Rattle.model.specs.Ruled.{monitor_under, ruled_answer}
 use Rattle.model.specs.Numbers.{Values, values}
 use Rattle.model.specs.Validation.{scratch_wanted}
 use Rattle.model.specs.declared.Edition.{Edition}
-use Rattle.model.specs.declared.Reading.{Reading}
-use Rattle.model.specs.declared.Reading.TheVariants.{Sound}
+use Rattle.model.specs.First.{Reading}
 
 -- of the answer to a recording of which nothing is refused before 30, where 30 does not apply either, whatever the budget and the room
 abbrev pub RefusesLateOf : (given : Reading) → Edition → Monitor → List Packet → (scratch_length : ℕ) → Values → Type 0
 RefusesLateOf given edition m recording scratch_length answer =
-    given ≡ Sound → scratch_wanted m recording ≤ scratch_length → (answer ≡ values 31 0 0) ↔ (latest_time edition < end_of recording)
+    given ≡ Ok tt → scratch_wanted m recording ≤ scratch_length → (answer ≡ values 31 0 0) ↔ (latest_time edition < end_of recording)
 
 abbrev pub RefusesLate : Edition → (table recording : List ℕ) → (scratch_length : ℕ) → Values → Type 0
 RefusesLate edition table recording = RefusesLateOf (recording_answer table recording) edition (monitor_at table) (packets_at recording)

@@ -1,7 +1,6 @@
 -- Sets of situations, works, the cost, and the least list of moves: over any number N of situations, any number K of moves, and any step,
 -- which gives for an instant, a situation and a move the situation just before the next instant, or none.
-use Rattle.std.specs.Prelude.{ℕ, zero, suc, ◌+◌, List, [], ◌∷◌, Bool, true, false, cond, ◌||◌, get_or, set, replicate, ltb, eqb}
-use Rattle.std.proofs.Math.Option.{Option, none, some}
+use Rattle.std.specs.Prelude.{ℕ, zero, suc, ◌+◌, List, [], ◌∷◌, Bool, true, false, cond, ◌||◌, get_or, set, replicate, ltb, eqb, Option, Some, None}
 use Rattle.model.specs.Bytes.{tab}
 
 -- how many are in a set, a Bool for each number below N
@@ -13,13 +12,13 @@ abbrev pub is_empty : List Bool → Bool
 is_empty s = eqb (count s) 0
 
 abbrev pub mark : List Bool → Option ℕ → List Bool
-mark s none = s
-mark s (some n) = set s n true
+mark s None = s
+mark s (Some n) = set s n true
 
 -- where a step arrives, tested
 abbrev pub into : (ℕ → Bool) → Option ℕ → Bool
-into test none = false
-into test (some n) = test n
+into test None = false
+into test (Some n) = test n
 
 abbrev pub leads_into : List Bool → Option ℕ → Bool
 leads_into s o = into (λ n. get_or s n false) o
@@ -82,8 +81,8 @@ module _ (N K : ℕ) (step : ℕ → ℕ → ℕ → Option ℕ) where
   alive left t = get_or (live left t) 0 []
 
   abbrev pub arrived : Option ℕ → ℕ
-  arrived none = 0
-  arrived (some n) = n
+  arrived None = 0
+  arrived (Some n) = n
 
   -- the least moves from n, the first at instant t + 1, that stay within the sets
   unfoldable pub walk : List (List Bool) → (t n : ℕ) → List ℕ

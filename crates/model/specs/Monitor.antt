@@ -1,7 +1,6 @@
 -- The monitor (Definition 2), and how it fires and waits. Clocks have no upper limit here.
-use Rattle.std.specs.Prelude.{ℕ, zero, suc, ◌+◌, ◌*◌, ◌/◌, ◌%◌, List, [], ◌∷◌, Bool, false, cond, ◌&&◌, get_or, eqb}
-use Rattle.std.proofs.Math.Option.{Option, none, some, bind}
-use Rattle.std.proofs.Math.ListN.{get_elem?}
+use Rattle.std.specs.Prelude.{ℕ, zero, suc, ◌+◌, ◌*◌, ◌/◌, ◌%◌, List, [], ◌∷◌, Bool, false, cond, ◌&&◌, get_or, eqb, Option, Some, None, slice_get}
+use Rattle.std.specs.Option.{option_and_then}
 use Rattle.model.specs.Guard.{Guard, holds}
 use Rattle.model.specs.Readiness.{waited, readiness}
 use Rattle.model.specs.Rule.{Rule, allows}
@@ -90,15 +89,15 @@ enabled t k c = eqb t.source c.state && eqb t.trigger k && holds t.guard c.varia
 
 -- transition number j on a packet of kind k: the configuration after it, or none
 unfoldable pub fires : Monitor → ℕ → ℕ → Config → Option Config
-fires m j k c = bind (get_elem? m.transitions j) (λ t. cond (enabled t k c) (some (after m t c)) none)
+fires m j k c = option_and_then (λ t. cond (enabled t k c) (Some (after m t c)) None) (slice_get m.transitions j)
 
 -- "only moves that keep it are moves" (R-7): behind rows whose guesses are those of a mask, a row that is a guess or not; o is where it leads, none if the rule
 -- forbids it
 unfoldable pub within_rule : Monitor → (window : ℕ) → (guess : Bool) → Option Config → Option Config
-within_rule m window guess o = cond (allows m.rule window guess) o none
+within_rule m window guess o = cond (allows m.rule window guess) o None
 
 -- what transition number j answers to a packet of kind k: its guard's answer, none if there is no such transition or it is of another kind or from another state
 unfoldable pub tried : Monitor → ℕ → ℕ → Config → Option Readiness
 tried m j k c =
-    bind (get_elem? m.transitions j)
-    (λ t. cond (eqb t.source c.state && eqb t.trigger k) (some (readiness t.guard c.variables c.clocks)) none)
+    option_and_then (λ t. cond (eqb t.source c.state && eqb t.trigger k) (Some (readiness t.guard c.variables c.clocks)) None)
+    (slice_get m.transitions j)

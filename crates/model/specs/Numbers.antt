@@ -1,16 +1,9 @@
 -- "Numbers the desk reads back", with those of document 02's requests: the number, second and third value of each answer.
-use Rattle.std.specs.Prelude.{ℕ}
+use Rattle.std.specs.Prelude.{ℕ, Ok, Err}
 use Rattle.model.specs.declared.Refusal.{Refusal}
 use Rattle.model.specs.declared.Refusal.TheVariants.{TableFrame, TableVersion, TableCount, TableLength, TableField, TableGuard, TableSize, TableState, RecordingFrame, RecordingVersion, RecordingCount, RecordingRange, RecordingOrder, RuleRange, RuleSize, Scratch, WitnessRoom, WriteRoom, WitnessFrame, WitnessVersion, WitnessCount, WitnessRow}
-use Rattle.model.specs.declared.Reading.{Reading}
-use Rattle.model.specs.declared.Reading.TheVariants.{Sound, Unsound}
-use Rattle.model.specs.declared.Writing.{Writing}
-use Rattle.model.specs.declared.Writing.TheVariants.{Written, Unwritten}
-use Rattle.model.specs.declared.Checking.{Checking}
-use Rattle.model.specs.declared.Checking.TheVariants.{Permitted, Unchecked}
-use Rattle.model.specs.declared.Verdict.{Verdict}
-use Rattle.model.specs.declared.Verdict.TheVariants.{Accepted, Rejected, Exhausted, Refused}
-use Rattle.model.specs.declared.RuledVerdict.{RuledVerdict}
+use Rattle.model.specs.First.{Reading, Writing, Checking, Validating, ValidatingUnder}
+use Rattle.model.specs.declared.Verdict.TheVariants.{Accepted, Rejected, Exhausted}
 use Rattle.model.specs.declared.RuledVerdict.TheVariants as Ruling
 
 pub record Values : Type 0 where
@@ -47,31 +40,31 @@ refusal_values (WitnessRow row) = values 43 row 0
 
 -- "Reading sound bytes gives 0, 0 and 0"
 abbrev pub reading_values : Reading → Values
-reading_values Sound = values 0 0 0
-reading_values (Unsound r) = refusal_values r
+reading_values (Ok _) = values 0 0 0
+reading_values (Err r) = refusal_values r
 
 -- "else 0 with the bytes written and 0"
 abbrev pub writing_values : Writing → Values
-writing_values (Written bytes) = values 0 bytes 0
-writing_values (Unwritten r) = refusal_values r
+writing_values (Ok bytes) = values 0 bytes 0
+writing_values (Err r) = refusal_values r
 
 -- "0 with the number of removed and added rows, and the number of rows"
 abbrev pub checking_values : Checking → Values
-checking_values (Permitted changed rows) = values 0 changed rows
-checking_values (Unchecked r) = refusal_values r
+checking_values (Ok p) = values 0 p.changed p.rows
+checking_values (Err r) = refusal_values r
 
-abbrev pub verdict_values : Verdict → Values
-verdict_values (Accepted cost rows) = values 0 cost rows
-verdict_values (Rejected cost instant not_yet no_more) = values 1 cost instant
-verdict_values (Exhausted budget instant) = values 2 budget instant
-verdict_values (Refused r) = refusal_values r
+abbrev pub verdict_values : Validating → Values
+verdict_values (Ok (Accepted cost rows)) = values 0 cost rows
+verdict_values (Ok (Rejected cost instant not_yet no_more)) = values 1 cost instant
+verdict_values (Ok (Exhausted budget instant)) = values 2 budget instant
+verdict_values (Err r) = refusal_values r
 
 -- under a rule: "answer 1 is called 'rejected as unlikely'" (R-7)
-abbrev pub ruled_values : RuledVerdict → Values
-ruled_values (Ruling.Accepted cost rows) = values 0 cost rows
-ruled_values (Ruling.Unlikely cost instant not_yet no_more) = values 1 cost instant
-ruled_values (Ruling.Exhausted budget instant) = values 2 budget instant
-ruled_values (Ruling.Refused r) = refusal_values r
+abbrev pub ruled_values : ValidatingUnder → Values
+ruled_values (Ok (Ruling.Accepted cost rows)) = values 0 cost rows
+ruled_values (Ok (Ruling.Unlikely cost instant not_yet no_more)) = values 1 cost instant
+ruled_values (Ok (Ruling.Exhausted budget instant)) = values 2 budget instant
+ruled_values (Err r) = refusal_values r
 
 -- "A rejection gains two counts" (R-10); any other answer has 0 and 0
 pub record Counts : Type 0 where
@@ -81,14 +74,14 @@ pub record Counts : Type 0 where
 abbrev pub counts : ℕ → ℕ → Counts
 counts a b = record { not_yet = a; no_more = b }
 
-abbrev pub verdict_counts : Verdict → Counts
-verdict_counts (Accepted cost rows) = counts 0 0
-verdict_counts (Rejected cost instant not_yet no_more) = counts not_yet no_more
-verdict_counts (Exhausted budget instant) = counts 0 0
-verdict_counts (Refused r) = counts 0 0
+abbrev pub verdict_counts : Validating → Counts
+verdict_counts (Ok (Accepted cost rows)) = counts 0 0
+verdict_counts (Ok (Rejected cost instant not_yet no_more)) = counts not_yet no_more
+verdict_counts (Ok (Exhausted budget instant)) = counts 0 0
+verdict_counts (Err r) = counts 0 0
 
-abbrev pub ruled_counts : RuledVerdict → Counts
-ruled_counts (Ruling.Accepted cost rows) = counts 0 0
-ruled_counts (Ruling.Unlikely cost instant not_yet no_more) = counts not_yet no_more
-ruled_counts (Ruling.Exhausted budget instant) = counts 0 0
-ruled_counts (Ruling.Refused r) = counts 0 0
+abbrev pub ruled_counts : ValidatingUnder → Counts
+ruled_counts (Ok (Ruling.Accepted cost rows)) = counts 0 0
+ruled_counts (Ok (Ruling.Unlikely cost instant not_yet no_more)) = counts not_yet no_more
+ruled_counts (Ok (Ruling.Exhausted budget instant)) = counts 0 0
+ruled_counts (Err r) = counts 0 0

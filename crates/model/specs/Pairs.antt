@@ -1,7 +1,7 @@
 -- The pairs that a rejection counts (document 02, R-10): "over the situations just before the moves of the rejected instant with the air free, and the transitions of
 -- the recorded kind from their state: how many such pairs are not yet, and how many no more".
-use Rattle.std.specs.Prelude.{ℕ, zero, suc, ◌+◌, List, Bool, true, false, cond, ◌&&◌, get_or, eqb}
-use Rattle.std.proofs.Math.Option.{Option, none, some, bind}
+use Rattle.std.specs.Prelude.{ℕ, zero, suc, ◌+◌, List, Bool, true, false, cond, ◌&&◌, get_or, eqb, Option, Some, None}
+use Rattle.std.specs.Option.{option_and_then}
 use Rattle.model.specs.Monitor.{Monitor, tried}
 use Rattle.model.specs.Situation.{config_of, situation_of}
 use Rattle.model.specs.declared.Readiness.{Readiness}
@@ -31,12 +31,12 @@ same_answer NoMore Yes = false
 same_answer NoMore NotYet = false
 
 abbrev pub is_answer : Readiness → Option Readiness → Bool
-is_answer a none = false
-is_answer a (some b) = same_answer a b
+is_answer a None = false
+is_answer a (Some b) = same_answer a b
 
 -- what transition j answers, in a situation, to what is recorded: none if the air is taken
 unfoldable pub answer_in : Monitor → Option ℕ → Situation → ℕ → Option Readiness
-answer_in m recorded s j = cond (eqb s.air 0) (bind recorded (λ k. tried m j k (config_of s))) none
+answer_in m recorded s j = cond (eqb s.air 0) (option_and_then (λ k. tried m j k (config_of s)) recorded) None
 
 -- situation n is in a set, and there transition j answers a
 abbrev pub is_pair : Monitor → List Bool → Option ℕ → Readiness → (n j : ℕ) → Bool

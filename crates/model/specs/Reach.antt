@@ -1,11 +1,9 @@
 -- "No dead states" (document 02, R-8): the states that transitions lead to from state 0 "when guards are ignored", and the number 17.
-use Rattle.std.specs.Prelude.{ℕ, zero, suc, ◌<◌, ◌≡◌, ◌↔◌, Bool, false, cond, ◌||◌, length, eqb}
+use Rattle.std.specs.Prelude.{ℕ, zero, suc, ◌<◌, ◌≡◌, ◌↔◌, Bool, false, cond, ◌||◌, length, eqb, Ok, Err}
 use mathlib.Core.List.{List, [], ◌∷◌, Memᴰ}
 use Rattle.model.specs.Bytes.{tab}
-use Rattle.model.specs.First.{unless, first_of}
+use Rattle.model.specs.First.{unless, first_of, Reading}
 use Rattle.model.specs.Monitor.{Monitor, Transition}
-use Rattle.model.specs.declared.Reading.{Reading}
-use Rattle.model.specs.declared.Reading.TheVariants.{Sound, Unsound}
 use Rattle.model.specs.declared.Refusal.TheVariants.{TableState}
 
 -- "State 0 counts as reached"; so does a state to which some transition leads from a reached one
@@ -21,8 +19,8 @@ pub record LowestUnreached (m : Monitor) (s : ℕ) : Type 0 where
 
 -- 17 in these words, of an answer: no number exactly if each state is reached, 17 with s exactly if s is the lowest that is not
 pub record StatesJudged (m : Monitor) (answer : Reading) : Type 0 where
-  pub sound : (answer ≡ Sound) ↔ ((s : ℕ) → s < m.states → Reached m s)
-  pub refused : (s : ℕ) → (answer ≡ Unsound (TableState s)) ↔ LowestUnreached m s
+  pub sound : (answer ≡ Ok tt) ↔ ((s : ℕ) → s < m.states → Reached m s)
+  pub refused : (s : ℕ) → (answer ≡ Err (TableState s)) ↔ LowestUnreached m s
 
 -- The test. That it judges the states as said is the theorem `states-judged`.
 

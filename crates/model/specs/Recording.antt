@@ -1,18 +1,16 @@
 -- The recording, read and written against a table, whose numbers come first.
-use Rattle.std.specs.Prelude.{ℕ, zero, suc, ◌+◌, ◌*◌, ◌≡◌, List, [], ◌∷◌, ◌++◌, Bool, true, cond, get_or, replicate, leb, ltb}
+use Rattle.std.specs.Prelude.{ℕ, zero, suc, ◌+◌, ◌*◌, ◌≡◌, List, [], ◌∷◌, ◌++◌, Bool, true, get_or, replicate, leb, ltb, Result, Ok}
 use Rattle.model.specs.Limits.{row_limit, time_limit}
 use Rattle.model.specs.Bytes.{byte_at, word_at, word_bytes, tab, joined, padded}
-use Rattle.model.specs.First.{unless, first_of, is_sound}
+use Rattle.model.specs.First.{unless, first_of, Reading, read_as}
 use Rattle.model.specs.Frame.{framed_rows, rows_frame}
 use Rattle.model.specs.Room.{Lent, write}
 use Rattle.model.specs.Monitor.{airtime}
 use Rattle.model.specs.Trace.{Packet}
 use Rattle.model.specs.Table.{table_answer, kinds_at, monitor_at}
 use Rattle.model.specs.declared.RecordingParts.{RecordingParts}
-use Rattle.model.specs.declared.RecordingReading.{RecordingReading}
 use Rattle.model.specs.declared.Edition.TheVariants.{One}
-use Rattle.model.specs.declared.Reading.{Reading}
-use Rattle.model.specs.declared.Reading.TheVariants.{Sound}
+use Rattle.model.specs.declared.Refusal.{Refusal}
 use Rattle.model.specs.declared.Refusal.TheVariants.{RecordingFrame, RecordingVersion, RecordingCount, RecordingRange, RecordingOrder}
 
 -- "two-byte count n (0 to 512), then n rows of two-byte time (1 to 4,096)", to 65,535 since R-5, "and kind"
@@ -42,7 +40,7 @@ recorded_row table b i =
 
 -- n rows from row i on
 unfoldable pub recorded_rows : ℕ → List ℕ → List ℕ → ℕ → Reading
-recorded_rows zero table b i = Sound
+recorded_rows zero table b i = Ok tt
 recorded_rows (suc n) table b i = first_of (recorded_row table b i ∷ recorded_rows n table b (suc i) ∷ [])
 
 -- 20, 21 and 22
@@ -68,13 +66,12 @@ recording_parts b =
 unfoldable pub no_recording : RecordingParts
 no_recording = record { count = 0; times = replicate row_limit 0; kinds = replicate row_limit 0 }
 
-unfoldable pub read_recording : List ℕ → List ℕ → RecordingReading
-read_recording table b =
-    record { answer = recording_answer table b; parts = cond (is_sound (recording_answer table b)) (recording_parts b) no_recording }
+unfoldable pub read_recording : List ℕ → List ℕ → Result RecordingParts Refusal
+read_recording table b = read_as (recording_answer table b) (recording_parts b)
 
 -- "a recording [is sound] if none from 20 to 24 does" apply, against a sound table
 abbrev pub SoundRecording : List ℕ → List ℕ → Type 0
-SoundRecording table b = recording_answer table b ≡ Sound
+SoundRecording table b = recording_answer table b ≡ Ok tt
 
 -- the rows of a recording, as packets
 

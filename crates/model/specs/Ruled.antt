@@ -1,14 +1,12 @@
 -- A table and a recording under a rule (document 02, R-7): the monitor that is judged, and the numbers 25 and 26.
-use Rattle.std.specs.Prelude.{ℕ, ◌≡◌, List, [], ◌∷◌, leb}
+use Rattle.std.specs.Prelude.{ℕ, ◌≡◌, List, [], ◌∷◌, leb, Ok}
 use Rattle.model.specs.Limits.{device_limit, window_limit, size_limit}
-use Rattle.model.specs.First.{unless, first_of}
+use Rattle.model.specs.First.{unless, first_of, Reading}
 use Rattle.model.specs.Rule.{Rule}
 use Rattle.model.specs.Monitor.{Monitor, under}
 use Rattle.model.specs.Size.{size}
 use Rattle.model.specs.Table.{monitor_at}
 use Rattle.model.specs.Recording.{recording_answer}
-use Rattle.model.specs.declared.Reading.{Reading}
-use Rattle.model.specs.declared.Reading.TheVariants.{Sound}
 use Rattle.model.specs.declared.Refusal.TheVariants.{RuleRange, RuleSize}
 
 -- the monitor that a table describes, judged under a rule
@@ -32,4 +30,4 @@ ruled_answer rule table recording = first_of (recording_answer table recording �
 
 -- none of the numbers from 10 to 26 applies
 abbrev pub SoundUnder : Rule → (table recording : List ℕ) → Type 0
-SoundUnder rule table recording = ruled_answer rule table recording ≡ Sound
+SoundUnder rule table recording = ruled_answer rule table recording ≡ Ok tt

@@ -1,7 +1,5 @@
 -- What a sound table ensures of its monitor, 25 of the rule, and a sound recording of its packets.
-use Rattle.std.specs.Prelude.{ℕ, ◌<◌, ◌≤◌, ◌≡◌, List, length}
-use Rattle.std.proofs.Math.Option.{some}
-use Rattle.std.proofs.Math.ListN.{get_elem?}
+use Rattle.std.specs.Prelude.{ℕ, ◌<◌, ◌≤◌, ◌≡◌, List, length, Some, slice_get}
 use Rattle.model.specs.Limits.{clock_limit, transition_limit, row_limit, time_limit}
 use Rattle.model.specs.Guard.{Guard, always, at_most, at_least, variable, negation, conjunction}
 use Rattle.model.specs.Monitor.{Monitor, Transition}
@@ -26,7 +24,7 @@ pub record Sane (m : Monitor) : Type 0 where
   pub states : 0 < m.states
   pub clocks : m.clocks ≤ clock_limit
   pub few : length m.transitions ≤ transition_limit
-  pub transition : (j : ℕ) (t : Transition) → get_elem? m.transitions j ≡ some t → SaneTransition m t
+  pub transition : (j : ℕ) (t : Transition) → slice_get m.transitions j ≡ Some t → SaneTransition m t
   pub window : 1 ≤ m.rule.window
 
 pub record SaneRecording (m : Monitor) (recording : List Packet) : Type 0 where

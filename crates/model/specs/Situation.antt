@@ -1,8 +1,6 @@
 -- Situations, their numbers, and moves (document 01, "Situations, cost and preference").
-use Rattle.std.specs.Prelude.{ℕ, ◌+◌, ◌-◌, ◌*◌, ◌/◌, ◌%◌, ◌^◌, ◌<◌, ◌≤◌, min, ◌≡◌, List, [], ◌∷◌, map, Bool, true, false, cond, get_or, ltb, eqb}
-use Rattle.std.proofs.Math.Option
-use Rattle.std.proofs.Math.Option.{Option, none, some, bind}
-use Rattle.std.proofs.Math.ListN.{get_elem?}
+use Rattle.std.specs.Prelude.{ℕ, ◌+◌, ◌-◌, ◌*◌, ◌/◌, ◌%◌, ◌^◌, ◌<◌, ◌≤◌, min, ◌≡◌, List, [], ◌∷◌, map, Bool, true, false, cond, get_or, ltb, eqb, Option, Some, None, slice_get}
+use Rattle.std.specs.Option.{option_map, option_and_then}
 use Rattle.model.specs.Limits.{transition_limit}
 use Rattle.model.specs.Rule.{masks, window_behind}
 use Rattle.model.specs.Monitor.{Monitor, Config, fires, to_unit, airtime, is_guess, within_rule}
@@ -40,7 +38,7 @@ pub data Move : Type 0 where
 -- a packet of kind k goes on the air where that is free, and of airtime a leaves a taken after the tick; o is where the monitor then is, none if the packet
 -- cannot be there, and window which rows are then guesses
 abbrev pub on_air : Monitor → ℕ → Situation → (window : ℕ) → Option Config → Option Situation
-on_air m k s window o = cond (eqb s.air 0) (Option.map (λ c. with_air c (airtime m k + 1) window) o) none
+on_air m k s window o = cond (eqb s.air 0) (option_map (λ c. with_air c (airtime m k + 1) window) o) None
 
 -- "A kept or added row finds the air free and fires one transition", and keeps the rule
 unfoldable pub sent : Monitor → (guess : Bool) → (j k : ℕ) → Situation → Option Situation
@@ -48,21 +46,21 @@ sent m guess j k s = on_air m k s (window_behind m.rule s.window guess) (within_
 
 -- a removed row is to the unit; "the channel was taken, though the unit missed it" (R-3). It is not counted into the window
 unfoldable pub missed : Monitor → ℕ → Situation → Option Situation
-missed m k s = on_air m k s s.window (cond (to_unit m k) (some (config_of s)) none)
+missed m k s = on_air m k s s.window (cond (to_unit m k) (Some (config_of s)) None)
 
 -- the kind that an added row by transition j has
 abbrev pub trigger_of : Monitor → ℕ → Option ℕ
-trigger_of m j = Option.map (λ t. t.trigger) (get_elem? m.transitions j)
+trigger_of m j = option_map (λ t. t.trigger) (slice_get m.transitions j)
 
 -- "Where no row is recorded, a move is nothing or an added row; where one is, it is keeping it, or, if the row is to the unit, removing it"; what is removed
 -- takes the air, so nothing is added at its instant
 unfoldable pub moved : Monitor → Option ℕ → Situation → Move → Option Situation
-moved m none s (keep j) = none
-moved m none s rest = some s
-moved m none s (add j) = bind (trigger_of m j) (λ a. sent m (is_guess m a) j a s)
-moved m (some k) s (keep j) = sent m false j k s
-moved m (some k) s rest = missed m k s
-moved m (some k) s (add j) = none
+moved m None s (keep j) = None
+moved m None s rest = Some s
+moved m None s (add j) = option_and_then (λ a. sent m (is_guess m a) j a s) (trigger_of m j)
+moved m (Some k) s (keep j) = sent m false j k s
+moved m (Some k) s rest = missed m k s
+moved m (Some k) s (add j) = None
 
 -- "The tick raises each clock by 1 and leaves the air as said above"
 abbrev pub tick : (List ℕ → List ℕ) → Situation → Situation
@@ -70,12 +68,12 @@ tick write s = record { state = s.state; variables = s.variables; clocks = write
 
 -- a move and then one tick
 unfoldable pub step_by : Monitor → (List ℕ → List ℕ) → Option ℕ → Situation → Move → Option Situation
-step_by m write recorded s a = Option.map (tick write) (moved m recorded s a)
+step_by m write recorded s a = option_map (tick write) (moved m recorded s a)
 
 -- the kind recorded at an instant
 unfoldable pub recorded_at : List Packet → ℕ → Option ℕ
-recorded_at [] t = none
-recorded_at (p ∷ ps) t = elim (eqb p.time t) [ true ↦ some p.kind | false ↦ recorded_at ps t ]
+recorded_at [] t = None
+recorded_at (p ∷ ps) t = elim (eqb p.time t) [ true ↦ Some p.kind | false ↦ recorded_at ps t ]
 
 -- moves as numbers, the preferred first: keep by each transition that a table can have, nothing, add by each transition
 
@@ -121,7 +119,7 @@ situation_of m n =
 
 -- the step at instant t from situation n by move k, on numbers
 unfoldable pub step_number : Monitor → List Packet → (t n k : ℕ) → Option ℕ
-step_number m recording t n k = Option.map (number m) (step_by m (capped m) (recorded_at recording t) (situation_of m n) (move_of k))
+step_number m recording t n k = option_map (number m) (step_by m (capped m) (recorded_at recording t) (situation_of m n) (move_of k))
 
 abbrev pub first_number : Monitor → ℕ
 first_number m = number m (first_by (capped m))

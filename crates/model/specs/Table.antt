@@ -1,8 +1,8 @@
 -- The table: which bytes are sound, their parts, the bytes of parts, what writing gives, and the monitor that a table describes.
-use Rattle.std.specs.Prelude.{ℕ, zero, suc, ◌+◌, ◌*◌, ◌/◌, ◌%◌, ◌^◌, List, [], ◌∷◌, ◌++◌, Bool, true, cond, not, ◌&&◌, length, get_or, take, drop, replicate, leb, ltb, eqb, ◌≡◌}
+use Rattle.std.specs.Prelude.{ℕ, zero, suc, ◌+◌, ◌*◌, ◌/◌, ◌%◌, ◌^◌, List, [], ◌∷◌, ◌++◌, Bool, true, not, ◌&&◌, length, get_or, take, drop, replicate, leb, ltb, eqb, ◌≡◌, Result, Ok}
 use Rattle.model.specs.Limits.{table_versions, state_limit, variable_limit, clock_limit, kind_limit, transition_limit, guard_limit, size_limit}
 use Rattle.model.specs.Bytes.{byte_at, word_bytes, tab, joined, padded}
-use Rattle.model.specs.First.{unless, first_of, is_sound}
+use Rattle.model.specs.First.{unless, first_of, Reading, read_as}
 use Rattle.model.specs.Frame.{framed}
 use Rattle.model.specs.Guard.{Guard, guard_at, ends_at, guard_of}
 use Rattle.model.specs.Rule.{no_rule}
@@ -12,10 +12,8 @@ use Rattle.model.specs.Room.{Lent, write}
 use Rattle.model.specs.Size.{table_size}
 use Rattle.model.specs.Reach.{states_answer}
 use Rattle.model.specs.declared.TableParts.{TableParts}
-use Rattle.model.specs.declared.TableReading.{TableReading}
 use Rattle.model.specs.declared.Edition.TheVariants.{One}
-use Rattle.model.specs.declared.Reading.{Reading}
-use Rattle.model.specs.declared.Reading.TheVariants.{Sound}
+use Rattle.model.specs.declared.Refusal.{Refusal}
 use Rattle.model.specs.declared.Refusal.TheVariants.{TableFrame, TableVersion, TableCount, TableLength, TableField, TableGuard, TableSize}
 
 -- the monitor of a table's parts
@@ -173,7 +171,7 @@ table_parts b =
       guards = padded (guard_limit * transition_limit) (joined (guard_place b) (transitions_at b));
     }
 
--- "in a refused reading every number of the parts is 0"
+-- "in a refused reading every number of the parts is 0": what stands for the parts where there are none
 unfoldable pub no_table : TableParts
 no_table =
     record {
@@ -229,12 +227,12 @@ answer_with devices b =
 unfoldable pub table_answer : List ℕ → Reading
 table_answer b = answer_with (device_column b) b
 
-unfoldable pub read_table : List ℕ → TableReading
-read_table b = record { answer = table_answer b; parts = cond (is_sound (table_answer b)) (table_parts b) no_table }
+unfoldable pub read_table : List ℕ → Result TableParts Refusal
+read_table b = read_as (table_answer b) (table_parts b)
 
 -- "A table is sound if no number from 10 to 19 applies"
 abbrev pub SoundTable : List ℕ → Type 0
-SoundTable b = table_answer b ≡ Sound
+SoundTable b = table_answer b ≡ Ok tt
 
 -- the monitor that a table describes
 abbrev pub monitor_at : List ℕ → Monitor

@@ -1,7 +1,6 @@
 -- Packet traces (Definition 1), the traces that the monitor satisfies (Definition 2), mutation traces (Definition 4), and what was on the air (document 02, R-3).
-use Rattle.std.specs.Prelude.{ℕ, ◌-◌, ◌≤◌, ◌<◌, ◌≡◌, ◌↔◌, ◌⊎◌, Bool, true, false, not, ◌&&◌, ◌||◌, eqb}
+use Rattle.std.specs.Prelude.{ℕ, ◌-◌, ◌≤◌, ◌<◌, ◌≡◌, ◌↔◌, ◌⊎◌, Bool, true, false, not, ◌&&◌, ◌||◌, eqb, Some}
 use mathlib.Core.List.{List, [], ◌∷◌, Memᴰ}
-use Rattle.std.proofs.Math.Option.{some}
 use Rattle.model.specs.Rule.{KeepsRule}
 use Rattle.model.specs.Monitor.{Monitor, Config, start, wait, fires, to_unit, airtime, is_guess}
 
@@ -23,7 +22,7 @@ PacketTrace m (p ∷ r) = (1 ≤ p.time) × Spaced m p r
 abbrev pub Carries : Monitor → ℕ → Config → List Packet → Type 0
 Carries m now c [] = Unit {0}
 Carries m now c (p ∷ r) =
-    (j : ℕ) × (d : Config) × (fires m j p.kind (wait (p.time - now) c) ≡ some d) × Carries m p.time d r
+    (j : ℕ) × (d : Config) × (fires m j p.kind (wait (p.time - now) c) ≡ Some d) × Carries m p.time d r
 
 -- "The monitor satisfies a trace if some choice of transitions carries it along all of it"
 abbrev pub Satisfies : Monitor → List Packet → Type 0

@@ -1,8 +1,7 @@
 -- Validation: the verdict, and what scratch and room hold afterwards, for any bytes and any lengths. The edition of the witness, which the caller names, decides 31
 -- and the bytes in the room, and nothing else. Under a rule (R-7) the monitor carries it, and 25 and 26 come before 30.
-use Rattle.std.specs.Prelude.{ℕ, suc, ◌+◌, ◌-◌, ◌*◌, ◌≡◌, List, [], ◌∷◌, ◌++◌, Bool, true, false, length, drop, replicate, leb, ltb}
-use Rattle.std.proofs.Math.Option.{Option, none, some}
-use Rattle.model.specs.First.{unless, first_of}
+use Rattle.std.specs.Prelude.{ℕ, suc, ◌+◌, ◌-◌, ◌*◌, ◌≡◌, List, [], ◌∷◌, ◌++◌, Bool, true, false, length, drop, replicate, leb, ltb, Option, Some, None, Ok, Err}
+use Rattle.model.specs.First.{unless, first_of, Reading, Validating, ValidatingUnder, read_as}
 use Rattle.model.specs.Edition.{rows_place, latest_time}
 use Rattle.model.specs.Room.{over}
 use Rattle.model.specs.Rule.{Rule}
@@ -17,12 +16,10 @@ use Rattle.model.specs.Situation.{Move, keep, rest, add, move_of, move_limit, re
 use Rattle.model.specs.Pairs.{pairs, is_pair}
 use Rattle.model.specs.Layers as L
 use Rattle.model.specs.declared.Edition.{Edition}
-use Rattle.model.specs.declared.Reading.{Reading}
-use Rattle.model.specs.declared.Reading.TheVariants.{Sound, Unsound}
 use Rattle.model.specs.declared.Readiness.{Readiness}
 use Rattle.model.specs.declared.Readiness.TheVariants.{NotYet, NoMore}
 use Rattle.model.specs.declared.Verdict.{Verdict}
-use Rattle.model.specs.declared.Verdict.TheVariants.{Accepted, Rejected, Exhausted, Refused}
+use Rattle.model.specs.declared.Verdict.TheVariants.{Accepted, Rejected, Exhausted}
 use Rattle.model.specs.declared.RuledVerdict.{RuledVerdict}
 use Rattle.model.specs.declared.RuledVerdict.TheVariants as Ruling
 use Rattle.model.specs.declared.Refusal.TheVariants.{Scratch, WitnessRoom}
@@ -31,8 +28,8 @@ use Rattle.model.specs.declared.Refusal.TheVariants.{Scratch, WitnessRoom}
 
 -- a row of a kind, if there is one
 abbrev pub row_for : (mark t : ℕ) → Option ℕ → (transition : ℕ) → List Row
-row_for mark t none j = []
-row_for mark t (some k) j = marked mark t k j ∷ []
+row_for mark t None j = []
+row_for mark t (Some k) j = marked mark t k j ∷ []
 
 -- what one move at instant t, with a row recorded there or not, comes to: at most one row
 unfoldable pub rows_by : Monitor → Option ℕ → ℕ → Move → List Row
@@ -42,11 +39,11 @@ rows_by m recorded t (add j) = row_for added t (trigger_of m j) j
 
 -- a move has what its rows name: a recorded row to keep, a transition of the table to add by where none is recorded
 abbrev pub HasRows : Monitor → Option ℕ → Move → Type 0
-HasRows m none (keep j) = ⊥
-HasRows m (some k) (keep j) = Unit {0}
+HasRows m None (keep j) = ⊥
+HasRows m (Some k) (keep j) = Unit {0}
 HasRows m recorded rest = Unit {0}
-HasRows m none (add j) = (a : ℕ) × (trigger_of m j ≡ some a)
-HasRows m (some k) (add j) = ⊥
+HasRows m None (add j) = (a : ℕ) × (trigger_of m j ≡ Some a)
+HasRows m (Some k) (add j) = ⊥
 
 -- the rows of a list of moves, the first at instant t
 unfoldable pub rows_of : Monitor → List Packet → ℕ → List ℕ → List Row
@@ -115,23 +112,21 @@ refusal_of given edition m recording scratch_length room_length =
     ∷ unless (leb (room_wanted edition recording) room_length) (WitnessRoom (room_wanted edition recording))
     ∷ [])
 
-unfoldable pub validation_of : (given : Reading) → Edition → Monitor → List Packet → (budget scratch_length room_length : ℕ) → Verdict
+unfoldable pub validation_of : (given : Reading) → Edition → Monitor → List Packet → (budget scratch_length room_length : ℕ) → Validating
 validation_of given edition m recording budget scratch_length room_length =
-    elim (refusal_of given edition m recording scratch_length room_length) [ Sound ↦ verdict m recording budget | Unsound r ↦ Refused r ]
+    read_as (refusal_of given edition m recording scratch_length room_length) (verdict m recording budget)
 
 -- "After 0, 1 or 2 the wanted part of the scratch is zero and the rest untouched"; "After a refusal every lent byte is untouched"
-abbrev pub scratch_by : Verdict → ℕ → List ℕ → List ℕ
-scratch_by (Accepted c r) wanted scratch = replicate wanted 0 ++ drop wanted scratch
-scratch_by (Rejected c i y n) wanted scratch = replicate wanted 0 ++ drop wanted scratch
-scratch_by (Exhausted b i) wanted scratch = replicate wanted 0 ++ drop wanted scratch
-scratch_by (Refused r) wanted scratch = scratch
+abbrev pub scratch_by : Validating → ℕ → List ℕ → List ℕ
+scratch_by (Ok v) wanted scratch = replicate wanted 0 ++ drop wanted scratch
+scratch_by (Err r) wanted scratch = scratch
 
 -- "After 0 the witness stands at the start of its room, the rest untouched; after 1 and 2 that room is untouched"
-abbrev pub room_by : Verdict → List ℕ → List ℕ → List ℕ
-room_by (Accepted c r) witness room = over witness room
-room_by (Rejected c i y n) witness room = room
-room_by (Exhausted b i) witness room = room
-room_by (Refused r) witness room = room
+abbrev pub room_by : Validating → List ℕ → List ℕ → List ℕ
+room_by (Ok (Accepted c r)) witness room = over witness room
+room_by (Ok (Rejected c i y n)) witness room = room
+room_by (Ok (Exhausted b i)) witness room = room
+room_by (Err r) witness room = room
 
 unfoldable pub scratch_left : (given : Reading) → Edition → Monitor → List Packet → (budget : ℕ) → (scratch room : List ℕ) → List ℕ
 scratch_left given edition m recording budget scratch room =
@@ -146,7 +141,7 @@ room_left given edition m recording budget scratch room =
 abbrev pub refusal : Edition → (table recording : List ℕ) → (scratch_length room_length : ℕ) → Reading
 refusal edition table recording = refusal_of (recording_answer table recording) edition (monitor_at table) (packets_at recording)
 
-abbrev pub validation : Edition → (table recording : List ℕ) → (budget scratch_length room_length : ℕ) → Verdict
+abbrev pub validation : Edition → (table recording : List ℕ) → (budget scratch_length room_length : ℕ) → Validating
 validation edition table recording = validation_of (recording_answer table recording) edition (monitor_at table) (packets_at recording)
 
 abbrev pub scratch_after : Edition → (table recording : List ℕ) → (budget : ℕ) → (scratch room : List ℕ) → List ℕ
@@ -161,13 +156,16 @@ abbrev pub refusal_under : Rule → Edition → (table recording : List ℕ) →
 refusal_under rule edition table recording = refusal_of (ruled_answer rule table recording) edition (monitor_under rule table) (packets_at recording)
 
 -- "answer 1 is called 'rejected as unlikely'"
-abbrev pub ruled : Verdict → RuledVerdict
-ruled (Accepted cost rows) = Ruling.Accepted cost rows
-ruled (Rejected cost instant not_yet no_more) = Ruling.Unlikely cost instant not_yet no_more
-ruled (Exhausted budget instant) = Ruling.Exhausted budget instant
-ruled (Refused r) = Ruling.Refused r
+abbrev pub ruling : Verdict → RuledVerdict
+ruling (Accepted cost rows) = Ruling.Accepted cost rows
+ruling (Rejected cost instant not_yet no_more) = Ruling.Unlikely cost instant not_yet no_more
+ruling (Exhausted budget instant) = Ruling.Exhausted budget instant
 
-abbrev pub validation_under : Rule → Edition → (table recording : List ℕ) → (budget scratch_length room_length : ℕ) → Verdict
+abbrev pub ruled : Validating → ValidatingUnder
+ruled (Ok v) = Ok (ruling v)
+ruled (Err r) = Err r
+
+abbrev pub validation_under : Rule → Edition → (table recording : List ℕ) → (budget scratch_length room_length : ℕ) → Validating
 validation_under rule edition table recording = validation_of (ruled_answer rule table recording) edition (monitor_under rule table) (packets_at recording)
 
 abbrev pub scratch_after_under : Rule → Edition → (table recording : List ℕ) → (budget : ℕ) → (scratch room : List ℕ) → List ℕ

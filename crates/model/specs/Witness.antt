@@ -1,17 +1,14 @@
 -- The witness, in either edition: its rows and its form, for which kind, and transition unless removed, may be any byte.
-use Rattle.std.specs.Prelude.{ℕ, suc, ◌+◌, ◌*◌, ◌≡◌, List, [], ◌∷◌, ◌++◌, Bool, true, false, cond, not, ◌&&◌, ◌||◌, length, get_or, replicate, leb, ltb, eqb}
-use Rattle.std.proofs.Math.Option.{Option, none, some}
+use Rattle.std.specs.Prelude.{ℕ, suc, ◌+◌, ◌*◌, ◌≡◌, List, [], ◌∷◌, ◌++◌, Bool, true, false, not, ◌&&◌, ◌||◌, length, get_or, replicate, leb, ltb, eqb, Option, Some, None, Result, Ok, Err}
 use Rattle.model.specs.Limits.{witness_places}
 use Rattle.model.specs.Bytes.{byte_at, word_at, word_bytes, tab, padded}
-use Rattle.model.specs.First.{unless, first_of, is_sound}
+use Rattle.model.specs.First.{unless, first_of, Reading, read_as}
 use Rattle.model.specs.Edition.{size_at, version_place, count_place, rows_place, most_rows, latest_time}
 use Rattle.model.specs.Frame.{framed_rows, rows_frame}
 use Rattle.model.specs.Room.{Lent, write}
 use Rattle.model.specs.declared.Edition.{Edition}
 use Rattle.model.specs.declared.WitnessParts.{WitnessParts}
-use Rattle.model.specs.declared.WitnessReading.{WitnessReading}
-use Rattle.model.specs.declared.Reading.{Reading}
-use Rattle.model.specs.declared.Reading.TheVariants.{Sound, Unsound}
+use Rattle.model.specs.declared.Refusal.{Refusal}
 use Rattle.model.specs.declared.Refusal.TheVariants.{WitnessFrame, WitnessVersion, WitnessCount, WitnessRow}
 
 -- "mark (0 kept, 1 removed, 2 added), two-byte time", from 1 to the latest of the edition, "kind, transition number (255 if removed)"
@@ -50,16 +47,16 @@ follows p r = ltb p.time r.time
 
 -- a row behind the one before it, if there is one
 abbrev pub in_place : Edition → Option Row → Row → Bool
-in_place edition none r = in_form edition r
-in_place edition (some p) r = in_form edition r && follows p r
+in_place edition None r = in_form edition r
+in_place edition (Some p) r = in_form edition r && follows p r
 
 -- the first of the rows, counted from i, that breaks the form; none if none does
 unfoldable pub misformed : Edition → Option Row → ℕ → List Row → Option ℕ
-misformed edition before i [] = none
-misformed edition before i (r ∷ rs) = elim (in_place edition before r) [ true ↦ misformed edition (some r) (suc i) rs | false ↦ some i ]
+misformed edition before i [] = None
+misformed edition before i (r ∷ rs) = elim (in_place edition before r) [ true ↦ misformed edition (Some r) (suc i) rs | false ↦ Some i ]
 
 abbrev pub Formed : Edition → List Row → Type 0
-Formed edition rows = misformed edition none 0 rows ≡ none
+Formed edition rows = misformed edition None 0 rows ≡ None
 
 -- reading
 
@@ -84,8 +81,8 @@ rows_at edition b = tab (row_at edition b) (witness_count_at edition b)
 
 -- 43 with the number of a row, where there is one
 abbrev pub bad_row : Option ℕ → Reading
-bad_row none = Sound
-bad_row (some i) = Unsound (WitnessRow i)
+bad_row None = Ok tt
+bad_row (Some i) = Err (WitnessRow i)
 
 -- 40, 41 and 42
 unfoldable pub witness_frame : Edition → List ℕ → Reading
@@ -94,10 +91,10 @@ witness_frame edition b =
 
 -- the form alone: 40 to 42, then 43 for the first row that breaks it
 unfoldable pub witness_answer : Edition → List ℕ → Reading
-witness_answer edition b = first_of (witness_frame edition b ∷ bad_row (misformed edition none 0 (rows_at edition b)) ∷ [])
+witness_answer edition b = first_of (witness_frame edition b ∷ bad_row (misformed edition None 0 (rows_at edition b)) ∷ [])
 
 abbrev pub SoundForm : Edition → List ℕ → Type 0
-SoundForm edition b = witness_answer edition b ≡ Sound
+SoundForm edition b = witness_answer edition b ≡ Ok tt
 
 -- the parts have places for the rows of either edition
 unfoldable pub witness_parts : Edition → List ℕ → WitnessParts
@@ -120,9 +117,8 @@ no_witness =
       transitions = replicate witness_places 0;
     }
 
-unfoldable pub read_witness : Edition → List ℕ → WitnessReading
-read_witness edition b =
-    record { answer = witness_answer edition b; parts = cond (is_sound (witness_answer edition b)) (witness_parts edition b) no_witness }
+unfoldable pub read_witness : Edition → List ℕ → Result WitnessParts Refusal
+read_witness edition b = read_as (witness_answer edition b) (witness_parts edition b)
 
 -- the bytes of rows, and of parts
 

@@ -4,6 +4,12 @@
 
 #![tactic(auto)]
 
+ghost use Rattle.std.specs.Prelude.{◌≡◌};
+ghost use Rattle.model.specs.Validation.{ruling};
+ghost use Rattle.model.specs.Table.{no_table};
+ghost use Rattle.model.specs.Recording.{no_recording};
+ghost use Rattle.model.specs.Witness.{no_witness};
+
 // the latest version of a table
 pub const TABLE_VERSIONS: u8 = 2;
 
@@ -90,7 +96,7 @@ pub struct WitnessParts {
 }
 
 // The editions of a witness (R-5), of which a caller names one.
-#[derive(Clone, Copy)]
+#[derive(Clone, Copy, Debug, PartialEq, Eq)]
 pub enum Edition {
     One,
     Two,
@@ -124,7 +130,7 @@ pub struct Rule {
 }
 
 // Why an input is refused: document 01's numbers from 10 on, with those of document 02's requests (17, 25, 26), in their order.
-#[derive(Clone, Copy)]
+#[derive(Clone, Copy, Debug, PartialEq, Eq)]
 pub enum Refusal {
     TableFrame,
     TableVersion,
@@ -150,27 +156,15 @@ pub enum Refusal {
     WitnessRow { row: u64 },
 }
 
-#[derive(Clone, Copy)]
-pub enum Reading {
-    Sound,
-    Unsound(Refusal),
-}
-
-#[derive(Clone, Copy)]
-pub enum Writing {
-    Written { bytes: u64 },
-    Unwritten(Refusal),
-}
-
-// changed: the removed and added rows together.
-#[derive(Clone, Copy)]
-pub enum Checking {
-    Permitted { changed: u64, rows: u64 },
-    Unchecked(Refusal),
+// What the checker answers of a witness that is permitted. changed: the removed and added rows together.
+#[derive(Clone, Copy, Debug, PartialEq, Eq)]
+pub struct Permitted {
+    pub changed: u64,
+    pub rows: u64,
 }
 
 // What a guard answers (R-10): it holds; it does not, but waiting alone would make it hold; it does not, and no wait would.
-#[derive(Clone, Copy)]
+#[derive(Clone, Copy, Debug, PartialEq, Eq)]
 pub enum Readiness {
     Yes,
     NotYet,
@@ -178,7 +172,7 @@ pub enum Readiness {
 }
 
 // not_yet, no_more: the pairs of a situation and a transition that answer so just before the instant's moves.
-#[derive(Clone, Copy)]
+#[derive(Clone, Copy, Debug, PartialEq, Eq)]
 pub enum Verdict {
     Accepted {
         cost: u64,
@@ -194,11 +188,10 @@ pub enum Verdict {
         budget: u64,
         instant: u64,
     },
-    Refused(Refusal),
 }
 
 // The verdict under a rule (R-7), by which a rejected recording is unlikely, and not certainly wrong.
-#[derive(Clone, Copy)]
+#[derive(Clone, Copy, Debug, PartialEq, Eq)]
 pub enum RuledVerdict {
     Accepted {
         cost: u64,
@@ -214,24 +207,81 @@ pub enum RuledVerdict {
         budget: u64,
         instant: u64,
     },
-    Refused(Refusal),
 }
 
-// A reading is its answer beside the parts, which are all 0 where it is refused.
-#[derive(Clone, Copy)]
-pub struct TableReading {
-    pub answer: Reading,
-    pub parts: TableParts,
+// Under a rule a rejection is called unlikely.
+impl From<Verdict> for RuledVerdict {
+    ghost from_gives = { λ v r. r ≡ ruling v };
+
+    fn from(verdict: Verdict) -> RuledVerdict {
+        match verdict {
+            Verdict::Accepted { cost, rows } => RuledVerdict::Accepted { cost, rows },
+            Verdict::Rejected {
+                cost,
+                instant,
+                not_yet,
+                no_more,
+            } => RuledVerdict::Unlikely {
+                cost,
+                instant,
+                not_yet,
+                no_more,
+            },
+            Verdict::Exhausted { budget, instant } => RuledVerdict::Exhausted { budget, instant },
+        }
+    }
 }
 
-#[derive(Clone, Copy)]
-pub struct RecordingReading {
-    pub answer: Reading,
-    pub parts: RecordingParts,
+// Parts that are all 0: what stands for the parts of a refused reading.
+
+impl Default for TableParts {
+    ghost is_default = { λ t. t ≡ no_table };
+
+    fn default() -> TableParts {
+        TableParts {
+            version: 0,
+            states: 0,
+            variables: 0,
+            clocks: 0,
+            kinds: 0,
+            transitions: 0,
+            directions: [0; KIND_LIMIT],
+            airtimes: [0; KIND_LIMIT],
+            devices: [0; KIND_LIMIT],
+            sources: [0; TRANSITION_LIMIT],
+            targets: [0; TRANSITION_LIMIT],
+            triggers: [0; TRANSITION_LIMIT],
+            sets: [0; TRANSITION_LIMIT],
+            clears: [0; TRANSITION_LIMIT],
+            resets: [0; TRANSITION_LIMIT],
+            lengths: [0; TRANSITION_LIMIT],
+            guards: [0; GUARD_LIMIT * TRANSITION_LIMIT],
+        }
+    }
 }
 
-#[derive(Clone, Copy)]
-pub struct WitnessReading {
-    pub answer: Reading,
-    pub parts: WitnessParts,
+impl Default for RecordingParts {
+    ghost is_default = { λ r. r ≡ no_recording };
+
+    fn default() -> RecordingParts {
+        RecordingParts {
+            count: 0,
+            times: [0; ROW_LIMIT],
+            kinds: [0; ROW_LIMIT],
+        }
+    }
+}
+
+impl Default for WitnessParts {
+    ghost is_default = { λ w. w ≡ no_witness };
+
+    fn default() -> WitnessParts {
+        WitnessParts {
+            count: 0,
+            marks: [0; WITNESS_PLACES],
+            times: [0; WITNESS_PLACES],
+            kinds: [0; WITNESS_PLACES],
+            transitions: [0; WITNESS_PLACES],
+        }
+    }
 }

@@ -35,7 +35,8 @@ module _ {devices : List ℕ} (b : List ℕ) (facts : TableFacts devices b) wher
   unfolding offsets_of
   offset j h = get_or_column transition_limit (transition_at b) (min (transitions_at b) transition_limit) j (omega (arith, few))
 
-  column : (field j : ℕ) → j < transitions_at b → byte_at b (transition_at b j + field) ≡ byte_at (padded transition_limit (tab (λ i. byte_at b (transition_at b i + field)) (transitions_at b))) j
+  column : (field j : ℕ) → j < transitions_at b
+      → byte_at b (transition_at b j + field) ≡ byte_at (padded transition_limit (tab (λ i. byte_at b (transition_at b i + field)) (transitions_at b))) j
   column field j h = sym (get_or_column transition_limit (λ i. byte_at b (transition_at b i + field)) (transitions_at b) j h)
 
   same : (j : ℕ) → j < transitions_at b → transition_from b (transition_at b j) ≡ transition_in (table_parts b) j

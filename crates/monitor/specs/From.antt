@@ -1,6 +1,5 @@
 -- The monitor of a table's bytes, given where the transition records start. Of a sound table it is the monitor that the table describes.
-use Rattle.std.specs.Prelude.{ℕ, ◌+◌, min, List, [], true, false, cond, ◌&&◌, get_or, eqb}
-use Rattle.std.proofs.Math.Option.{Option, none, some}
+use Rattle.std.specs.Prelude.{ℕ, ◌+◌, min, List, [], cond, ◌&&◌, get_or, eqb, Option, Some, None}
 use Rattle.model.specs.Limits.{transition_limit, guard_limit}
 use Rattle.model.specs.Bytes.{byte_at, tab, padded}
 use Rattle.model.specs.Guard.{Guard, guard_at, guard_of}
@@ -11,26 +10,10 @@ use Rattle.model.specs.declared.Readiness.{Readiness}
 use Rattle.model.specs.Kinds.{version_at, kind_at, device_at}
 use Rattle.model.specs.Table.{states_at, variables_at, clocks_at, kinds_at, transitions_at, guard_length_at, transition_at}
 use Rattle.model.specs.declared.Config.{Config}
-use Rattle.monitor.specs.declared.Fired.{Fired}
-use Rattle.monitor.specs.declared.Attempt.{Attempt}
-use Rattle.monitor.specs.declared.Attempt.TheVariants.{Unfit, Answer}
 
 -- the transitions that a table counts, at most as many as a sound one has
 abbrev pub transition_count : List ℕ → ℕ
 transition_count table = min (transitions_at table) transition_limit
-
--- what a firing answers, tried from the configuration c; unfired, c stands there
-abbrev pub firing : Config → Option Config → Fired
-firing c none = record { fired = false; to = c }
-firing c (some d) = record { fired = true; to = d }
-
-abbrev pub fired_of : Fired → Option Config
-fired_of f = cond f.fired (some f.to) none
-
--- the answer of a transition, none if it is unfit
-abbrev pub attempt_of : Attempt → Option Readiness
-attempt_of Unfit = none
-attempt_of (Answer a) = some a
 
 -- the guard, and the transition, whose record starts at an offset
 
@@ -70,7 +53,7 @@ offsets_of b = padded transition_limit (tab (transition_at b) (transition_count 
 abbrev pub tried_from : List ℕ → ℕ → ℕ → Config → Option Readiness
 tried_from b at k c =
     let t = transition_from b at in
-    cond (eqb t.source c.state && eqb t.trigger k) (some (readiness t.guard c.variables c.clocks)) none
+    cond (eqb t.source c.state && eqb t.trigger k) (Some (readiness t.guard c.variables c.clocks)) None
 
 -- the configuration after the transition whose record starts at an offset
 abbrev pub after_from : List ℕ → ℕ → Config → Config

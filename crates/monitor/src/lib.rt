@@ -2,43 +2,24 @@
 
 #![tactic(auto)]
 
-ghost use Rattle.std.specs.Prelude.{◌≡◌, List, cond, ℕ, ◌+◌, ◌%◌, ◌<◌, eqb};
+ghost use Rattle.std.specs.Prelude.{◌≡◌, List, cond, ℕ, ◌+◌, ◌%◌, ◌<◌, eqb, ltb};
 ghost use Rattle.model.specs.Readiness.{readiness};
 ghost use Rattle.model.specs.Monitor as Monitor;
 ghost use Rattle.model.specs.Monitor.{changed, fires, to_unit, airtime, device};
-ghost use Rattle.model.specs.Pairs.{is_answer};
-ghost use Rattle.model.specs.declared.Readiness.TheVariants.{Yes};
-ghost use Rattle.monitor.specs.From.{transition_count, firing, attempt_of, guard_from, tried_from, monitor_from, offsets_of, after_from};
+ghost use Rattle.model.specs.Kinds.{version_at, kind_at};
+ghost use Rattle.model.specs.Table.{kinds_at};
+ghost use Rattle.monitor.specs.From.{transition_count, guard_from, tried_from, monitor_from, offsets_of, after_from};
 
 use guard::guard_answer;
 use kinds::{device_at, record_at, transitions_at};
 use model::{Config, Readiness, TRANSITION_LIMIT};
 use wire::{byte, short};
 
-// Whether a transition fired, and where it led; unfired, the configuration before.
-#[derive(Clone, Copy)]
-pub struct Fired {
-    pub fired: bool,
-    pub to: Config,
-}
-
-// What a transition answers to a packet: its guard's answer; unfit if it is of another kind or from another state, or the table has no such transition.
-#[derive(Clone, Copy)]
-pub enum Attempt {
-    Unfit,
-    Answer(Readiness),
-}
-
 // How many transitions the table counts, at most as many as a sound one has.
 pub fn transitions(table: &[u8]) -> usize
     ensures { result ≡ transition_count table.now }
 {
-    let count = byte(table, 7) as usize;
-    if count < TRANSITION_LIMIT {
-        count
-    } else {
-        TRANSITION_LIMIT
-    }
+    usize::from(byte(table, 7)).min(TRANSITION_LIMIT)
 }
 
 // Where the transition records start. Each record's length is known only from its own bytes.
@@ -46,49 +27,52 @@ pub fn offsets(table: &[u8]) -> [u16; TRANSITION_LIMIT]
     ensures { result ≡ offsets_of table.now }
 {
     let mut found = [0u16; TRANSITION_LIMIT];
-    let count = transitions(table);
     let mut at = transitions_at(table);
-    let mut j = 0;
-    while j < count {
+    for j in 0..transitions(table) {
         found[j] = at;
-        at += 7 + byte(table, at as usize + 6) as u16;
-        j += 1;
+        at += 7 + u16::from(byte(table, usize::from(at) + 6));
     }
     found
 }
 
+// Where a kind's record starts, if the table has the kind.
+fn record_of(table: &[u8], kind: u8) -> Option<u16>
+    ensures { result ≡ cond (ltb kind (kinds_at table.now)) (Some (kind_at (version_at table.now) kind)) None }
+{
+    if kind < byte(table, 6) {
+        Some(record_at(table, kind))
+    } else {
+        None
+    }
+}
+
+#[tactic(auto, using(crate::proofs::Records::kinds), unfolding(crate::specs::From::monitor_from))]
 pub fn to_unit(table: &[u8], kind: u8) -> bool
     ensures { (offsets : List ℕ) → result ≡ to_unit (monitor_from table.now offsets) kind }
 {
-    if byte(table, 6) <= kind {
-        return false;
-    }
-    byte(table, record_at(table, kind) as usize) == 1
+    record_of(table, kind).is_some_and(|at| byte(table, usize::from(at)) == 1)
 }
 
+#[tactic(auto, using(crate::proofs::Records::kinds), unfolding(crate::specs::From::monitor_from))]
 pub fn airtime_of(table: &[u8], kind: u8) -> u8
     ensures { (offsets : List ℕ) → result ≡ airtime (monitor_from table.now offsets) kind }
 {
-    if byte(table, 6) <= kind {
-        return 0;
-    }
-    byte(table, record_at(table, kind) as usize + 1)
+    record_of(table, kind).map_or(0, |at| byte(table, usize::from(at) + 1))
 }
 
+#[tactic(auto, using(crate::proofs::Records::kinds), unfolding(crate::specs::From::monitor_from))]
 pub fn device_of(table: &[u8], kind: u8) -> u8
     ensures { (offsets : List ℕ) → result ≡ device (monitor_from table.now offsets) kind }
 {
-    if byte(table, 6) <= kind {
-        return 0;
-    }
-    device_at(table, record_at(table, kind))
+    record_of(table, kind).map_or(0, |at| device_at(table, at))
 }
 
 // The first n variables after some are set and some are cleared.
+#[tactic(auto, using(crate::proofs::Masks::changing))]
 pub fn variables_after(n: u8, v: u8, set: u8, clear: u8) -> u8
     ensures { result ≡ changed n v set clear }
 {
-    let all = ((v | clear) ^ clear) | set;
+    let all = (v & !clear) | set;
     if n < 8 { all % (1 << n) } else { all }
 }
 
@@ -99,14 +83,12 @@ fn clock_after(mask: u8, reads: u16) -> u16
 }
 
 // What firing the transition at an offset leaves.
+#[tactic(auto, using(crate::proofs::Records::after_with))]
 fn after_record(table: &[u8], at: usize, c: Config) -> Config
     requires { at < 65536 }
     ensures { result ≡ after_from table.now at c }
 {
     let resets = byte(table, at + 5);
-    let clocks = c.clocks;
-    let first = clock_after(resets, clocks[0]);
-    let second = clock_after(resets / 2, clocks[1]);
     let variables = variables_after(
         byte(table, 4),
         c.variables,
@@ -116,17 +98,20 @@ fn after_record(table: &[u8], at: usize, c: Config) -> Config
     Config {
         state: byte(table, at + 1),
         variables,
-        clocks: [first, second],
+        clocks: [
+            clock_after(resets, c.clocks[0]),
+            clock_after(resets / 2, c.clocks[1]),
+        ],
     }
 }
 
+#[tactic(auto, unfolding(crate::specs::From::guard_from))]
 fn guard_at_answer(table: &[u8], at: usize, c: Config) -> Readiness
     requires { at < 65536 }
     ensures { result ≡ readiness (guard_from table.now at) c.variables c.clocks }
 {
-    let clocks = c.clocks;
     let start = at + 7;
-    let end = start + byte(table, at + 6) as usize;
+    let end = start + usize::from(byte(table, at + 6));
     guard_answer(
         table,
         start,
@@ -134,59 +119,52 @@ fn guard_at_answer(table: &[u8], at: usize, c: Config) -> Readiness
         byte(table, 4),
         byte(table, 5),
         c.variables,
-        &clocks,
+        &c.clocks,
     )
 }
 
 // The transition whose record is at an offset.
-fn record_tried(table: &[u8], at: usize, kind: u8, c: Config) -> Attempt
+#[tactic(auto, unfolding(crate::specs::From::transition_from))]
+fn record_tried(table: &[u8], at: usize, kind: u8, c: Config) -> Option<Readiness>
     requires { at < 65536 }
-    ensures { attempt_of result ≡ tried_from table.now at kind c }
+    ensures { result ≡ tried_from table.now at kind c }
 {
-    if byte(table, at) != c.state {
-        return Attempt::Unfit;
+    if byte(table, at) != c.state || byte(table, at + 2) != kind {
+        return None;
     }
-    if byte(table, at + 2) != kind {
-        return Attempt::Unfit;
-    }
-    Attempt::Answer(guard_at_answer(table, at, c))
+    Some(guard_at_answer(table, at, c))
 }
 
-// Transition j on a packet of a kind.
-pub fn tried<'a>(table: &'a [u8], offsets: &'a [u16], j: usize, kind: u8, c: Config) -> Attempt
-    ensures { attempt_of result ≡ Monitor.tried (monitor_from table.now offsets.now) j kind c }
+// What transition j answers to a packet of a kind: its guard's answer; None if it is of another kind or from another state, or the table has no such transition.
+#[tactic(auto, using(crate::proofs::Records::transitions), unfolding(crate::specs::From::monitor_from, model::specs::Monitor::tried))]
+pub fn tried<'a>(
+    table: &'a [u8],
+    offsets: &'a [u16],
+    j: usize,
+    kind: u8,
+    c: Config,
+) -> Option<Readiness>
+    ensures { result ≡ Monitor.tried (monitor_from table.now offsets.now) j kind c }
 {
-    if byte(table, 7) as usize <= j {
-        return Attempt::Unfit;
+    if usize::from(byte(table, 7)) <= j {
+        return None;
     }
-    record_tried(table, short(offsets, j) as usize, kind, c)
+    record_tried(table, usize::from(short(offsets, j)), kind, c)
 }
 
-fn is_yes(t: Attempt) -> bool
-    ensures { result ≡ is_answer Yes (attempt_of t) }
+// Where it leads, if its guard answers yes.
+#[tactic(auto, using(crate::proofs::Records::firing))]
+pub fn fire<'a>(
+    table: &'a [u8],
+    offsets: &'a [u16],
+    j: usize,
+    kind: u8,
+    c: Config,
+) -> Option<Config>
+    ensures { result ≡ fires (monitor_from table.now offsets.now) j kind c }
 {
-    let Attempt::Answer(answer) = t else {
-        return false;
-    };
-    match answer {
-        Readiness::Yes => true,
-        Readiness::NotYet => false,
-        Readiness::NoMore => false,
-    }
-}
-
-// The same transition, fired where its guard answers yes.
-pub fn fire<'a>(table: &'a [u8], offsets: &'a [u16], j: usize, kind: u8, c: Config) -> Fired
-    ensures { result ≡ firing c (fires (monitor_from table.now offsets.now) j kind c) }
-{
-    if is_yes(tried(table, offsets, j, kind, c)) {
-        return Fired {
-            fired: true,
-            to: after_record(table, short(offsets, j) as usize, c),
-        };
-    }
-    Fired {
-        fired: false,
-        to: c,
+    match tried(table, offsets, j, kind, c) {
+        Some(Readiness::Yes) => Some(after_record(table, usize::from(short(offsets, j)), c)),
+        _ => None,
     }
 }

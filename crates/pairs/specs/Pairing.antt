@@ -1,6 +1,5 @@
 -- How many pairs of a situation of a row and a transition answer not yet, and how many no more.
-use Rattle.std.specs.Prelude.{ℕ, ◌+◌, min, ◌≡◌, List, Bool, cond, ◌&&◌}
-use Rattle.std.proofs.Math.Option.{Option}
+use Rattle.std.specs.Prelude.{ℕ, ◌+◌, min, ◌≡◌, List, Bool, cond, ◌&&◌, Option}
 use Rattle.model.specs.Limits.{size_limit}
 use Rattle.model.specs.Pairs.{how_many, pairs, is_answer, answer_in}
 use Rattle.model.specs.declared.Readiness.{Readiness}

@@ -115,9 +115,6 @@ module _ (f s i : ℕ) where
       by (suc zero) h l = absurd (l refl)
       by (suc (suc j)) h l = refl
 
-  pub pair_fits : Clocks f s → f * s < 2 ^ 32
-  pair_fits c = omega (arith, mul-le-mul c.most c.most₁)
-
 pub one_shifted : (t : ℕ) → t < 16 → 1 * 2 ^ t % 2 ^ 32 ≡ 2 ^ t
 one_shifted t h =
     let low : t < 32 = omega arith in

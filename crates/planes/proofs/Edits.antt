@@ -1,29 +1,21 @@
 -- Sets that are changed in place, word by word. Assumes nothing.
 use mathlib.Core.Path.{◌≡◌, refl, ap, ◌∙◌}
-use mathlib.Core.Bool.{Bool, true, false, not, ◌&&◌}
+use mathlib.Core.Bool.{Bool, true, false, ◌&&◌}
 use mathlib.Core.List.{List}
-use Prim.Native.Nat.{ℕ, ◌+◌, ◌-◌, ◌*◌, ◌%◌, ◌^◌, ◌≤◌, ◌<◌}
-use native.Mathlib.Decide.{dec_lt}
+use Prim.Native.Nat.{ℕ, ◌+◌, ◌*◌, ◌/◌, ◌%◌, ◌^◌, ◌≤◌, ◌<◌}
 use native.Mathlib.Omega.{arith}
-use borrow.Author.Tests.{lt-ltb, le-ltb}
+use borrow.Author.Tests.{lt-ltb}
 use lib.Dec.{ltb}
-use lib.ListN.{length, get_or, set, length-set}
+use lib.ListN.{length, get_or, set, replicate, length-set, length-replicate}
+use Rattle.std.proofs.lemmas.List.{get_or-replicate}
 use lib.Bits.{bit_and}
-use Rattle.words.specs.Words.{bit, mem, Bits}
-use Rattle.words.specs.Words.{Upto}
-use Rattle.words.proofs.Bit.{bit_not, bit_past, bit_zero, bit_mask}
+use Rattle.words.specs.Words.{bit, mem, Bits, Is, Upto}
+use Rattle.words.proofs.Bit.{bit_zero, bit_mask}
 use Rattle.words.proofs.Sets.{and_bits, mem_other}
 use Rattle.strides.proofs.Moves.{own_bits, upto_more}
 
 pub bits-same : (p q : ℕ → Bool) (x : ℕ) → ((j : ℕ) → p j ≡ q j) → Bits 64 p x → Bits 64 q x
 bits-same p q x e b = record { bits = λ j. b.bits j ∙ ap (λ (t : Bool). ltb j 64 && t) (e j) }
-
-not_bits : (p : ℕ → Bool) (x : ℕ) → x < 2 ^ 64 → Bits 64 p x → Bits 64 (λ j. not (p j)) (2 ^ 64 - 1 - x)
-not_bits p x small b = record { bits = λ j. at j (dec_lt j 64) }
-  where
-    at : (j : ℕ) → Dec (j < 64) → bit (2 ^ 64 - 1 - x) j ≡ (ltb j 64 && not (p j))
-    at j (yes l) = bit_not 64 x j small l ∙ ap not (b.bits j) ∙ simp (lt-ltb j 64 l)
-    at j (no l) = bit_past 64 (2 ^ 64 - 1 - x) j (omega arith) (omega arith) ∙ simp (le-ltb j 64 (omega arith))
 
 -- a set that is p below word k and still s from there on
 pub record Changed (p : ℕ → Bool) (s : List ℕ) (k : ℕ) (a : List ℕ) : Type 0 where
@@ -47,12 +39,6 @@ module _ (p : ℕ → Bool) (s : List ℕ) (k : ℕ) (a : List ℕ) (h : k < len
   pub still : (w x : ℕ) → k ≤ w → x ≡ get_or a w 0 → x < 2 ^ 64 → Bits 64 (λ j. mem s (64 * w + j)) x
   still w x l e small = bits-same (λ j. mem a (64 * w + j)) (λ j. mem s (64 * w + j)) x (λ j. c.rest (64 * w + j) (omega arith)) (own_bits a w x e small)
 
-pub word_not : (s a : List ℕ) (k x : ℕ) → k < length a → Changed (λ i. not (mem s i)) s k a → x ≡ get_or a k 0 → x < 2 ^ 64
-    → Changed (λ i. not (mem s i)) s (k + 1) (set a k (2 ^ 64 - 1 - x))
-word_not s a k x h c e small =
-    changed-more (λ i. not (mem s i)) s k a h c (2 ^ 64 - 1 - x)
-    (not_bits (λ j. mem s (64 * k + j)) x small (still (λ i. not (mem s i)) s k a h c k x (omega arith) e small))
-
 pub word_common : (s a : List ℕ) (n k x y : ℕ) → k < length a → Changed (λ i. mem s i && mem s (64 * n + i)) s k a
     → x ≡ get_or a k 0 → x < 2 ^ 64 → y ≡ get_or a (n + k) 0 → y < 2 ^ 64 → Changed (λ i. mem s i && mem s (64 * n + i)) s (k + 1) (set a k (bit_and x y))
 word_common s a n k x y h c e small e₁ small₁ =
@@ -64,12 +50,13 @@ word_common s a n k x y h c e small e₁ small₁ =
     (bits-same (λ j. mem s (64 * (n + k) + j)) (λ j. mem s (64 * n + (64 * k + j))) y (λ j. ap (mem s) (far j)) (still p s k a h c (n + k) y (omega arith) e₁ small₁)))
 
 -- the same word everywhere
-pub word_same : (k x : ℕ) → x < 2 ^ 64 → Bits 64 (λ j. bit x ((64 * k + j) % 64)) x
-word_same k x small = record { bits = λ j. at j (dec_lt j 64) }
-  where
-    at : (j : ℕ) → Dec (j < 64) → bit x j ≡ (ltb j 64 && bit x ((64 * k + j) % 64))
-    at j (yes l) = let e : (64 * k + j) % 64 ≡ j = omega arith in simp (lt-ltb j 64 l, e)
-    at j (no l) = bit_past 64 x j small (omega arith) ∙ simp (le-ltb j 64 (omega arith))
+pub same_words : (s a : List ℕ) (x : ℕ) → a ≡ replicate (length s) x → Is (λ i. bit x (i % 64)) s a
+unfolding mem
+same_words s a x e =
+    record {
+      size = ap length e ∙ length-replicate (length s) x;
+      all = λ i l. ap (λ (w : ℕ). bit w (i % 64)) (ap (λ (l : List ℕ). get_or l (i / 64) 0) e ∙ get_or-replicate (length s) (i / 64) x 0 (omega arith));
+    }
 
 pub none_there : (i : ℕ) → bit 0 (i % 64) ≡ false
 none_there i = bit_zero (i % 64)

@@ -1,11 +1,11 @@
 -- The first guard of a conjunction is there: it ends further on, bytes and depth are left for it, and there is room for two sets.
-use Prim.Native.Nat.{ℕ, ◌+◌, ◌-◌, ◌*◌, ◌≤◌, ◌<◌}
+use Prim.Native.Nat.{ℕ, suc, ◌+◌, ◌*◌, ◌≤◌, ◌<◌}
 use native.Mathlib.Omega.{arith}
 use mathlib.Core.Path.{◌≡◌}
 use mathlib.Core.List.{List}
 use Rattle.model.specs.Guard.{guard_at}
 use Rattle.planes.specs.Built.{ended, in_hand}
-use Rattle.planes.specs.declared.Ended.TheVariants.{At}
+use Rattle.std.specs.Prelude.{Some}
 use Rattle.planes.proofs.Forms.{read_within}
 use Rattle.planes.proofs.Room.{room_two}
 
@@ -15,9 +15,9 @@ pub record Inside (n depth at end next room : ℕ) : Type 0 where
   pub deeper : 1 < depth
   pub two : 2 * n ≤ room
 
-pub inside : (variables clocks : ℕ) (b : List ℕ) (n depth at end next before after : ℕ) → At next ≡ ended (guard_at (depth - 1) variables clocks b (at + 1) end)
+pub inside : (variables clocks : ℕ) (b : List ℕ) (n depth inner at end next before after : ℕ) → suc inner ≡ depth → Some next ≡ ended (guard_at inner variables clocks b (at + 1) end)
     → n * in_hand depth at end ≤ before → after ≡ before → Inside n depth at end next after
-inside variables clocks b n depth at end next before after e fits same =
-    let there = read_within variables clocks b end (depth - 1) (at + 1) next e in
+inside variables clocks b n depth inner at end next before after less e fits same =
+    let there = read_within variables clocks b end inner (at + 1) next e in
     let deeper : 1 < depth = omega arith in
     record { further = there.0; before_end = there.1; deeper = deeper; two = omega (arith, room_two n depth at end deeper there.1) }

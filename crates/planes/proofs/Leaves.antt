@@ -4,16 +4,14 @@ use mathlib.Core.Bool.{Bool, not}
 use mathlib.Core.List.{List}
 use Prim.Native.Nat.{ℕ, ◌+◌, ◌*◌, ◌/◌, ◌%◌, ◌^◌, ◌≤◌, ◌<◌}
 use native.Mathlib.Omega.{arith}
-use borrow.Author.Tests.{ne_eqb}
 use lib.Dec.{ltb}
 use lib.ListN.{length}
-use Rattle.model.specs.Guard.{Guard, GuardRead, malformed, up_to, holds, always, at_most, at_least, variable}
+use Rattle.model.specs.Guard.{Guard, GuardRead, up_to, holds, always, at_most, at_least, variable}
 use Rattle.guard.specs.Guards.{clock_leaf}
 use Rattle.words.specs.Words.{bit, mem, Is}
 use Rattle.planes.specs.Numbering.{holds_by, weight, values, Clocks}
 use Rattle.planes.specs.Built.{Built}
-use Rattle.planes.specs.declared.Ended.{Ended}
-use Rattle.planes.specs.declared.Ended.TheVariants.{At}
+use Rattle.std.specs.Prelude.{Option, Some}
 use Rattle.planes.proofs.Edits.{none_there, all_there}
 use Rattle.planes.proofs.Digits.{at_most_by, at_least_by, variable_by, variable_far}
 use Rattle.planes.proofs.Forms.{built_one}
@@ -52,7 +50,7 @@ module _ (f s : ℕ) (before a b : List ℕ) where
   variable_none v c h small x =
       is_same (λ i. bit 0 (i % 64)) (holds_by f s (variable v)) before a (λ i l. none_there i ∙ sym (variable_far f s v i c h (omega arith))) x
 
-  pub built_is : (x : GuardRead) (r : Ended) (g : Guard) (k : ℕ) → x ≡ up_to g k → r ≡ At k → Is (holds_by f s g) before a → Built f s (length before) x r a
+  pub built_is : (x : GuardRead) (r : Option ℕ) (g : Guard) (k : ℕ) → x ≡ up_to g k → r ≡ Some k → Is (holds_by f s g) before a → Built f s (length before) x r a
   built_is x r g k e q is = built_one f s (length before) x r a g k e q is.all
 
 -- a comparison by its code
@@ -63,6 +61,3 @@ module _ (code n t next : ℕ) where
 
   pub leaf_least : code ≡ 2 → clock_leaf code n t next ≡ up_to (at_least n t) next
   leaf_least e = rw e
-
-  pub leaf_none : (code ≡ 1 → ⊥) → (code ≡ 2 → ⊥) → clock_leaf code n t next ≡ malformed
-  leaf_none h l = rw (ne_eqb _ _ h, ne_eqb _ _ l)

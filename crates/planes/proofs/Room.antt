@@ -2,53 +2,48 @@
 use mathlib.Core.Path.{◌≡◌, sym, ap, ap₂, subst, ◌∙◌}
 use mathlib.Core.Bool.{Bool, not, ◌&&◌}
 use mathlib.Core.List.{List, ◌++◌}
-use Prim.Native.Nat.{ℕ, ◌+◌, ◌-◌, ◌*◌, ◌≤◌, ◌<◌}
+use Prim.Native.Nat.{ℕ, suc, ◌+◌, ◌-◌, ◌*◌, ◌/◌, ◌%◌, ◌≤◌, ◌<◌}
 use native.Mathlib.Nat.{mul-le-mul_left, mul-one, mul-add}
 use native.Mathlib.Omega.{arith}
-use lib.ListN.{length, take, drop, length-drop}
+use lib.ListN.{length, take, drop, length-drop, get_or-append}
+use Rattle.std.proofs.lemmas.List.{get_or-take}
 use lib.Seq.{length-take-le}
 use Rattle.model.specs.Guard.{GuardRead}
-use Rattle.words.specs.Words.{mem, Is}
-use Rattle.strides.proofs.Parts.{mem_part, mem-before, mem-within}
+use Rattle.words.specs.Words.{bit, mem, Is}
+use Rattle.strides.proofs.Parts.{mem-before, mem-within}
 use Rattle.planes.specs.Built.{Built, in_hand}
-use Rattle.planes.specs.declared.Ended.{Ended}
+use Rattle.std.specs.Prelude.{Option}
 
 module _ (n d at end : ℕ) where
-  pub room_in : n * in_hand (d - 1) (at + 1) end ≤ n * in_hand d at end
-  room_in = let less : in_hand (d - 1) (at + 1) end ≤ in_hand d at end = omega arith in mul-le-mul_left n less
-
   pub room_one : 0 < d → n ≤ n * in_hand d at end
   room_one h = let less : 1 ≤ in_hand d at end = omega arith in omega (arith, mul-one n, mul-le-mul_left n less)
 
   pub room_two : 1 < d → at + 1 < end → 2 * n ≤ n * in_hand d at end
   room_two h l = let less : 2 ≤ in_hand d at end = omega arith in omega (arith, mul-le-mul_left n less)
 
-  pub room_next : (k : ℕ) → 0 < d → at + 1 < k → at + 1 < end → n * in_hand (d - 1) k end + n ≤ n * in_hand d at end
-  room_next k h l m =
-      let less : in_hand (d - 1) k end + 1 ≤ in_hand d at end = omega arith in
-      omega (arith, mul-add n (in_hand (d - 1) k end) 1, mul-one n, mul-le-mul_left n less)
+  -- the second guard of a conjunction, one less deep
+  pub room_next : (c k : ℕ) → suc c ≡ d → at + 1 < k → at + 1 < end → n * in_hand c k end + n ≤ n * in_hand d at end
+  room_next c k h l m =
+      let less : in_hand c k end + 1 ≤ in_hand d at end = omega arith in
+      omega (arith, mul-add n (in_hand c k end) 1, mul-one n, mul-le-mul_left n less)
 
 -- the first n words, lent and back
 module _ (s y : List ℕ) (n : ℕ) (h : n ≤ length s) where
-  pub first-length : length (take (n - 0) (drop 0 s)) ≡ n
-  first-length = length-take-le (n - 0) s (omega arith) ∙ same
-    where
-      same : n - 0 ≡ n
-      same = omega arith
+  pub first-length : length (take n s) ≡ n
+  first-length = length-take-le n s h
 
-  first-there : (i : ℕ) → i < 64 * n → mem (take (n - 0) (drop 0 s)) i ≡ mem s i
-  first-there i l = let z : 64 * 0 + i ≡ i = omega arith in mem_part s 0 (n - 0) i (omega arith) ∙ ap (mem s) z
+  first-there : (i : ℕ) → i < 64 * n → mem (take n s) i ≡ mem s i
+  unfolding mem
+  first-there i l = ap (λ (w : ℕ). bit w (i % 64)) (get_or-take n s (i / 64) 0 (omega arith))
 
-  pub first_back : length y ≡ n → (i : ℕ) → i < 64 * n → mem (y ++ drop (n - 0) (drop 0 s)) i ≡ mem y i
-  first_back e i l =
-      let z : i ≡ 64 * 0 + i = omega arith in
-      ap (mem (y ++ drop (n - 0) (drop 0 s))) z ∙ mem-within s y (drop (n - 0) (drop 0 s)) 0 (omega arith) i (omega arith)
+  pub first_back : length y ≡ n → (i : ℕ) → i < 64 * n → mem (y ++ drop n s) i ≡ mem y i
+  unfolding mem
+  first_back e i l = ap (λ (w : ℕ). bit w (i % 64)) (get_or-append y (drop n s) 0 (i / 64) (omega arith))
 
-  pub first_not : Is (λ i. not (mem (take (n - 0) (drop 0 s)) i)) (take (n - 0) (drop 0 s)) y → (i : ℕ) → i < 64 * n → mem (y ++ drop (n - 0) (drop 0 s)) i ≡ not (mem s i)
+  pub first_not : Is (λ i. not (mem (take n s) i)) (take n s) y → (i : ℕ) → i < 64 * n → mem (y ++ drop n s) i ≡ not (mem s i)
   first_not x i l = first_back (x.size ∙ first-length) i l ∙ x.all i (subst (λ (k : ℕ). i < 64 * k) (sym first-length) l) ∙ ap not (first-there i l)
 
-  pub first_built : (f g : ℕ) (x : GuardRead) (r : Ended) → length y ≡ length (take (n - 0) (drop 0 s)) → Built f g (length (take (n - 0) (drop 0 s))) x r y
-      → Built f g n x r (y ++ drop (n - 0) (drop 0 s))
+  pub first_built : (f g : ℕ) (x : GuardRead) (r : Option ℕ) → length y ≡ length (take n s) → Built f g (length (take n s)) x r y → Built f g n x r (y ++ drop n s)
   first_built f g x r e b =
       record {
         ends = b.ends;

@@ -24,42 +24,28 @@ const DEPTH: u8 = GUARD_LIMIT as u8;
 
 // The table's numbers of variables and clocks, and of the values of clock 0 and of clock 1.
 #[derive(Clone, Copy)]
-struct Shape {
+struct Counts {
     variables: u8,
     clocks: u8,
     first: u32,
     second: u32,
 }
 
-#[derive(Clone, Copy)]
-enum Ended {
-    Malformed,
-    At(usize),
-}
-
+#[tactic(auto, using(crate::proofs::Digits::weight_one, crate::proofs::Digits::weight_other))]
 fn weight_of(clock: u8, first: u32) -> u32
     ensures { result ≡ weight first clock }
 {
     if clock == 1 { first } else { 1 }
 }
 
+#[tactic(auto, using(crate::proofs::Digits::values_zero, crate::proofs::Digits::values_one, crate::proofs::Digits::values_other))]
 fn values_of(clock: u8, first: u32, second: u32) -> u32
     ensures { result ≡ values first second clock }
 {
-    if clock == 0 {
-        return first;
-    }
-    if clock == 1 { second } else { 1 }
-}
-
-// Every word is x.
-fn fill(set: &mut [u64], x: u64)
-    ensures { Is (λ i. bit x (i % 64)) set.old set.new }
-{
-    let mut k = 0;
-    while k < set.len() {
-        set[k] = x;
-        k += 1;
+    match clock {
+        0 => first,
+        1 => second,
+        _ => 1,
     }
 }
 
@@ -68,10 +54,8 @@ fn keep_common(stack: &mut [u64], n: usize)
     requires { 2 * n ≤ length stack.old }
     ensures { (i : ℕ) → i < 64 * n → mem stack.new i ≡ (mem stack.old i && mem stack.old (64 * n + i)) }
 {
-    let mut k = 0;
-    while k < n {
-        stack[k] = stack[k] & stack[n + k];
-        k += 1;
+    for k in 0..n {
+        stack[k] &= stack[n + k];
     }
 }
 
@@ -81,26 +65,24 @@ fn clock_set(
     clock: u8,
     t: u8,
     next: usize,
-    q: Shape,
+    q: Counts,
     set: &mut [u64],
     spare: &mut [u64],
-) -> Ended
+) -> Option<usize>
     requires { (length set.old ≤ length spare.old) × (length set.old ≤ 1024) × Clocks q.first q.second }
     ensures { Built q.first q.second (length set.old) (clock_leaf code clock t next) result set.new }
 {
     let w = weight_of(clock, q.first);
     let r = values_of(clock, q.first, q.second);
-    let past = t as u32 + 1;
-    if code == 1 {
-        at_most(set, spare, w, r, past);
-        return Ended::At(next);
+    match code {
+        1 => at_most(set, spare, w, r, t as u32 + 1),
+        2 => {
+            at_most(set, spare, w, r, t as u32);
+            complement(set);
+        }
+        _ => return None,
     }
-    if code == 2 {
-        at_most(set, spare, w, r, t as u32);
-        complement(set);
-        return Ended::At(next);
-    }
-    Ended::Malformed
+    Some(next)
 }
 
 // What the bit of variable x counts.
@@ -112,7 +94,7 @@ fn variable_weight(x: u8, first: u32, second: u32) -> u32
 }
 
 // The set where variable x is true; a set has no number with more than 16 variables.
-fn variable_set(x: u8, q: Shape, set: &mut [u64], spare: &mut [u64])
+fn variable_set(x: u8, q: Counts, set: &mut [u64], spare: &mut [u64])
     requires { (length set.old ≤ length spare.old) × (length set.old ≤ 1024) × Clocks q.first q.second }
     ensures { Is (holds_by q.first q.second (variable x)) set.old set.new }
 {
@@ -120,29 +102,33 @@ fn variable_set(x: u8, q: Shape, set: &mut [u64], spare: &mut [u64])
         at_most(set, spare, variable_weight(x, q.first, q.second), 2, 1);
         complement(set);
     } else {
-        fill(set, 0);
+        set.fill(0);
     }
 }
 
 // The forms without a guard inside.
-fn leaf_set(b: &[u8], at: usize, end: usize, q: Shape, set: &mut [u64], spare: &mut [u64]) -> Ended
+fn leaf_set(
+    b: &[u8],
+    at: usize,
+    end: usize,
+    q: Counts,
+    set: &mut [u64],
+    spare: &mut [u64],
+) -> Option<usize>
     requires { (at < end) × (length set.old ≤ length spare.old) × (length set.old ≤ 1024) × Clocks q.first q.second }
     ensures { Built q.first q.second (length set.old) (leaf_at q.variables q.clocks b.now at end) result set.new }
 {
-    let code = byte(b, at);
-    if code == 0 {
-        fill(set, 18446744073709551615);
-        return Ended::At(at + 1);
-    }
-    if code == 3 {
-        if has_variable(b, at, end, q.variables) {
-            variable_set(byte(b, at + 1), q, set, spare);
-            return Ended::At(at + 2);
+    match byte(b, at) {
+        0 => {
+            set.fill(u64::MAX);
+            Some(at + 1)
         }
-        return Ended::Malformed;
-    }
-    if has_clock(b, at, end, q.clocks) {
-        return clock_set(
+        3 if has_variable(b, at, end, q.variables) => {
+            variable_set(byte(b, at + 1), q, set, spare);
+            Some(at + 2)
+        }
+        3 => None,
+        code if has_clock(b, at, end, q.clocks) => clock_set(
             code,
             byte(b, at + 1),
             byte(b, at + 2),
@@ -150,9 +136,9 @@ fn leaf_set(b: &[u8], at: usize, end: usize, q: Shape, set: &mut [u64], spare: &
             q,
             set,
             spare,
-        );
+        ),
+        _ => None,
     }
-    Ended::Malformed
 }
 
 // The set where the guard holds that starts at an offset, none of it at or behind end, into the first n words of stack. The words behind them are for the guards inside.
@@ -161,36 +147,32 @@ fn guard_set(
     b: &[u8],
     at: usize,
     end: usize,
-    q: Shape,
+    q: Counts,
     n: usize,
     stack: &mut [u64],
     spare: &mut [u64],
-) -> Ended
+) -> Option<usize>
     requires { (n * in_hand depth at end ≤ length stack.old) × (n ≤ length spare.old) × (n ≤ 1024) × Clocks q.first q.second }
     ensures { Built q.first q.second n (guard_at depth q.variables q.clocks b.now at end) result stack.new }
 {
-    if depth == 0 {
-        return Ended::Malformed;
-    }
     if end <= at {
-        return Ended::Malformed;
+        return None;
     }
-    let code = byte(b, at);
-    if code == 4 {
-        let inner = guard_set(depth - 1, b, at + 1, end, q, n, stack, spare);
-        complement(&mut stack[0..n]);
-        return inner;
+    let depth = depth.checked_sub(1)?;
+    match byte(b, at) {
+        4 => {
+            let next = guard_set(depth, b, at + 1, end, q, n, stack, spare)?;
+            complement(&mut stack[..n]);
+            Some(next)
+        }
+        5 => {
+            let next = guard_set(depth, b, at + 1, end, q, n, stack, spare)?;
+            let second = guard_set(depth, b, next, end, q, n, &mut stack[n..], spare)?;
+            keep_common(stack, n);
+            Some(second)
+        }
+        _ => leaf_set(b, at, end, q, &mut stack[..n], spare),
     }
-    if code == 5 {
-        let inner = guard_set(depth - 1, b, at + 1, end, q, n, stack, spare);
-        let Ended::At(next) = inner else {
-            return Ended::Malformed;
-        };
-        let second = guard_set(depth - 1, b, next, end, q, n, &mut stack[n..], spare);
-        keep_common(stack, n);
-        return second;
-    }
-    leaf_set(b, at, end, q, &mut stack[0..n], spare)
 }
 
 // The set of the guard of the transition whose record starts at an offset. Bytes that are no guard never hold.
@@ -208,29 +190,22 @@ fn plane(
 {
     let start = at + 7;
     let end = start + byte(table, at + 6) as usize;
-    let q = Shape {
+    let q = Counts {
         variables: byte(table, 4),
         clocks: byte(table, 5),
         first,
         second,
     };
-    let ended = guard_set(DEPTH, table, start, end, q, n, stack, spare);
-    let Ended::At(_) = ended else {
-        fill(&mut stack[0..n], 0);
-        return;
-    };
+    if guard_set(DEPTH, table, start, end, q, n, stack, spare).is_none() {
+        stack[..n].fill(0);
+    }
 }
 
 fn sets_at(table: &[u8], at: usize) -> usize
     requires { at < 65536 }
     ensures { result ≡ sets_at table.now at }
 {
-    let sets = 1 + byte(table, at + 6) as usize / 2;
-    if sets < GUARD_LIMIT {
-        sets
-    } else {
-        GUARD_LIMIT
-    }
+    (1 + byte(table, at + 6) as usize / 2).min(GUARD_LIMIT)
 }
 
 // Plane j, where there is room for it and for the sets of the guards inside.
@@ -266,27 +241,16 @@ fn all_planes(
     requires { (n ≤ length spare.old) × (n ≤ 1024) × Clocks first second }
     ensures { Planes first second n table.now offsets.now (transition_count table.now) planes.old planes.new }
 {
-    let count = transitions(table);
-    let mut j = 0;
-    while j < count {
-        plane_at(
-            table,
-            short(offsets, j) as usize,
-            first,
-            second,
-            n,
-            j,
-            planes,
-            spare,
-        );
-        j += 1;
+    for j in 0..transitions(table) {
+        let at = short(offsets, j) as usize;
+        plane_at(table, at, first, second, n, j, planes, spare);
     }
 }
 
 fn in_range(x: u32) -> bool
     ensures { result ≡ (ltb 0 x && leb x 257) }
 {
-    if 0 < x { x <= 257 } else { false }
+    0 < x && x <= 257
 }
 
 // The set of each transition's guard: that of transition j stands from word n * j on. The words behind it are room for the guards inside.
@@ -301,15 +265,8 @@ pub fn guards(
 )
     ensures { (length planes.new ≡ length planes.old) × (length spare.new ≡ length spare.old) × (Clocks first second → n ≤ 1024 → n ≤ length spare.old → Planes first second n table.now offsets.now (transition_count table.now) planes.old planes.new) }
 {
-    if 1024 < n {
-        return;
-    }
-    if spare.len() < n as usize {
-        return;
-    }
-    if in_range(first) {
-        if in_range(second) {
-            all_planes(table, offsets, first, second, n as usize, planes, spare);
-        }
+    let n = n as usize;
+    if n <= 1024 && n <= spare.len() && in_range(first) && in_range(second) {
+        all_planes(table, offsets, first, second, n, planes, spare);
     }
 }

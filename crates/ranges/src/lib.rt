@@ -5,24 +5,17 @@
 ghost use Rattle.std.specs.Prelude.{◌≡◌, ℕ, ◌+◌, ◌-◌, ◌*◌, ◌%◌, ◌^◌, ◌<◌, ◌≤◌, length, ltb};
 ghost use Rattle.words.specs.Words.{bit, mem, Bits, Joined, up, below, meet, any_below};
 
-use words::{any_words, lesser, or_at, past, word_at};
+use words::{any_words, or_at, word_at};
 
 // The r low bits.
 fn low(r: usize) -> u64
     requires { (0 < r) × (r ≤ 64) }
     ensures { (j : ℕ) → bit result j ≡ ltb j r }
 {
-    0xffff_ffff_ffff_ffff_u64 >> (64 - r)
+    u64::MAX >> (64 - r)
 }
 
-// 64 bits of src from bit s on that are also in mask from bit m on, into dst from bit d on.
-fn or_piece(dst: &mut [u64], d: usize, src: &[u64], s: usize, mask: &[u64], m: usize)
-    ensures { Joined (up d (below 64 (meet src.now s mask.now m))) dst.old dst.new }
-{
-    or_at(dst, d, word_at(src, s) & word_at(mask, m));
-}
-
-// .. and at most 64.
+// At most 64 bits of src from bit s on that are also in mask from bit m on, into dst from bit d on.
 fn or_rest(dst: &mut [u64], d: usize, src: &[u64], s: usize, mask: &[u64], m: usize, r: usize)
     requires { r ≤ 64 }
     ensures { Joined (up d (below r (meet src.now s mask.now m))) dst.old dst.new }
@@ -37,15 +30,14 @@ fn or_slow(dst: &mut [u64], d: usize, src: &[u64], s: usize, mask: &[u64], m: us
     requires { (d + len < 2 ^ 64) × (s + len < 2 ^ 64) × (m + len < 2 ^ 64) }
     ensures { Joined (up d (below len (meet src.now s mask.now m))) dst.old dst.new }
 {
-    let mut i = 0;
-    while 64 <= len - i {
-        or_piece(dst, d + i, src, s + i, mask, m + i);
-        i += 64;
+    let n = len / 64;
+    for k in 0..n {
+        or_rest(dst, d + 64 * k, src, s + 64 * k, mask, m + 64 * k, 64);
     }
-    or_rest(dst, d + i, src, s + i, mask, m + i, len - i);
+    or_rest(dst, d + 64 * n, src, s + 64 * n, mask, m + 64 * n, len % 64);
 }
 
-// The 64 bits from bit r of word k on, where there are words for them.
+// The 64 bits from bit r of word k on, where there are words for them: `word_at` with no test of a bound.
 fn pair(a: &[u64], k: usize, r: usize) -> u64
     requires { (k + 1 < length a.now) × (r < 64) }
     ensures { Bits 64 (λ j. mem a.now (64 * k + r + j)) result }
@@ -68,10 +60,8 @@ fn or_words(
     requires { (n ≤ length dst.old - k) × (n ≤ length src.now - (p + 1)) × (n ≤ length mask.now - (q + 1)) × (r < 64) × (t < 64) }
     ensures { Joined (up (64 * k) (below (64 * n) (meet src.now (64 * p + r) mask.now (64 * q + t)))) dst.old dst.new }
 {
-    let mut j = 0;
-    while j < n {
-        dst[k + j] = dst[k + j] | (pair(src, p + j, r) & pair(mask, q + j, t));
-        j += 1;
+    for j in 0..n {
+        dst[k + j] |= pair(src, p + j, r) & pair(mask, q + j, t);
     }
 }
 
@@ -80,10 +70,10 @@ fn or_middle(dst: &mut [u64], d: usize, src: &[u64], s: usize, mask: &[u64], m: 
     requires { (d % 64 ≡ 0) × (d + len < 2 ^ 64) × (s + len < 2 ^ 64) × (m + len < 2 ^ 64) }
     ensures { Joined (up d (below len (meet src.now s mask.now m))) dst.old dst.new }
 {
-    let n = lesser(
-        lesser(past(dst.len(), d / 64), past(src.len(), s / 64 + 1)),
-        lesser(past(mask.len(), m / 64 + 1), len / 64),
-    );
+    let n = (len / 64)
+        .min(dst.len().saturating_sub(d / 64))
+        .min(src.len().saturating_sub(s / 64 + 1))
+        .min(mask.len().saturating_sub(m / 64 + 1));
     or_words(dst, d / 64, src, s / 64, s % 64, mask, m / 64, m % 64, n);
     or_slow(
         dst,
@@ -111,7 +101,7 @@ fn or_long(dst: &mut [u64], d: usize, src: &[u64], s: usize, mask: &[u64], m: us
 }
 
 // No sum of a place below this and a length below this is too large for a usize.
-const FAR: usize = 1152921504606846976;
+const FAR: usize = 1 << 60;
 
 // Puts len bits into dst from bit d on: those of src from bit s on that are also in mask from bit m on. Places and lengths from 2 ^ 60 on are not gone to.
 pub fn or_range(
@@ -127,21 +117,9 @@ pub fn or_range(
 {
     if len <= 64 {
         or_rest(dst, d, src, s, mask, m, len);
-        return;
+    } else if d < FAR && s < FAR && m < FAR && len < FAR {
+        or_long(dst, d, src, s, mask, m, len);
     }
-    if FAR <= d {
-        return;
-    }
-    if FAR <= s {
-        return;
-    }
-    if FAR <= m {
-        return;
-    }
-    if FAR <= len {
-        return;
-    }
-    or_long(dst, d, src, s, mask, m, len);
 }
 
 // Is any number in at most 64 bits from bit s on?
@@ -149,10 +127,7 @@ fn any_rest(a: &[u64], s: usize, len: usize) -> bool
     requires { len ≤ 64 }
     ensures { result ≡ any_below (λ i. mem a.now (s + i)) len }
 {
-    if 0 < len {
-        return (word_at(a, s) & low(len)) != 0;
-    }
-    false
+    0 < len && (word_at(a, s) & low(len)) != 0
 }
 
 // Up to the start of a word, whole words, and the rest.
@@ -162,13 +137,9 @@ fn any_long(a: &[u64], s: usize, len: usize) -> bool
 {
     let h = (64 - s % 64) % 64;
     let n = (len - h) / 64;
-    if any_rest(a, s, h) {
-        return true;
-    }
-    if any_words(a, (s + h) / 64, n) {
-        return true;
-    }
-    any_rest(a, s + h + 64 * n, len - h - 64 * n)
+    any_rest(a, s, h)
+        || any_words(a, (s + h) / 64, n)
+        || any_rest(a, s + h + 64 * n, (len - h) % 64)
 }
 
 // Is any number in len bits from bit s on? Places and lengths from 2 ^ 60 on are not gone to.
@@ -176,13 +147,8 @@ pub fn any_in(a: &[u64], s: usize, len: usize) -> bool
     ensures { s < 2 ^ 60 → len < 2 ^ 60 → result ≡ any_below (λ i. mem a.now (s + i)) len }
 {
     if len <= 64 {
-        return any_rest(a, s, len);
+        any_rest(a, s, len)
+    } else {
+        s < FAR && len < FAR && any_long(a, s, len)
     }
-    if FAR <= s {
-        return false;
-    }
-    if FAR <= len {
-        return false;
-    }
-    any_long(a, s, len)
 }

@@ -13,7 +13,7 @@ use Rattle.model.specs.Monitor.{Monitor}
 use Rattle.model.specs.Reach.{Reached, initial, led, StatesJudged, among, reached_in, is_reached, lowest_missing, states_answer}
 use Rattle.model.specs.Table.{transition_in, monitor_of}
 use Rattle.model.specs.declared.TableParts.{TableParts}
-use Rattle.model.specs.declared.Reading.{Reading}
+use Rattle.model.specs.First.{Reading}
 use Rattle.model.proofs.Basics.{same_test, length-tab}
 use Rattle.model.proofs.Reaching.{zero_there, zero_only, step_back, reached_test}
 use Rattle.model.proofs.Missing.{missing_same}

@@ -2,14 +2,14 @@
 
 #![tactic(auto)]
 
-ghost use Rattle.std.specs.Prelude.{◌≡◌, ◌||◌, ℕ, eqb, length};
+ghost use Rattle.std.specs.Prelude.{◌≡◌, ℕ, eqb, length};
 ghost use Rattle.model.specs.Reach.{StatesJudged, is_reached, lowest_missing, states_answer};
 ghost use Rattle.model.specs.Table.{monitor_of};
 ghost use Rattle.bits.specs.Member.{mem};
 ghost use Rattle.reach.specs.Spreading.{state_bytes, Tried, Spread};
 
 use bits::{put, test};
-use model::{Reading, Refusal, TableParts};
+use model::{Refusal, TableParts};
 use wire::byte;
 
 // Bytes of a set of states: a place for every number that fits a byte.
@@ -20,20 +20,11 @@ fn lead(set: &mut [u8], source: u8, target: u8) -> bool
     requires { length set.old ≡ state_bytes }
     ensures { Tried source target set.old set.new result }
 {
-    if !test(set, source as usize) {
-        return false;
+    let new = test(set, source as usize) && !test(set, target as usize);
+    if new {
+        put(set, target as usize);
     }
-    if test(set, target as usize) {
-        return false;
-    }
-    put(set, target as usize);
-    true
-}
-
-fn either(a: bool, b: bool) -> bool
-    ensures { result ≡ (a || b) }
-{
-    if a { true } else { b }
+    new
 }
 
 // Tries each transition once, in turn. Is a state new?
@@ -41,13 +32,9 @@ fn spread(t: TableParts, set: &mut [u8]) -> bool
     requires { length set.old ≡ state_bytes }
     ensures { Spread (monitor_of t) (monitor_of t).transitions set.old set.new result }
 {
-    let n = t.transitions as usize;
     let mut grown = false;
-    let mut j = 0;
-    while j < n {
-        let new = lead(set, byte(&t.sources, j), byte(&t.targets, j));
-        grown = either(grown, new);
-        j += 1;
+    for j in 0..t.transitions as usize {
+        grown |= lead(set, byte(&t.sources, j), byte(&t.targets, j));
     }
     grown
 }
@@ -57,33 +44,27 @@ fn close(t: TableParts, set: &mut [u8])
     requires { (length set.old ≡ state_bytes) × ((s : ℕ) → mem set.old s ≡ eqb s 0) }
     ensures { (s : ℕ) → mem set.new s ≡ is_reached (monitor_of t) s }
 {
-    let n = t.transitions;
-    let mut round = 0;
-    while round < n {
+    for _round in 0..t.transitions {
         if !spread(t, set) {
             return;
         }
-        round += 1;
     }
 }
 
 // The lowest state that is not in the set.
-fn first_absent(set: &[u8], states: u8) -> Reading
+fn first_absent(set: &[u8], states: u8) -> Result<(), Refusal>
     ensures { result ≡ lowest_missing (mem set.now) states }
 {
-    let mut left = states;
-    while 0 < left {
-        let s = states - left;
+    for s in 0..states {
         if !test(set, s as usize) {
-            return Reading::Unsound(Refusal::TableState { state: s as u64 });
+            return Err(Refusal::TableState { state: s as u64 });
         }
-        left -= 1;
     }
-    Reading::Sound
+    Ok(())
 }
 
 // 17 with the lowest state that cannot be reached, or no number.
-pub fn states_answer(t: TableParts) -> Reading
+pub fn states_answer(t: TableParts) -> Result<(), Refusal>
     ensures value { result ≡ states_answer (monitor_of t) }
     ensures states_judged { StatesJudged (monitor_of t) result }
 {

@@ -14,9 +14,6 @@ pub struct Span {
 pub fn has(s: &[u8], start: usize, z: usize) -> bool
     ensures { result ≡ mem s.now (start + z) }
 {
-    let at = start / 8 + z / 8;
-    if s.len() < at {
-        return false;
-    }
-    bits::test(&s[at..], start % 8 + z % 8)
+    s.get(start / 8 + z / 8..)
+        .is_some_and(|rest| bits::test(rest, start % 8 + z % 8))
 }

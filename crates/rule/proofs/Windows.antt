@@ -1,11 +1,11 @@
 -- A mask as the code has it: bits of a byte, and a count of ones. Assumes nothing.
-use Prim.Native.Nat.{ℕ, zero, suc, ◌+◌, ◌-◌, ◌*◌, ◌/◌, ◌%◌, ◌^◌, ◌≤◌, ◌<◌}
+use Prim.Native.Nat.{ℕ, zero, suc, ◌+◌, ◌-◌, ◌*◌, ◌/◌, ◌%◌, ◌^◌, ◌≤◌}
 use native.Mathlib.Nat.{mod-one, one-mul}
 use native.Mathlib.Omega.{arith}
 use mathlib.Core.Path.{◌≡◌, refl, sym, ap, ap₂, ◌∙◌}
 use mathlib.Core.Bool.{Bool, true, false}
-use lib.Bits.{bit_and, and_mask, and_le_r}
-use lib.Count.{ones, ones_step, ones-le}
+use lib.Bits.{bit_and, and_mask}
+use lib.Count.{ones, ones_step}
 use lib.Dec.{leb}
 use lib.Pow.{shl_exact, field, mod-mod-pow}
 use mir.Val.{bool_byte}
@@ -13,7 +13,7 @@ use Rattle.model.specs.Limits.{window_limit}
 use Rattle.model.specs.Rule.{as_bit, masks, set_bits, window_behind, allows}
 use Rattle.model.specs.declared.Rule.{Rule}
 use Rattle.rule.specs.Within.{rows_in, within}
-use Rattle.rule.proofs.Laws.{rows_same, rows_one, masks_bounds}
+use Rattle.rule.proofs.Laws.{rows_same, rows_one, rows-many, masks_bounds}
 
 pub shifted : (window : ℕ) → 1 ≤ window → window ≤ window_limit → (1 * 2 ^ (window - 1)) % 256 ≡ 2 ^ (rows_in window - 1)
 shifted window some few =
@@ -37,24 +37,14 @@ bit_byte : (guess : Bool) → bool_byte guess ≡ as_bit guess
 bit_byte true = refl
 bit_byte false = refl
 
-bit_le : (guess : Bool) → bool_byte guess ≤ 1
-bit_le true = omega arith
-bit_le false = omega arith
-
 -- a number of rows, cut by the mask of all guesses
 module _ (rule : Rule) (x all : ℕ) (is : all ≡ masks (within rule) - 1) where
   cut : bit_and x all ≡ x % masks (within rule)
   cut = ap (bit_and x) is ∙ and_mask x (rows_in rule.window - 1)
 
-  pub cut_small : bit_and x all < 2 ^ 7
-  cut_small = omega (arith, and_le_r x all, (masks_bounds rule).0)
-
   pub behind : (window : ℕ) (guess : Bool) → x ≡ as_bit guess + 2 * window → bit_and x all ≡ window_behind (within rule) window guess
   unfolding window_behind
   behind window guess e = cut ∙ ap (λ (n : ℕ). n % masks (within rule)) e
-
-  pub guesses-few : (guess : Bool) → bool_byte guess + ones (bit_and x all) ≤ window_limit
-  guesses-few guess = omega (arith, bit_le guess, ones-le 7 (bit_and x all) cut_small)
 
   pub allows-more : (guess : Bool) → leb (bool_byte guess + ones (bit_and x all)) rule.most ≡ allows (within rule) x guess
   unfolding allows
@@ -66,3 +56,8 @@ pub allows_one : (rule : Rule) (window : ℕ) (guess : Bool) → rule.window ≤
 unfolding allows set_bits
 allows_one rule window guess one =
     ap (λ (n : ℕ). leb n rule.most) (bit_byte guess ∙ omega (arith, ap (λ (n : ℕ). set_bits (n - 1) window) (rows_one rule.window one)))
+
+-- what the code's proofs try
+pub ruleset rows = (rows_one, rows-many, masks_bounds, shifted)
+
+pub ruleset windows = (behind, allows_one, allows-more)

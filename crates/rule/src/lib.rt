@@ -11,7 +11,7 @@ ghost use Rattle.model.specs.Ruled.{rule_answer};
 ghost use Rattle.model.specs.Size.{table_size};
 ghost use Rattle.rule.specs.Within.{within, in_range};
 
-use model::{DEVICE_LIMIT, Reading, Refusal, Rule, SIZE_LIMIT, WINDOW_LIMIT};
+use model::{DEVICE_LIMIT, Refusal, Rule, SIZE_LIMIT, WINDOW_LIMIT};
 
 pub fn rule_of(device: u8, window: u8, most: u8) -> Rule
     ensures { result ≡ Rules.rule_of device window most }
@@ -35,16 +35,14 @@ pub fn no_rule() -> Rule
 }
 
 // So many masks there are: 2 to the number of rows that a window has before its last.
+#[tactic(auto, using(crate::proofs::Windows::rows))]
 pub fn masks(rule: Rule) -> u8
     ensures { (result ≡ Rules.masks (within rule)) × (result ≤ 128) × (0 < result) }
 {
-    if rule.window <= 1 {
-        return 1;
+    match rule.window {
+        2..=WINDOW_LIMIT => 1 << (rule.window - 1),
+        _ => 1,
     }
-    if WINDOW_LIMIT < rule.window {
-        return 1;
-    }
-    1u8 << (rule.window - 1)
 }
 
 // The mask whose rows are all guesses: it cuts off the rows that are no longer in the window.
@@ -58,72 +56,59 @@ fn all_guesses(rule: Rule) -> u8
 fn with_row(window: u8, guess: bool) -> u16
     ensures { result ≡ Rules.as_bit guess + 2 * window }
 {
-    if guess {
-        1 + 2 * window as u16
-    } else {
-        2 * window as u16
-    }
+    u16::from(guess) + 2 * u16::from(window)
 }
 
 // The mask once one more row is kept or added.
+#[tactic(auto, using(crate::proofs::Windows::windows))]
 pub fn window_behind(rule: Rule, window: u8, guess: bool) -> u8
     ensures { result ≡ Rules.window_behind (within rule) window guess }
 {
-    (with_row(window, guess) & all_guesses(rule) as u16) as u8
+    (with_row(window, guess) & u16::from(all_guesses(rule))) as u8
 }
 
 // May a row come behind those of a mask? Where a window is one row, as under no rule, nothing is counted.
+#[tactic(auto, using(crate::proofs::Windows::windows))]
 pub fn allows(rule: Rule, window: u8, guess: bool) -> bool
     ensures { result ≡ Rules.allows (within rule) window guess }
 {
     if rule.window <= 1 {
-        return guess as u8 <= rule.most;
+        return u8::from(guess) <= rule.most;
     }
     let before = u8::count_ones(window & all_guesses(rule));
-    guess as u32 + before <= rule.most as u32
+    u32::from(guess) + before <= u32::from(rule.most)
 }
 
 // Does 25 let the rule through?
+#[tactic(auto, unfolding(crate::specs::Within::in_range))]
 fn in_range(rule: Rule) -> bool
     ensures { result ≡ in_range rule }
 {
-    if DEVICE_LIMIT < rule.device {
-        return false;
-    }
-    if rule.window < 1 {
-        return false;
-    }
-    if WINDOW_LIMIT < rule.window {
-        return false;
-    }
-    rule.most <= rule.window
+    rule.device <= DEVICE_LIMIT
+        && 1 <= rule.window
+        && rule.window <= WINDOW_LIMIT
+        && rule.most <= rule.window
 }
 
 // Does 26? N times the masks may not fit a u64, so it is not worked out.
 fn in_limit(rule: Rule, size: u64) -> bool
     ensures { result ≡ leb (size * Rules.masks (within rule)) size_limit }
 {
-    size <= SIZE_LIMIT / masks(rule) as u64
+    size <= SIZE_LIMIT / u64::from(masks(rule))
 }
 
 // The refusal where the test fails.
-fn unless(passed: bool, refusal: Refusal) -> Reading
+fn unless(passed: bool, refusal: Refusal) -> Result<(), Refusal>
     ensures { result ≡ First.unless passed refusal }
 {
-    if passed {
-        Reading::Sound
-    } else {
-        Reading::Unsound(refusal)
-    }
+    if passed { Ok(()) } else { Err(refusal) }
 }
 
 // 25, then 26. Size is the table's own N.
-pub fn rule_answer(rule: Rule, size: u64) -> Reading
+#[tactic(auto, using(crate::proofs::Answers::refused, crate::proofs::Answers::sized))]
+pub fn rule_answer(rule: Rule, size: u64) -> Result<(), Refusal>
     ensures { (m : Monitor) → m.rule ≡ rule → table_size m ≡ size → result ≡ rule_answer m }
 {
-    let ranged = in_range(rule);
-    let limited = in_limit(rule, size);
-    let range = unless(ranged, Refusal::RuleRange);
-    let limit = unless(limited, Refusal::RuleSize);
-    if ranged { limit } else { range }
+    unless(in_range(rule), Refusal::RuleRange)?;
+    unless(in_limit(rule, size), Refusal::RuleSize)
 }

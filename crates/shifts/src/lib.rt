@@ -4,7 +4,11 @@
 #![tactic(auto)]
 
 mod down;
+mod fills;
 mod up;
+mod way;
 
-pub use down::shift_down;
-pub use up::{shift_up, word_before};
+pub use down::{Down, shift_down};
+pub use fills::{fill, fill_within};
+pub use up::{Up, shift_up, word_before};
+pub use way::{Way, moved_word, read};

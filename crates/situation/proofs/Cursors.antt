@@ -6,10 +6,10 @@ use native.Mathlib.Omega.{arith}
 use mathlib.Core.Path.{◌≡◌, refl, sym, ap, ◌∙◌}
 use mathlib.Core.List.{List, [], ◌∷◌}
 use mathlib.Core.Bool.{Bool, true, false, false≢true}
-use mathlib.Core.Option.{none, some}
+use Rattle.std.specs.Prelude.{Some, None}
 use lib.ListN.{length, get_or, get_or-append}
 use lib.Dec.{ltb, eqb}
-use borrow.Author.Tests.{lt-ltb, le-ltb, eq-eqb, ltb-true, eqb-true}
+use borrow.Author.Tests.{lt-ltb, eq-eqb, ltb-true, eqb-true}
 use Rattle.model.specs.Limits.{row_limit}
 use Rattle.model.specs.Bytes.{tab, padded}
 use Rattle.model.specs.Monitor.{Monitor}
@@ -28,12 +28,12 @@ nowhere = record { time = 0; kind = 0 }
 abbrev time : List Packet → ℕ → ℕ
 time ps k = (get_or ps k nowhere).time
 
-recorded_none : (ps : List Packet) (t : ℕ) → ((k : ℕ) → k < length ps → time ps k ≡ t → ⊥) → recorded_at ps t ≡ none
+recorded_none : (ps : List Packet) (t : ℕ) → ((k : ℕ) → k < length ps → time ps k ≡ t → ⊥) → recorded_at ps t ≡ None
 unfolding recorded_at
 recorded_none [] t other = refl
 recorded_none (p ∷ r) t other = recorded_later p r t (other 0 (omega arith)) ∙ recorded_none r t (λ k h. other (suc k) (omega arith))
 
-recorded_first : (ps : List Packet) (i t : ℕ) → i < length ps → time ps i ≡ t → ((k : ℕ) → k < i → time ps k ≡ t → ⊥) → recorded_at ps t ≡ some (get_or ps i nowhere).kind
+recorded_first : (ps : List Packet) (i t : ℕ) → i < length ps → time ps i ≡ t → ((k : ℕ) → k < i → time ps k ≡ t → ⊥) → recorded_at ps t ≡ Some (get_or ps i nowhere).kind
 recorded_first [] i t h e other = absurd (not-suc-le-zero h)
 recorded_first (p ∷ r) zero t h e other = recorded_here p r t e
 recorded_first (p ∷ r) (suc i) t h e other =
@@ -82,10 +82,6 @@ module _ (b : List ℕ) (i t : ℕ) where
   unfolding is_at
   at_row h = simp (lt-ltb _ _ h)
 
-  pub past-rows : count_at b ≤ i → is_at b i t ≡ false
-  unfolding is_at
-  past-rows h = simp (le-ltb _ _ h)
-
   is_at_lem : is_at b i t ≡ true → (i < count_at b) × (time_at b i ≡ t)
   unfolding is_at
   is_at_lem e = (
@@ -131,7 +127,7 @@ module _ (m : Monitor) (b : List ℕ) (trace : PacketTrace m (packets_at b)) whe
             ∙ sym
             (recorded_first (packets_at b) i t (omega (arith, row_count b)) (row-time b i h ∙ q)
             (λ k l w. omega (arith, at.before k l, row-time b k (omega arith)))
-            ∙ ap (λ (p : Packet). some p.kind) (row b i h))
+            ∙ ap (λ (p : Packet). Some p.kind) (row b i h))
         on false e =
             (simp e)
             ∙ sym

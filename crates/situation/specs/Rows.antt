@@ -1,13 +1,6 @@
 -- What the rows of a recording say of an instant, by a cursor: the number of rows before that instant.
-use Rattle.std.specs.Prelude.{ℕ, ◌+◌, ◌≤◌, ◌<◌, List, Bool, cond, ◌&&◌, ltb, eqb}
-use Rattle.std.proofs.Math.Option.{Option, none, some}
+use Rattle.std.specs.Prelude.{ℕ, ◌+◌, ◌≤◌, ◌<◌, List, Bool, cond, ◌&&◌, ltb, eqb, Option, Some, None}
 use Rattle.model.specs.Recording.{count_at, time_at, row_kind_at}
-use Rattle.situation.specs.declared.Heard.{Heard}
-use Rattle.situation.specs.declared.Heard.TheVariants.{Nothing, Kind}
-
-abbrev pub heard_of : Heard → Option ℕ
-heard_of Nothing = none
-heard_of (Kind k) = some k
 
 -- row i is there, at instant t
 unfoldable pub is_at : List ℕ → (i t : ℕ) → Bool
@@ -15,7 +8,7 @@ is_at b i t = ltb i (count_at b) && eqb (time_at b i) t
 
 -- the kind of row i where that is at instant t
 unfoldable pub heard_at : List ℕ → (i t : ℕ) → Option ℕ
-heard_at b i t = cond (is_at b i t) (some (row_kind_at b i)) none
+heard_at b i t = cond (is_at b i t) (Some (row_kind_at b i)) None
 
 -- the cursor behind row i where that is at instant t
 unfoldable pub passed_by : List ℕ → (i t : ℕ) → ℕ

@@ -1,8 +1,8 @@
-// Situations: numbered into a set and back, what a recording says of an instant, and what a step answers.
+// Situations: numbered into a set and back, and what a recording says of an instant.
 
 #![tactic(auto)]
 
-use model::{Rule, Situation};
+use model::Rule;
 
 pub mod numbering;
 pub mod rows;
@@ -17,25 +17,4 @@ pub struct Shape {
     pub second: u16,
     pub windows: u8,
     pub rule: Rule,
-}
-
-// What is recorded at an instant.
-#[derive(Clone, Copy)]
-pub enum Heard {
-    Nothing,
-    Kind(u8),
-}
-
-// Whether a step leads somewhere, and where; if not, the situation before.
-#[derive(Clone, Copy)]
-pub struct Next {
-    pub leads: bool,
-    pub to: Situation,
-}
-
-// The number of the situation that a step leads to.
-#[derive(Clone, Copy)]
-pub enum Arrival {
-    Nowhere,
-    At(u64),
 }

@@ -6,8 +6,8 @@ use crate::Shape;
 use model::{Rule, Situation, TableParts, VARIABLE_LIMIT};
 use rule::masks;
 use sizes::clock_values;
-use wire::short;
 
+#[tactic(auto, unfolding(crate::specs::Numbering::masks_of))]
 fn masks_of(variables: u8) -> u8
     ensures { result ≡ masks_of variables }
 {
@@ -18,6 +18,7 @@ fn masks_of(variables: u8) -> u8
     }
 }
 
+#[tactic(auto, unfolding(crate::specs::Numbering::shape_of))]
 pub fn shape_of(t: TableParts, rule: Rule) -> Shape
     ensures { (result ≡ shape_of t rule) × (result.first ≤ 257) × (result.second ≤ 257) }
 {
@@ -36,63 +37,46 @@ fn over(digit: u16, radix: u16, above: u64) -> u64
     requires { above < 281474976710656 }
     ensures { result ≡ digit + radix * above }
 {
-    digit as u64 + radix as u64 * above
+    u64::from(digit) + u64::from(radix) * above
 }
 
+#[tactic(auto, unfolding(crate::specs::Numbering::number_by))]
 pub fn number(h: Shape, s: Situation) -> u64
     ensures { result ≡ number_by h s }
 {
-    let first = short(&s.clocks, 0);
-    let second = short(&s.clocks, 1);
-    let window = over(s.window as u16, h.windows as u16, s.air as u64);
-    let state = over(s.state as u16, h.states as u16, window);
-    let variables = over(s.variables as u16, h.masks as u16, state);
+    let [first, second] = s.clocks;
+    let window = over(u16::from(s.window), u16::from(h.windows), u64::from(s.air));
+    let state = over(u16::from(s.state), u16::from(h.states), window);
+    let variables = over(u16::from(s.variables), u16::from(h.masks), state);
     over(first, h.first, over(second, h.second, variables))
 }
 
-fn digit(radix: u64, n: u64) -> u64
-    ensures { (result ≡ digit_by radix n) × (result ≤ radix) }
+// The lowest digit, and the number above it; both 0 where the radix is 0.
+#[tactic(auto, unfolding(crate::specs::Numbering::digit_by, crate::specs::Numbering::rest_by))]
+fn split(radix: u16, n: u64) -> (u16, u64)
+    ensures { (result.0 ≡ digit_by radix n) × (result.1 ≡ rest_by radix n) × (result.0 ≤ radix) }
 {
-    if radix == 0 { 0 } else { n % radix }
+    if radix == 0 {
+        return (0, 0);
+    }
+    let radix = u64::from(radix);
+    ((n % radix) as u16, n / radix)
 }
 
-fn rest(radix: u64, n: u64) -> u64
-    ensures { result ≡ rest_by radix n }
-{
-    if radix == 0 { 0 } else { n / radix }
-}
-
-// What both clocks read.
-fn clocks_of(h: Shape, n: u64) -> [u16; 2]
-    ensures { result ≡ digit_by h.first n ∷ digit_by h.second (rest_by h.first n) ∷ [] }
-{
-    let first = h.first as u64;
-    let second = h.second as u64;
-    [digit(first, n) as u16, digit(second, rest(first, n)) as u16]
-}
-
-// The digits above the clocks'.
-fn above_clocks(h: Shape, n: u64) -> u64
-    ensures { result ≡ rest_by h.second (rest_by h.first n) }
-{
-    rest(h.second as u64, rest(h.first as u64, n))
-}
-
+#[tactic(auto, unfolding(crate::specs::Numbering::situation_by))]
 pub fn situation_of(h: Shape, n: u64) -> Situation
     ensures { result ≡ situation_by h n }
 {
-    let above = above_clocks(h, n);
-    let masks = h.masks as u64;
-    let states = h.states as u64;
-    let windows = h.windows as u64;
-    let state = rest(masks, above);
-    let window = rest(states, state);
-    let clocks = clocks_of(h, n);
+    let (first, n) = split(h.first, n);
+    let (second, n) = split(h.second, n);
+    let (variables, n) = split(u16::from(h.masks), n);
+    let (state, n) = split(u16::from(h.states), n);
+    let (window, air) = split(u16::from(h.windows), n);
     Situation {
-        state: digit(states, state) as u8,
-        variables: digit(masks, above) as u8,
-        clocks,
-        air: (rest(windows, window) % 256) as u8,
-        window: digit(windows, window) as u8,
+        state: state as u8,
+        variables: variables as u8,
+        clocks: [first, second],
+        air: (air % 256) as u8,
+        window: window as u8,
     }
 }

@@ -1,7 +1,7 @@
 -- M and A by one transition and one kind more, and products that stop above the limit of N.
-use Prim.Native.Nat.{ℕ, zero, suc, ◌+◌, ◌*◌, ◌%◌, ◌^◌, ◌≤◌, ◌<◌, min, max}
+use Prim.Native.Nat.{ℕ, zero, suc, ◌+◌, ◌*◌, ◌^◌, ◌≤◌, min, max}
 use native.Mathlib.Omega.{arith}
-use native.Mathlib.Nat.{mul-le-mul_left, le-mul_of_pos_right, mul_comm, zero-lt-suc, zero-mul, one-mul, min-eq_left, min-eq_right, mod-eq_of_lt}
+use native.Mathlib.Nat.{mul-le-mul_left, le-mul_of_pos_right, mul_comm, zero-lt-suc, zero-mul, min-eq_left, min-eq_right}
 use native.Mathlib.Numerals.{add-one}
 use native.Mathlib.Decide.{dec_le}
 use mathlib.Core.Path.{◌≡◌, ◌∙◌}
@@ -46,11 +46,6 @@ times_least (suc a) b m = go (dec_le b m)
         let k : m ≤ b = omega arith in
         let q : suc a * m ≤ suc a * b = mul-le-mul_left (suc a) k in
         rw (min-eq_right k) (omega (arith, over))
-
-pub power_small : (n : ℕ) → n < 17 → (1 * 2 ^ n) % 18446744073709551616 ≡ min (2 ^ n) 65537
-power_small n h =
-    let small : 2 ^ n ≤ 2 ^ 16 = pow_mono {i = n} {j = 16} (omega arith) in
-    rw (one-mul (2 ^ n), mod-eq_of_lt {n = 2 ^ n} {m = 18446744073709551616} (omega arith)) (omega arith)
 
 pub power_large : (n : ℕ) → 17 ≤ n → 65537 ≡ min (2 ^ n) 65537
 power_large n h = let large : 2 ^ 17 ≤ 2 ^ n = pow_mono h in omega arith

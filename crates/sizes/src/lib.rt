@@ -7,7 +7,7 @@ ghost use Rattle.model.specs.Limits.{size_limit};
 ghost use Rattle.model.specs.Size.{largest_bound, largest_airtime, cap, table_size};
 ghost use Rattle.model.specs.Table.{monitor_of};
 
-use guard::{guard_bound, larger};
+use guard::guard_bound;
 use model::{GUARD_LIMIT, SIZE_LIMIT, TableParts};
 use wire::byte;
 
@@ -19,24 +19,13 @@ pub fn largest_bound(t: TableParts, clock: usize) -> u64
     ensures { (result ≡ largest_bound (monitor_of t) clock) × (result ≤ 255) }
 {
     let mut most = 0;
-    let mut j = 0;
-    let n = t.transitions as usize;
-    while j < n {
-        let end = GUARD_LIMIT * j + byte(&t.lengths, j) as usize;
-        most = larger(
-            most,
-            guard_bound(
-                &t.guards,
-                GUARD_LIMIT * j,
-                end,
-                t.variables,
-                t.clocks,
-                clock,
-            ),
-        );
-        j += 1;
+    for j in 0..t.transitions as usize {
+        let start = GUARD_LIMIT * j;
+        let end = start + byte(&t.lengths, j) as usize;
+        let bound = guard_bound(&t.guards, start, end, t.variables, t.clocks, clock);
+        most = most.max(bound);
     }
-    most as u64
+    u64::from(most)
 }
 
 // A: the largest airtime of any kind.
@@ -44,16 +33,14 @@ pub fn largest_airtime(t: TableParts) -> u64
     ensures { (result ≡ largest_airtime (monitor_of t)) × (result ≤ 255) }
 {
     let mut most = 0;
-    let mut i = 0;
-    let n = t.kinds as usize;
-    while i < n {
-        most = larger(most, byte(&t.airtimes, i));
-        i += 1;
+    for i in 0..t.kinds as usize {
+        most = most.max(byte(&t.airtimes, i));
     }
-    most as u64
+    u64::from(most)
 }
 
 // How many values a clock is written with: 0 to M + 1, and 0 alone for a clock that the table does not have.
+#[tactic(auto, unfolding(model::specs::Size::cap, model::specs::Table::monitor_of))]
 pub fn clock_values(t: TableParts, clock: usize) -> u64
     ensures { (result ≡ cap (monitor_of t) clock + 1) × (result ≤ 257) }
 {
@@ -68,9 +55,10 @@ fn times(a: u64, b: u64) -> u64
     requires { (a ≤ size_limit + 1) × (b ≤ size_limit + 1) }
     ensures { (result ≡ min (a * b) (size_limit + 1)) × (result ≤ size_limit + 1) }
 {
-    if MANY < a * b { MANY } else { a * b }
+    (a * b).min(MANY)
 }
 
+#[tactic(auto, using(crate::proofs::Sizes::power_large))]
 fn power(n: u8) -> u64
     ensures { (result ≡ min (2 ^ n) (size_limit + 1)) × (result ≤ size_limit + 1) }
 {
@@ -85,5 +73,5 @@ pub fn table_size(t: TableParts) -> u64
         clock_values(t, 0),
         times(clock_values(t, 1), largest_airtime(t) + 1),
     );
-    times(t.states as u64, times(power(t.variables), clocks))
+    times(u64::from(t.states), times(power(t.variables), clocks))
 }

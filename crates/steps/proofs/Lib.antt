@@ -1,2 +1,2 @@
-pub mod Moves
+mod Moves
 pub mod Useless

@@ -3,30 +3,31 @@
 #![tactic(auto)]
 
 ghost use Rattle.std.specs.Prelude.{◌≡◌};
-ghost use Rattle.model.specs.Situation.{keep, add, move_of};
+ghost use Rattle.model.specs.Situation.{keep, add, step_by};
 ghost use Rattle.monitor.specs.From.{monitor_from};
-ghost use Rattle.rests.specs.Resting.{stepped};
-ghost use Rattle.situation.specs.Rows.{heard_of};
+ghost use Rattle.situation.specs.Numbering.{capped_by};
 ghost use Rattle.situation.specs.Ruled.{ruled_from};
-ghost use Rattle.steps.specs.Stepping.{arrival_of, arrive_from};
-ghost use Rattle.steps.specs.Steps.{sent_by, trigger_kind, trigger_from};
+ghost use Rattle.steps.specs.Stepping.{as_move, arrive_by};
+ghost use Rattle.steps.specs.Steps.{sent_by, trigger_from};
 
-use model::{FIRST_ADD, REST, Situation};
+use model::Situation;
 use monitor::{airtime_of, device_of, fire};
-use rests::{config_of, nowhere, rested, ticked};
+use rests::{config_of, rested, ticked};
 use rule::{allows, window_behind};
+use situation::Shape;
 use situation::numbering::number;
-use situation::{Arrival, Heard, Next, Shape};
 use wire::{byte, short};
 
-// The kind on which a transition fires, where it does.
+// A move, in the order of preference: keep by a transition; add nothing, which removes what is recorded; add a row by a transition.
 #[derive(Clone, Copy)]
-enum Trigger {
-    Absent,
-    Kind(u8),
+pub enum Move {
+    Keep(usize),
+    Rest,
+    Add(usize),
 }
 
 // A row of a kind, which is a guess or not, is sent by transition j, where the air is free and the rule allows it.
+#[tactic(auto, using(crate::proofs::Moves::fires_under), unfolding(crate::specs::Steps::sent_by, model::specs::Situation::sent, model::specs::Monitor::within_rule))]
 fn sent<'a>(
     table: &'a [u8],
     offsets: &'a [u16],
@@ -35,99 +36,87 @@ fn sent<'a>(
     j: usize,
     kind: u8,
     s: Situation,
-) -> Next
+) -> Option<Situation>
     requires { s.air ≡ 0 }
     ensures { result ≡ sent_by h (ruled_from h table.now offsets.now) guess j kind s }
 {
-    let rule = h.rule;
-    if !allows(rule, s.window, guess) {
-        return nowhere(s);
+    if !allows(h.rule, s.window, guess) {
+        return None;
     }
-    let f = fire(table, offsets, j, kind, config_of(s));
-    if f.fired {
-        let c = f.to;
-        let window = window_behind(rule, s.window, guess);
-        let to = ticked(h, c, airtime_of(table, kind), window);
-        return Next { leads: true, to };
-    }
-    nowhere(s)
+    let c = fire(table, offsets, j, kind, config_of(s))?;
+    let window = window_behind(h.rule, s.window, guess);
+    Some(ticked(h, c, airtime_of(table, kind), window))
 }
 
 // The kind on which transition j fires, if it does from a state.
-fn trigger_from<'a>(table: &'a [u8], offsets: &'a [u16], state: u8, j: usize) -> Trigger
-    ensures { trigger_kind result ≡ trigger_from (monitor_from table.now offsets.now) state j }
+#[tactic(auto, using(crate::proofs::Moves::records), unfolding(crate::specs::Steps::trigger_from, monitor::specs::From::monitor_from, monitor::specs::From::transition_from))]
+fn trigger_from<'a>(table: &'a [u8], offsets: &'a [u16], state: u8, j: usize) -> Option<u8>
+    ensures { result ≡ trigger_from (monitor_from table.now offsets.now) state j }
 {
-    if byte(table, 7) as usize <= j {
-        return Trigger::Absent;
+    if usize::from(byte(table, 7)) <= j {
+        return None;
     }
-    let at = short(offsets, j) as usize;
+    let at = usize::from(short(offsets, j));
     if byte(table, at) == state {
-        return Trigger::Kind(byte(table, at + 2));
+        Some(byte(table, at + 2))
+    } else {
+        None
     }
-    Trigger::Absent
 }
 
+#[tactic(auto, unfolding(crate::specs::Steps::sent_by, model::specs::Situation::step_by, model::specs::Situation::moved))]
 fn kept<'a>(
     table: &'a [u8],
     offsets: &'a [u16],
     h: Shape,
-    heard: Heard,
+    heard: Option<u8>,
     s: Situation,
     j: usize,
-) -> Next
+) -> Option<Situation>
     requires { s.air ≡ 0 }
-    ensures { result ≡ stepped h (ruled_from h table.now offsets.now) (heard_of heard) s (keep j) }
+    ensures { result ≡ step_by (ruled_from h table.now offsets.now) (capped_by h) heard s (keep j) }
 {
-    match heard {
-        Heard::Nothing => nowhere(s),
-        Heard::Kind(kind) => sent(table, offsets, h, false, j, kind, s),
-    }
+    sent(table, offsets, h, false, j, heard?, s)
 }
 
 // A row is added by transition j, where none is recorded.
+#[tactic(auto, using(crate::proofs::Moves::adding_code), unfolding(model::specs::Situation::step_by, model::specs::Situation::moved))]
 fn added<'a>(
     table: &'a [u8],
     offsets: &'a [u16],
     h: Shape,
-    heard: Heard,
+    heard: Option<u8>,
     s: Situation,
     j: usize,
-) -> Next
+) -> Option<Situation>
     requires { s.air ≡ 0 }
-    ensures { result ≡ stepped h (ruled_from h table.now offsets.now) (heard_of heard) s (add j) }
+    ensures { result ≡ step_by (ruled_from h table.now offsets.now) (capped_by h) heard s (add j) }
 {
-    if let Heard::Kind(_) = heard {
-        return nowhere(s);
+    if heard.is_some() {
+        return None;
     }
-    let trigger = trigger_from(table, offsets, s.state, j);
-    let Trigger::Kind(kind) = trigger else {
-        return nowhere(s);
-    };
+    let kind = trigger_from(table, offsets, s.state, j)?;
     let guess = device_of(table, kind) == h.rule.device;
     sent(table, offsets, h, guess, j, kind, s)
 }
 
-// The step by move k: below REST keep by that transition, REST adds nothing and removes what is recorded, from FIRST_ADD on add by transition k - FIRST_ADD.
+#[tactic(auto, unfolding(model::specs::Situation::step_by, model::specs::Situation::moved, model::specs::Situation::sent))]
 pub fn next<'a>(
     table: &'a [u8],
     offsets: &'a [u16],
     h: Shape,
-    heard: Heard,
+    heard: Option<u8>,
     s: Situation,
-    k: usize,
-) -> Next
-    ensures { result ≡ stepped h (ruled_from h table.now offsets.now) (heard_of heard) s (move_of k) }
+    k: Move,
+) -> Option<Situation>
+    ensures { result ≡ step_by (ruled_from h table.now offsets.now) (capped_by h) heard s (as_move k) }
 {
-    if k == REST {
-        return rested(table, h, heard, s);
+    match k {
+        Move::Rest => rested(table, h, heard, s),
+        _ if s.air != 0 => None,
+        Move::Keep(j) => kept(table, offsets, h, heard, s, j),
+        Move::Add(j) => added(table, offsets, h, heard, s, j),
     }
-    if s.air != 0 {
-        return nowhere(s);
-    }
-    if k < REST {
-        return kept(table, offsets, h, heard, s, k);
-    }
-    added(table, offsets, h, heard, s, k - FIRST_ADD)
 }
 
 // The same step on numbers.
@@ -135,16 +124,11 @@ pub fn arrive<'a>(
     table: &'a [u8],
     offsets: &'a [u16],
     h: Shape,
-    heard: Heard,
+    heard: Option<u8>,
     s: Situation,
-    k: usize,
-) -> Arrival
-    ensures { arrival_of result ≡ arrive_from table.now offsets.now h (heard_of heard) s k }
+    k: Move,
+) -> Option<u64>
+    ensures { result ≡ arrive_by table.now offsets.now h heard s (as_move k) }
 {
-    let n = next(table, offsets, h, heard, s, k);
-    if n.leads {
-        let to = n.to;
-        return Arrival::At(number(h, to));
-    }
-    Arrival::Nowhere
+    next(table, offsets, h, heard, s, k).map(|to| number(h, to))
 }

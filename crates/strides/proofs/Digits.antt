@@ -12,13 +12,14 @@ use borrow.Rule.Slice.PartMut.{same_len_mid}
 use lib.ListN.{length, drop, take}
 use lib.Seq.{length-take-le}
 use lib.Arith.{mod-mul}
-use Rattle.words.specs.Words.{mem, up, Is, Bits, bit}
+use Rattle.words.specs.Words.{mem, Is, Bits, bit}
 use Rattle.words.proofs.Sets.{mem-past}
 use Rattle.words.proofs.Bit.{bit_mask, bit_zero}
-use Rattle.strides.specs.Strides.{with_up}
+use Rattle.shifts.specs.Shifted.{upward}
+use Rattle.strides.specs.Strides.{with_moved}
 use Rattle.strides.proofs.Parts.{mem_part, mem-within, mem-behind}
 
-pub ltb_same : (a b c d : ℕ) → (a < b → c < d) → (c < d → a < b) → Dec (a < b) → Dec (c < d) → ltb a b ≡ ltb c d
+ltb_same : (a b c d : ℕ) → (a < b → c < d) → (c < d → a < b) → Dec (a < b) → Dec (c < d) → ltb a b ≡ ltb c d
 ltb_same a b c d f g (yes h) e = lt-ltb a b h ∙ sym (lt-ltb c d (f h))
 ltb_same a b c d f g (no h) (yes l) = absurd (h (g l))
 ltb_same a b c d f g (no h) (no l) = le-ltb a b (omega arith) ∙ sym (le-ltb c d (omega arith))
@@ -30,12 +31,12 @@ module _ (k e : ℕ) where
   below_by x m b f g h j (yes l) = b j ∙ ltb_same j m (64 * k + j) e (f j l) (g j l) (dec_lt j m) (dec_lt (64 * k + j) e) ∙ simp (lt-ltb j 64 l)
   below_by x m b f g h j (no l) = b j ∙ simp (le-ltb j m (omega arith), le-ltb j 64 (omega arith))
 
-  pub below-bits : (x m : ℕ) → ((j : ℕ) → bit x j ≡ ltb j m) → ((j : ℕ) → j < 64 → j < m → 64 * k + j < e) → ((j : ℕ) → j < 64 → 64 * k + j < e → j < m) → m ≤ 64
+  below-bits : (x m : ℕ) → ((j : ℕ) → bit x j ≡ ltb j m) → ((j : ℕ) → j < 64 → j < m → 64 * k + j < e) → ((j : ℕ) → j < 64 → 64 * k + j < e → j < m) → m ≤ 64
       → Bits 64 (λ j. ltb (64 * k + j) e) x
   below-bits x m b f g h = record { bits = λ j. below_by x m b f g h j (dec_lt j 64) }
 
-  pub below_all : k < e / 64 → Bits 64 (λ j. ltb (64 * k + j) e) 18446744073709551615
-  below_all h = below-bits 18446744073709551615 64 (bit_mask 64) (λ j l m. omega arith) (λ j l m. l) (omega arith)
+  pub below_all : k < e / 64 → Bits 64 (λ j. ltb (64 * k + j) e) (2 ^ 64 - 1)
+  below_all h = below-bits (2 ^ 64 - 1) 64 (bit_mask 64) (λ j l m. omega arith) (λ j l m. l) (omega arith)
 
   pub below-some : k ≡ e / 64 → Bits 64 (λ j. ltb (64 * k + j) e) (2 ^ (e % 64) - 1)
   below-some h = below-bits (2 ^ (e % 64) - 1) (e % 64) (bit_mask (e % 64)) (λ j l m. omega arith) (λ j l m. omega arith) (omega arith)
@@ -45,26 +46,25 @@ module _ (k e : ℕ) where
 
 -- only the first m words are joined, since nothing is further up
 module _ (s y : List ℕ) (e m : ℕ) (h : m ≤ length s) (most : m < length s → e / 32 < m) (none : (i : ℕ) → e ≤ i → mem s i ≡ false)
-    (x : Is (with_up e (mem (take m (drop 0 s)))) (take m (drop 0 s)) y) (size : length y ≡ m) where
-  size' : length (take m (drop 0 s)) ≡ m
+    (x : Is (with_moved upward e (mem (take m s))) (take m s) y) (size : length y ≡ m) where
+  size' : length (take m s) ≡ m
   size' = length-take-le m s h
 
-  first : (i : ℕ) → i < 64 * m → mem (take m (drop 0 s)) i ≡ mem s i
+  first : (i : ℕ) → i < 64 * m → mem (take m s) i ≡ mem s i
   first i l = let z : 64 * 0 + i ≡ i = omega arith in mem_part s 0 m i l ∙ ap (mem s) z
 
-  grown_by : (i : ℕ) → i < 64 * length s → Dec (i < 64 * m) → mem (y ++ drop m (drop 0 s)) i ≡ with_up e (mem s) i
-  unfolding with_up up
+  grown_by : (i : ℕ) → i < 64 * length s → Dec (i < 64 * m) → mem (y ++ drop m s) i ≡ with_moved upward e (mem s) i
   grown_by i l (yes b) =
       let z : 64 * 0 + i ≡ i = omega arith in
-      ap (λ (n : ℕ). mem (y ++ drop m (drop 0 s)) n) (sym z)
-      ∙ mem-within s y (drop m (drop 0 s)) 0 (omega arith) i (omega arith)
+      ap (λ (n : ℕ). mem (y ++ drop m s) n) (sym z)
+      ∙ mem-within s y (drop m s) 0 (omega arith) i (omega arith)
       ∙ x.all i (omega (arith, size'))
       ∙ ap₂ (λ (p q : Bool). p || (leb e i && q)) (first i b) (first (i - e) (omega arith))
   grown_by i l (no b) =
       mem-behind s y 0 m (omega arith) size i (omega arith)
       ∙ (let far = most (omega arith) in simp (none i (omega arith), none (i - e) (omega arith), and-false))
 
-  pub grown : Is (with_up e (mem s)) s (y ++ drop m (drop 0 s))
+  pub grown : Is (with_moved upward e (mem s)) s (y ++ drop m s)
   grown = record { size = same_len_mid 0 m s y (size ∙ sym size'); all = λ i l. grown_by i l (dec_lt i (64 * m)) }
 
 -- one period, then two times as much
@@ -83,8 +83,7 @@ module _ (s a b : List ℕ) (p e : ℕ) (again : (x : ℕ) → (e + x) % p ≡ x
       by (yes m) = x.all i m ∙ simp (le-ltb i e l)
       by (no m) = mem-past a i (subst (λ (n : ℕ). 64 * n ≤ i) (sym x.size) (omega arith))
 
-  pub period_more : Is (with_up e (mem a)) a b → Is (λ i. ltb i (2 * e) && mem s (i % p)) s b
-  unfolding with_up up
+  pub period_more : Is (with_moved upward e (mem a)) a b → Is (λ i. ltb i (2 * e) && mem s (i % p)) s b
   period_more y =
       record {
         size = y.size ∙ x.size;
@@ -99,9 +98,6 @@ module _ (s a b : List ℕ) (p e : ℕ) (again : (x : ℕ) → (e + x) % p ≡ x
           (x.all (i - e) (omega arith) ∙ simp (lt-ltb (i - e) e (omega arith)) (ap (mem s) (sym (again (i - e)) ∙ ap (λ (t : ℕ). t % p) back)))
       at i l (no m) (no n) =
           simp (le-ltb i e (omega arith), le-ltb i (2 * e) (omega arith), period_none (i - e) (omega arith), and-false)
-
-  pub period_last : length s ≤ e / 64 → Is (λ i. mem s (i % p)) s a
-  period_last h = record { size = x.size; all = λ i l. x.all i l ∙ simp (lt-ltb i e (omega arith)) }
 
 -- a digit below n, by what is left at its period
 module _ (w r n x : ℕ) (hw : 0 < w) (hr : 0 < r) where
@@ -126,7 +122,7 @@ module _ (w r n x : ℕ) (hw : 0 < w) (hr : 0 < r) where
       let m : x / w % r + 1 ≤ min n r = omega arith in
       omega (arith, left, capped, one, mul-le-mul_right w m)
 
-  pub digit-below : ltb (x % (w * r)) (w * min n r) ≡ ltb (x / w % r) n
+  digit-below : ltb (x % (w * r)) (w * min n r) ≡ ltb (x / w % r) n
   digit-below = ltb_same (x % (w * r)) (w * min n r) (x / w % r) n digit-there digit-back (dec_lt (x % (w * r)) (w * min n r)) (dec_lt (x / w % r) n)
 
 -- the numbers below w * min n r, repeated at w * r

@@ -1,9 +1,6 @@
 -- A set joined with itself, moved.
-use Rattle.std.specs.Prelude.{ℕ, ◌+◌, Bool, ◌||◌}
-use Rattle.words.specs.Words.{up}
+use Rattle.std.specs.Prelude.{ℕ, Bool, ◌||◌}
+use Rattle.shifts.specs.Shifted.{Moves, moved}
 
-unfoldable pub with_up : ℕ → (ℕ → Bool) → ℕ → Bool
-with_up k p i = p i || up k p i
-
-unfoldable pub with_down : ℕ → (ℕ → Bool) → ℕ → Bool
-with_down k p i = p i || p (k + i)
+abbrev pub with_moved : Moves → ℕ → (ℕ → Bool) → ℕ → Bool
+with_moved m k p i = p i || moved m k p i

@@ -11,19 +11,16 @@ use borrow.Author.Tests.{le-leb, eq-eqb}
 use lib.Seq.{take-take, take_all, length-take-le}
 use Rattle.model.specs.Limits.{table_versions, kind_limit, transition_limit, guard_limit}
 use Rattle.model.specs.Bytes.{byte_at, word_at, word_bytes, joined}
-use Rattle.model.specs.First.{unless, and_then, is_sound}
+use Rattle.model.specs.First.{unless, and_then, Reading, Writing}
 use Rattle.model.specs.Frame.{is_version, framed}
 use Rattle.model.specs.Answers.{Writes}
 use Rattle.model.specs.Room.{write, over}
 use Rattle.model.specs.Kinds.{kind_at, kind_bytes}
-use Rattle.model.specs.Table.{guard_bytes_in, transition_bytes, count_bytes, table_body, table_bytes, table_limit, counts_of, table_counts, scan_with, whole_answer, monitor_of, table_writable, write_table}
+use Rattle.model.specs.Table.{guard_bytes_in, transition_bytes, count_bytes, table_body, table_bytes, table_limit, counts_of, table_counts, scan_with, whole_answer, monitor_of, table_parts, table_writable, write_table}
 use Rattle.model.specs.declared.Edition.TheVariants.{One}
 use Rattle.model.specs.declared.Refusal.TheVariants.{TableFrame, TableVersion}
-use Rattle.model.specs.declared.Reading.{Reading}
-use Rattle.model.specs.declared.Reading.TheVariants.{Sound, Unsound}
+use Rattle.std.specs.Prelude.{Ok, Err}
 use Rattle.model.specs.declared.Refusal.{Refusal}
-use Rattle.model.specs.declared.Writing.{Writing}
-use Rattle.model.specs.declared.Writing.TheVariants.{Unwritten}
 use Rattle.model.specs.declared.TableParts.{TableParts}
 use Rattle.model.proofs.KindForm.{kind_next, kind-most, kind-length, kinds-length}
 use Rattle.model.proofs.TableTrip.{monitor_back}
@@ -31,8 +28,6 @@ use Rattle.wire.specs.Placed.{placed}
 use Rattle.wire.proofs.Room.{placed-behind}
 use Rattle.columns.proofs.Columns.{joined-most}
 use Rattle.frame.proofs.Written.{placed_first, write-refused}
-use Rattle.frame.proofs.Answers.{stops, sound-is}
-use Rattle.scan.proofs.Scans.{counts_bound}
 use Rattle.tables.proofs.Tables.{scan_all}
 
 -- a guard's bytes, cut at its places
@@ -54,10 +49,8 @@ module _ (guards : List ℕ) (j count w : ℕ) (is : w ≡ min count guard_limit
 
   pub guard-count : j < transition_limit → guard_limit * transition_limit ≤ length guards → guard_limit * j + w - guard_limit * j ≡ length (guard_bytes_in guards count j)
   guard-count h k =
-      ap (λ (n : ℕ). n) (count-is h k) ∙ ap length guard_part
-    where
-      count-is : j < transition_limit → guard_limit * transition_limit ≤ length guards → guard_limit * j + w - guard_limit * j ≡ length (take (guard_limit * j + w - guard_limit * j) (drop (guard_limit * j) guards))
-      count-is h k = sym (length-take (guard_limit * j + w - guard_limit * j) (drop (guard_limit * j) guards) ∙ omega (arith, length-drop (guard_limit * j) guards))
+      let rest : List ℕ = drop (guard_limit * j) guards in
+      sym (length-take (guard_limit * j + w - guard_limit * j) rest ∙ omega (arith, length-drop (guard_limit * j) guards)) ∙ ap length guard_part
 
 pub kinds-long : (t : TableParts) (head : List ℕ) (i : ℕ) → length head ≡ 8 → length (head ++ joined (kind_bytes t) i) ≡ kind_at t.version i
 kinds-long t head i h = length-append head (joined (kind_bytes t) i) ∙ omega (arith, kinds-length t i)
@@ -120,7 +113,11 @@ module _ (t : TableParts) where
       let total : end - 2 ≡ length (table_body t) = omega (arith, body, q.1) in
       let flat = append_assoc z kinds transitions in
       let first = placed_first z (word_bytes (end - 2) ++ count_bytes t) (kinds ++ transitions) out eight (omega (arith, ap length flat, q.1)) in (
-        e ∙ ap (λ (b : List ℕ). placed b 0 two) h ∙ ap (placed (word_bytes (end - 2) ++ count_bytes t) 0) (q.0 ∙ ap (λ (b : List ℕ). over b out) flat) ∙ first ∙ ap (λ (b : List ℕ). over b out) (table_is (end - 2) total),
+        e
+            ∙ ap (λ (b : List ℕ). placed b 0 two) h
+            ∙ ap (placed (word_bytes (end - 2) ++ count_bytes t) 0) (q.0 ∙ ap (λ (b : List ℕ). over b out) flat)
+            ∙ first
+            ∙ ap (λ (b : List ℕ). over b out) (table_is (end - 2) total),
         q.1 ∙ sym body ∙ sym table_long,
       )
 
@@ -135,7 +132,8 @@ module _ (t : TableParts) where
   body_most : t.kinds ≤ 255 → t.transitions ≤ 255 → length (table_body t) < 65536
   body_most h k =
       let z : List ℕ = 0 ∷ 0 ∷ 0 ∷ 0 ∷ 0 ∷ 0 ∷ 0 ∷ 0 ∷ [] in
-      omega (arith, body_long z refl, length-append (z ++ kinds) transitions, length-append z kinds, kinds-length t t.kinds, kind-most t.version t.kinds 255 h, joined-most (transition_bytes t) (7 + guard_limit) t.transitions transition-most)
+      let most = joined-most (transition_bytes t) (7 + guard_limit) t.transitions transition-most in
+      omega (arith, body_long z refl, length-append (z ++ kinds) transitions, length-append z kinds, kinds-length t t.kinds, kind-most t.version t.kinds 255 h, most)
 
   word_is : length (table_body t) < 65536 → word_at (table_bytes t) 0 ≡ length (table_body t)
   unfolding table_bytes
@@ -153,30 +151,27 @@ module _ (t : TableParts) where
   unfolding table_body
   body_least = omega arith
 
-  frame_is : length (table_body t) < 65536 → framed One (table_bytes t) 8 1 table_versions TableFrame TableVersion ≡ and_then (unless (is_version 1 table_versions t.version) TableVersion) Sound
+  frame_is : length (table_body t) < 65536 → framed One (table_bytes t) 8 1 table_versions TableFrame TableVersion ≡ and_then (unless (is_version 1 table_versions t.version) TableVersion) (Ok tt)
   unfolding framed
   frame_is h =
       let all : word_at (table_bytes t) 0 + 2 ≡ length (table_bytes t) = omega (arith, word_is h, table_long) in
       let least : 8 ≤ length (table_bytes t) = omega (arith, body_least, table_long) in
       rw (le-leb 8 (length (table_bytes t)) least, eq-eqb (word_at (table_bytes t) 0 + 2) (length (table_bytes t)) all, version-is)
 
-  refused_scan : (room : List ℕ) (why : Refusal) → scan_with t.devices (table_bytes t) ≡ Unsound why → Writes (write_table t room) (Unwritten why) room
+  refused_scan : (room : List ℕ) (why : Refusal) → scan_with t.devices (table_bytes t) ≡ Err why → Writes (write_table t room) (Err why) room
   unfolding write_table
   refused_scan room why e = write-refused (table_writable t) (table_bytes t) room why (scan_all (table_bytes t) t.devices ∙ rw e)
 
   -- 11
-  pub write-version : (room : List ℕ) → t.kinds ≤ 255 → t.transitions ≤ 255 → is_version 1 table_versions t.version ≡ false → Writes (write_table t room) (Unwritten TableVersion) room
+  pub write-version : (room : List ℕ) → t.kinds ≤ 255 → t.transitions ≤ 255 → is_version 1 table_versions t.version ≡ false → Writes (write_table t room) (Err TableVersion) room
   unfolding scan_with
   write-version room h k e = refused_scan room TableVersion (rw (frame_is (body_most h k), e))
 
-  module _ (version : is_version 1 table_versions t.version ≡ true) (counts : Reading) (is : counts ≡ counts_of t.states t.variables t.clocks t.kinds t.transitions) where
-    -- 12
-    pub write-early : (room : List ℕ) → t.kinds ≤ 255 → t.transitions ≤ 255 → (why : Refusal) → counts ≡ Unsound why → Writes (write_table t room) (Unwritten why) room
-    unfolding scan_with
-    write-early room h k why e = let same : table_counts (table_bytes t) ≡ Unsound why = counts_same ∙ sym is ∙ e in refused_scan room why (rw (frame_is (body_most h k), version, same))
-
-    pub counts-within : is_sound counts ≡ true → (t.kinds ≤ kind_limit) × (t.transitions ≤ transition_limit)
-    counts-within e = counts_bound t.states t.variables t.clocks t.kinds t.transitions (sym is ∙ sound-is counts e)
+  -- 12
+  pub write-early : (room : List ℕ) → t.kinds ≤ 255 → t.transitions ≤ 255 → is_version 1 table_versions t.version ≡ true
+      → (why : Refusal) → counts_of t.states t.variables t.clocks t.kinds t.transitions ≡ Err why → Writes (write_table t room) (Err why) room
+  unfolding scan_with
+  write-early room h k version why e = let same : table_counts (table_bytes t) ≡ Err why = counts_same ∙ e in refused_scan room why (rw (frame_is (body_most h k), version, same))
 
   pub write-late : (room bytes : List ℕ) (answer : Reading) → bytes ≡ table_bytes t → answer ≡ table_writable t → (r : Writing) (after : List ℕ)
       → Writes (write answer bytes room) r after → Writes (write_table t room) r after
@@ -184,11 +179,9 @@ module _ (t : TableParts) where
   write-late room bytes answer e g r after w = rw (g, e) at w
 
   -- the answer from the scan of these bytes, and 16 and 17 of the parts themselves
-  module _ (b : List ℕ) (is : b ≡ table_bytes t) (scan : Reading) (scanned : scan ≡ scan_with t.devices b) where
-    pub writable_refused : is_sound scan ≡ false → scan ≡ table_writable t
-    writable_refused e = sym (scan_all (table_bytes t) t.devices ∙ rw (← is, ← scanned) (stops scan _ e))
-
-    pub writable_whole : length t.guards ≡ guard_limit * transition_limit → is_sound scan ≡ true → (whole : Reading) → whole ≡ whole_answer (monitor_of t) → whole ≡ table_writable t
-    writable_whole full e whole q =
-        let sound : scan_with t.devices (table_bytes t) ≡ Sound = ap (scan_with t.devices) (sym is) ∙ sym scanned ∙ sound-is scan e in
-        q ∙ ap whole_answer (sym (monitor_back t full sound)) ∙ sym (scan_all (table_bytes t) t.devices ∙ rw sound)
+  pub writable_by : length t.guards ≡ guard_limit * transition_limit → table_writable t ≡ and_then (scan_with t.devices (table_bytes t)) (whole_answer (monitor_of t))
+  writable_by full = scan_all (table_bytes t) t.devices ∙ go (scan_with t.devices (table_bytes t)) refl
+    where
+      go : (scan : Reading) → scan_with t.devices (table_bytes t) ≡ scan → and_then scan (whole_answer (monitor_of (table_parts (table_bytes t)))) ≡ and_then scan (whole_answer (monitor_of t))
+      go (Ok _) e = ap whole_answer (monitor_back t full e)
+      go (Err why) e = refl

@@ -2,21 +2,23 @@
 use Prim.Native.Nat.{ℕ, ◌+◌, ◌-◌, ◌*◌, ◌≤◌, ◌<◌}
 use native.Mathlib.Omega.{arith}
 use native.Mathlib.Numerals.{add-one}
-use mathlib.Core.Path.{◌≡◌, refl, sym, ap, ◌∙◌}
+use mathlib.Core.Path.{◌≡◌, refl, ap}
 use mathlib.Core.List.{List, [], ◌∷◌}
-use mathlib.Core.Bool.{false}
 use lib.ListN.{length, take, drop, length-take}
 use Rattle.model.specs.Limits.{table_versions, kind_limit, transition_limit, guard_limit}
 use Rattle.model.specs.Bytes.{joined, padded}
-use Rattle.model.specs.First.{and_then, first_of, is_sound}
+use Rattle.model.specs.First.{and_then, first_of, read_as, answer_of, Reading}
+use Rattle.model.specs.Answers.{Reads, RefusesUnreached}
+use Rattle.model.specs.Devices.{JudgesDevices}
+use Rattle.model.specs.Numbers.{reading_values}
 use Rattle.model.specs.Frame.{framed}
-use Rattle.model.specs.Table.{table_counts, transition_records, states_at, variables_at, clocks_at, kinds_at, transitions_at, transition_at, guard_length_at, guard_place, kind_records, device_column, scan_with, table_scan, whole_answer, answer_with, table_answer, table_parts, no_table, read_table, monitor_of}
+use Rattle.model.proofs.AnswerLaws.{table_reads}
+use Rattle.model.specs.Table.{table_counts, transition_records, states_at, variables_at, clocks_at, kinds_at, transitions_at, transition_at, guard_length_at, guard_place, kind_records, device_column, scan_with, table_scan, whole_answer, answer_with, table_answer, table_parts, read_table, monitor_of}
 use Rattle.model.specs.declared.Edition.TheVariants.{One}
-use Rattle.model.specs.declared.TableParts.{TableParts}
-use Rattle.model.specs.declared.TableReading.{TableReading}
 use Rattle.model.specs.declared.Refusal.TheVariants.{TableFrame, TableVersion}
-use Rattle.model.specs.declared.Reading.{Reading}
-use Rattle.model.specs.declared.Reading.TheVariants.{Sound, Unsound}
+use Rattle.std.specs.Prelude.{Result, Ok, Err}
+use Rattle.model.specs.declared.TableParts.{TableParts}
+use Rattle.model.specs.declared.Refusal.{Refusal}
 use Rattle.model.proofs.TableForm.{TableFacts, scan_facts, places}
 use Rattle.wire.specs.Placed.{placed}
 use Rattle.columns.proofs.Columns.{joined-long, place-more}
@@ -38,20 +40,24 @@ module _ (b : List ℕ) where
           (counts : Reading) → table_counts b ≡ counts
           → and_then counts (first_of (kind_records d b ∷ transition_records (transitions_at b) b (transition_at b 0) ∷ []))
           ≡ and_then counts (first_of (kind_records e b ∷ transition_records (transitions_at b) b (transition_at b 0) ∷ []))
-      go (Unsound r) q = refl
-      go Sound q = rw (same (counts_bound (states_at b) (variables_at b) (clocks_at b) (kinds_at b) (transitions_at b) q).0)
+      go (Err r) q = refl
+      go (Ok _) q = rw (same (counts_bound (states_at b) (variables_at b) (clocks_at b) (kinds_at b) (transitions_at b) q).0)
 
   -- .. of bytes as they are read
 
-  pub read_all : table_answer b ≡ and_then (table_scan b) (whole_answer (monitor_of (table_parts b)))
-  unfolding table_answer table_scan
-  read_all = scan_all (device_column b)
-
-  pub read_scan : (d : List ℕ) → (kinds_at b ≤ kind_limit → d ≡ device_column b) → (r : Reading) → r ≡ scan_with d b → r ≡ table_scan b
+  pub scan_same : (d : List ℕ) → (kinds_at b ≤ kind_limit → d ≡ device_column b) → scan_with d b ≡ table_scan b
   unfolding table_scan
-  read_scan d same r is = is ∙ same_scan d (device_column b) same
+  scan_same d same = same_scan d (device_column b) same
 
-  module _ (sound : table_scan b ≡ Sound) where
+  pub read_by : read_table b ≡ read_as (and_then (table_scan b) (whole_answer (monitor_of (table_parts b)))) (table_parts b)
+  unfolding read_table table_answer table_scan
+  read_by = rw (scan_all (device_column b))
+
+  pub read_judged : (x : Result TableParts Refusal) → x ≡ read_table b
+      → Reads (table_answer b) (table_parts b) x × RefusesUnreached b (answer_of x) × JudgesDevices (table_parts b) b (reading_values (answer_of x))
+  read_judged x e = (table_reads b x e).1
+
+  module _ (sound : table_scan b ≡ Ok tt) where
     facts : TableFacts (device_column b) b
     unfolding table_scan
     facts = scan_facts (device_column b) b sound
@@ -72,7 +78,7 @@ unfolding guard_place
 place_is b i at l starts long = rw (long, starts)
 
 -- the guard of record i, which starts at an offset and has a length
-module _ (b : List ℕ) (sound : table_scan b ≡ Sound) (i at l : ℕ) (within : i < transitions_at b) (starts : at ≡ transition_at b i) (long : l ≡ guard_length_at b at) where
+module _ (b : List ℕ) (sound : table_scan b ≡ Ok tt) (i at l : ℕ) (within : i < transitions_at b) (starts : at ≡ transition_at b i) (long : l ≡ guard_length_at b at) where
   pub guard_inside : (l ≤ guard_limit) × (at + 7 + l ≤ length b)
   guard_inside = rw (long, starts) (scan-guard b sound i within)
 
@@ -82,16 +88,5 @@ module _ (b : List ℕ) (sound : table_scan b ≡ Sound) (i at l : ℕ) (within 
       let all : at + 7 + l - (at + 7) ≡ l = omega arith in
       let few : transitions_at b ≤ transition_limit = (scan_bounds b sound).1 in
       let short : length (take l (drop (at + 7) b)) ≤ guard_limit = omega (arith, guard_inside.0, length-take l (drop (at + 7) b)) in
-      rw (all, e) (place-more (guard_limit * transition_limit) guard_limit (guard_place b) (take l (drop (at + 7) b)) i (omega arith) short (joined-long (guard_place b) guard_limit i (λ j h. places b (facts b sound) j (omega arith))) (place_is b i at l starts long))
-
-pub read_refused : (b : List ℕ) (r : Reading) (p : TableParts) → r ≡ table_answer b → is_sound r ≡ false → p ≡ no_table → ◌≡◌ {A = TableReading} (record { answer = r; parts = p }) (read_table b)
-unfolding read_table
-read_refused b r p e h q = rw (← e, h, q)
-
-pub read_sound : (b : List ℕ) (r : Reading) (p : TableParts) → r ≡ table_answer b → r ≡ Sound → p ≡ table_parts b → ◌≡◌ {A = TableReading} (record { answer = r; parts = p }) (read_table b)
-unfolding read_table
-read_sound b r p e h q = rw (← e, h, q)
-
--- 16 and 17 of the parts that were read
-pub whole_of : (b : List ℕ) (r : Reading) (p : TableParts) → table_answer b ≡ whole_answer (monitor_of (table_parts b)) → p ≡ table_parts b → r ≡ whole_answer (monitor_of p) → r ≡ table_answer b
-whole_of b r p all e is = is ∙ ap (λ (t : TableParts). whole_answer (monitor_of t)) e ∙ sym all
+      let before = joined-long (guard_place b) guard_limit i (λ j h. places b (facts b sound) j (omega arith)) in
+      rw (all, e) (place-more (guard_limit * transition_limit) guard_limit (guard_place b) (take l (drop (at + 7) b)) i (omega arith) short before (place_is b i at l starts long))

@@ -2,26 +2,22 @@
 
 #![tactic(auto)]
 
-ghost use Rattle.std.specs.Prelude.{◌≡◌, ℕ, ◌+◌, ◌-◌, ◌*◌, ◌%◌, ◌<◌, ◌≤◌, List, ◌++◌, length};
+ghost use Rattle.std.specs.Prelude.{◌≡◌, ℕ, ◌+◌, ◌-◌, ◌*◌, ◌<◌, ◌≤◌, List, ◌++◌, length};
 ghost use Rattle.model.specs.Answers.{Reads, RefusesUnreached, Writes};
+ghost use Rattle.model.specs.First.{answer_of};
 ghost use Rattle.model.specs.Numbers.{reading_values, writing_values};
 ghost use Rattle.model.specs.Devices.{JudgesDevices};
 ghost use Rattle.model.specs.Limits.{kind_limit, transition_limit, guard_limit};
 ghost use Rattle.model.specs.Bytes.{word_bytes, joined, padded};
 ghost use Rattle.model.specs.Room.{over};
 ghost use Rattle.wire.specs.Placed.{placed};
-ghost use Rattle.model.specs.declared.Reading.TheVariants.{Sound};
 ghost use Rattle.model.specs.Kinds.{kind_at, kind_bytes};
-ghost use Rattle.model.specs.Table.{apart, kinds_at, transitions_at, kind_column, device_column, transition_column, guard_place, table_parts, no_table, table_scan, table_answer, read_table, field_bytes, guard_bytes_in, transition_bytes, count_bytes, table_bytes, table_limit, table_writable, write_table};
+ghost use Rattle.model.specs.Table.{kinds_at, transitions_at, kind_column, device_column, transition_column, guard_place, table_parts, table_scan, table_answer, read_table, field_bytes, guard_bytes_in, transition_bytes, count_bytes, table_bytes, table_limit, table_writable, write_table};
 
-use columns::{bytes_column, smaller};
-use frame::{is_version, put, sound};
-use kinds::{FIRST_KIND, WIDEST_KIND, kind_at, kind_width, transitions_at};
-use model::{
-    GUARD_LIMIT, KIND_LIMIT, Reading, Refusal, TABLE_VERSIONS, TRANSITION_LIMIT, TableParts,
-    TableReading, Writing,
-};
-use monitor::device_of;
+use columns::bytes_column;
+use frame::{is_version, put};
+use kinds::{FIRST_KIND, WIDEST_KIND, device_at, kind_at, kind_width, record_at, transitions_at};
+use model::{GUARD_LIMIT, KIND_LIMIT, Refusal, TABLE_VERSIONS, TRANSITION_LIMIT, TableParts};
 use scan::{counts_answer, scan_with, whole_answer};
 use wire::{byte, place};
 
@@ -42,68 +38,53 @@ fn kind_column(b: &[u8], field: u8) -> [u8; KIND_LIMIT]
 }
 
 // The devices of the kinds that the table counts, at most as many as a sound one has.
+#[tactic(auto, unfolding(model::specs::Bytes::tab))]
 fn device_column(b: &[u8]) -> [u8; KIND_LIMIT]
     ensures { kinds_at b.now ≤ kind_limit → result ≡ device_column b.now }
 {
-    let most = smaller(byte(b, 6) as usize, KIND_LIMIT);
     let mut column = [0u8; KIND_LIMIT];
-    let mut i = 0;
-    while i < most {
-        column[i] = device_of(b, i as u8);
-        i += 1;
+    for i in 0..KIND_LIMIT.min(byte(b, 6) as usize) {
+        column[i] = device_at(b, record_at(b, i as u8));
     }
     column
 }
 
+#[tactic(auto, unfolding(model::specs::Bytes::tab))]
 fn transition_column(b: &[u8], field: usize) -> [u8; TRANSITION_LIMIT]
     requires { (transitions_at b.now ≤ transition_limit) × (field ≤ 6) }
     ensures { result ≡ transition_column b.now field }
 {
-    let n = byte(b, 7) as usize;
     let mut column = [0u8; TRANSITION_LIMIT];
     let mut at = transitions_at(b) as usize;
-    let mut i = 0;
-    while i < n {
+    for i in 0..byte(b, 7) as usize {
         column[i] = byte(b, at + field);
         at = at + 7 + byte(b, at + 6) as usize;
-        i += 1;
     }
     column
 }
 
 // Each guard in its places.
+#[tactic(auto, unfolding(model::specs::Bytes::joined, model::specs::Bytes::padded))]
 fn guard_places(b: &[u8]) -> [u8; GUARD_LIMIT * TRANSITION_LIMIT]
-    requires { table_scan b.now ≡ Sound }
+    requires { table_scan b.now ≡ Ok tt }
     ensures { result ≡ padded (guard_limit * transition_limit) (joined (guard_place b.now) (transitions_at b.now)) }
 {
-    let n = byte(b, 7) as usize;
     let mut guards = [0u8; GUARD_LIMIT * TRANSITION_LIMIT];
     let mut at = transitions_at(b) as usize;
-    let mut i = 0;
-    while i < n {
+    for i in 0..byte(b, 7) as usize {
         let from = at + 7;
         let to = from + byte(b, at + 6) as usize;
         place(&b[from..to], &mut guards, GUARD_LIMIT * i);
         at = to;
-        i += 1;
     }
     guards
 }
 
+#[tactic(auto, using(crate::proofs::Tables::scan_bounds), unfolding(model::specs::Table::table_parts))]
 fn table_parts(b: &[u8], devices: [u8; KIND_LIMIT]) -> TableParts
-    requires { (table_scan b.now ≡ Sound) × (devices ≡ device_column b.now) }
+    requires { (table_scan b.now ≡ Ok tt) × (devices ≡ device_column b.now) }
     ensures { result ≡ table_parts b.now }
 {
-    let directions = kind_column(b, 0);
-    let airtimes = kind_column(b, 1);
-    let sources = transition_column(b, 0);
-    let targets = transition_column(b, 1);
-    let triggers = transition_column(b, 2);
-    let sets = transition_column(b, 3);
-    let clears = transition_column(b, 4);
-    let resets = transition_column(b, 5);
-    let lengths = transition_column(b, 6);
-    let guards = guard_places(b);
     TableParts {
         version: byte(b, 2),
         states: byte(b, 3),
@@ -111,77 +92,40 @@ fn table_parts(b: &[u8], devices: [u8; KIND_LIMIT]) -> TableParts
         clocks: byte(b, 5),
         kinds: byte(b, 6),
         transitions: byte(b, 7),
-        directions,
-        airtimes,
+        directions: kind_column(b, 0),
+        airtimes: kind_column(b, 1),
         devices,
-        sources,
-        targets,
-        triggers,
-        sets,
-        clears,
-        resets,
-        lengths,
-        guards,
+        sources: transition_column(b, 0),
+        targets: transition_column(b, 1),
+        triggers: transition_column(b, 2),
+        sets: transition_column(b, 3),
+        clears: transition_column(b, 4),
+        resets: transition_column(b, 5),
+        lengths: transition_column(b, 6),
+        guards: guard_places(b),
     }
 }
 
-fn no_table() -> TableParts
-    ensures { result ≡ no_table }
-{
-    TableParts {
-        version: 0,
-        states: 0,
-        variables: 0,
-        clocks: 0,
-        kinds: 0,
-        transitions: 0,
-        directions: [0; KIND_LIMIT],
-        airtimes: [0; KIND_LIMIT],
-        devices: [0; KIND_LIMIT],
-        sources: [0; TRANSITION_LIMIT],
-        targets: [0; TRANSITION_LIMIT],
-        triggers: [0; TRANSITION_LIMIT],
-        sets: [0; TRANSITION_LIMIT],
-        clears: [0; TRANSITION_LIMIT],
-        resets: [0; TRANSITION_LIMIT],
-        lengths: [0; TRANSITION_LIMIT],
-        guards: [0; GUARD_LIMIT * TRANSITION_LIMIT],
-    }
-}
-
-pub fn read_table(b: &[u8]) -> TableReading
+#[tactic(auto, using(crate::proofs::Tables::scan_same, crate::proofs::Tables::scan_bounds))]
+pub fn read_table(b: &[u8]) -> Result<TableParts, Refusal>
     ensures value { result ≡ read_table b.now }
-    ensures reads { Reads (table_answer b.now) (table_parts b.now) no_table result.answer result.parts × RefusesUnreached b.now result.answer × JudgesDevices (table_parts b.now) b.now (reading_values result.answer) }
+    ensures reads { Reads (table_answer b.now) (table_parts b.now) result × RefusesUnreached b.now (answer_of result) × JudgesDevices (table_parts b.now) b.now (reading_values (answer_of result)) }
 {
     let devices = device_column(b);
-    let scan = scan_with(b, &devices);
-    if !sound(scan) {
-        return TableReading {
-            answer: scan,
-            parts: no_table(),
-        };
-    }
+    scan_with(b, &devices)?;
     let parts = table_parts(b, devices);
-    let whole = whole_answer(parts);
-    if !sound(whole) {
-        return TableReading {
-            answer: whole,
-            parts: no_table(),
-        };
-    }
-    TableReading {
-        answer: whole,
-        parts,
-    }
+    whole_answer(parts)?;
+    Ok(parts)
 }
 
 // The table's numbers alone.
-pub fn table_answer(b: &[u8]) -> Reading
+#[tactic(auto, using(crate::proofs::Readings::answer_same), unfolding(model::specs::Table::read_table))]
+pub fn table_answer(b: &[u8]) -> Result<(), Refusal>
     ensures value { result ≡ table_answer b.now }
     ensures refuses_unreached { RefusesUnreached b.now result × JudgesDevices (table_parts b.now) b.now (reading_values result) }
 {
-    let reading = read_table(b);
-    reading.answer
+    read_table(b)?;
+    Ok(())
 }
 
 // Writing. Each record goes behind what stands in the room already, which a contract calls head.
@@ -189,15 +133,11 @@ fn encode_kinds(t: TableParts, out: &mut [u8])
     requires { t.kinds ≤ kind_limit }
     ensures { (head room : List ℕ) → length head ≡ 8 → table_limit ≤ length room → out.old ≡ over head room → out.new ≡ over (head ++ joined (kind_bytes t) t.kinds) room }
 {
-    let version = t.version;
-    let width = kind_width(version) as usize;
-    let n = t.kinds;
-    let mut i = 0u8;
-    while i < n {
+    let width = kind_width(t.version) as usize;
+    for i in 0..t.kinds {
         let k = i as usize;
         let record = [t.directions[k], t.airtimes[k], t.devices[k]];
-        place(&record[0..width], out, kind_at(version, i) as usize);
-        i += 1;
+        place(&record[..width], out, kind_at(t.version, i) as usize);
     }
 }
 
@@ -217,12 +157,12 @@ fn field_bytes(t: TableParts, j: usize) -> [u8; 7]
 }
 
 // The bytes of guard j that its length covers, and how many they are.
-fn put_guard<'a>(guards: &'a [u8], j: usize, count: u8, out: &mut [u8], at: usize) -> usize
+fn put_guard(guards: &[u8], j: usize, count: u8, out: &mut [u8], at: usize) -> usize
     requires { (j < transition_limit) × (guard_limit * transition_limit ≤ length guards.now) }
     ensures { (out.new ≡ placed (guard_bytes_in guards.now count j) at out.old) × (result ≡ length (guard_bytes_in guards.now count j)) × (result ≤ guard_limit) }
 {
     let from = GUARD_LIMIT * j;
-    let to = from + smaller(count as usize, GUARD_LIMIT);
+    let to = from + GUARD_LIMIT.min(count as usize);
     place(&guards[from..to], out, at);
     to - from
 }
@@ -241,12 +181,9 @@ fn encode_transitions(t: TableParts, out: &mut [u8]) -> usize
     requires { (t.kinds ≤ kind_limit) × (t.transitions ≤ transition_limit) }
     ensures { ((head room : List ℕ) → length head ≡ kind_at t.version t.kinds → table_limit ≤ length room → out.old ≡ over head room → (out.new ≡ over (head ++ joined (transition_bytes t) t.transitions) room) × (result ≡ length (head ++ joined (transition_bytes t) t.transitions))) × (result ≤ table_limit) }
 {
-    let n = t.transitions as usize;
     let mut at = kind_at(t.version, t.kinds) as usize;
-    let mut i = 0;
-    while i < n {
+    for i in 0..t.transitions as usize {
         at = put_transition(t, i, at, out);
-        i += 1;
     }
     at
 }
@@ -268,10 +205,10 @@ fn head_bytes(t: TableParts, end: usize) -> [u8; 8]
     requires { end ≤ table_limit }
     ensures { result ≡ word_bytes (end - 2) ++ count_bytes t }
 {
-    let total = after_length(end);
+    let [high, low] = (end.saturating_sub(2) as u16).to_be_bytes();
     [
-        (total / 256) as u8,
-        (total % 256) as u8,
+        high,
+        low,
         t.version,
         t.states,
         t.variables,
@@ -281,38 +218,28 @@ fn head_bytes(t: TableParts, end: usize) -> [u8; 8]
     ]
 }
 
-fn after_length(end: usize) -> usize
-    ensures { result ≡ end - 2 }
-{
-    if end < 2 { 0 } else { end - 2 }
-}
-
 // What writing parts answers, from their bytes: a version 1 table has none for the devices.
-fn writable(t: TableParts, encoded: &[u8]) -> Reading
+#[tactic(auto, using(crate::proofs::Encoded::writable_by))]
+fn writable(t: TableParts, encoded: &[u8]) -> Result<(), Refusal>
     requires { encoded.now ≡ table_bytes t }
     ensures { result ≡ table_writable t }
 {
-    let scan = scan_with(encoded, &t.devices);
-    if !sound(scan) {
-        return scan;
-    }
+    scan_with(encoded, &t.devices)?;
     whole_answer(t)
 }
 
-pub fn write_table(t: TableParts, room: &mut [u8]) -> Writing
+#[tactic(auto, using(scan::proofs::Scans::counts_bound))]
+pub fn write_table(t: TableParts, room: &mut [u8]) -> Result<u64, Refusal>
     ensures writes { Writes (write_table t room.old) result room.new }
     ensures judges_devices { JudgesDevices t (table_bytes t) (writing_values result) }
 {
     if !is_version(1, TABLE_VERSIONS, t.version) {
-        return Writing::Unwritten(Refusal::TableVersion);
+        return Err(Refusal::TableVersion);
     }
-    let counts = counts_answer(t.states, t.variables, t.clocks, t.kinds, t.transitions);
-    if let Reading::Unsound(refusal) = counts {
-        return Writing::Unwritten(refusal);
-    }
+    counts_answer(t.states, t.variables, t.clocks, t.kinds, t.transitions)?;
     // made apart: a refusal leaves the room as it was
     let mut bytes = [0u8; MOST];
     let end = encode(t, &mut bytes);
-    let encoded = &bytes[0..end];
+    let encoded = &bytes[..end];
     put(writable(t, encoded), encoded, room)
 }

@@ -1,14 +1,15 @@
--- One step of `digits`, and how long numbers and rows are.
-use Prim.Native.Nat.{ℕ, zero, suc, ◌+◌, ◌-◌, ◌/◌, ◌%◌, ◌≤◌, ◌<◌}
+-- One step of `digits`, and how long numbers and lines are.
+use Prim.Native.Nat.{ℕ, zero, suc, ◌+◌, ◌-◌, ◌*◌, ◌/◌, ◌%◌, ◌≤◌, ◌<◌}
 use native.Mathlib.Nat.{not-suc-le-zero}
 use native.Mathlib.Omega.{arith}
-use mathlib.Core.Path.{◌≡◌, ap}
+use mathlib.Core.Path.{◌≡◌, refl, ap}
 use mathlib.Core.List.{List, [], ◌∷◌, ◌++◌}
 use mathlib.Core.Bool.{Bool, true, false}
 use lib.ListN.{length, length-append}
 use lib.Dec.{ltb}
 use borrow.Author.Tests.{lt-ltb, le-ltb}
 use Rattle.model.specs.Desk.{digits, spaced, newline, line, rejected_word, rejected_line}
+use Rattle.text.specs.Put.{numbered, line_of}
 
 pub digits_none : (fuel n : ℕ) → fuel ≡ 0 → digits fuel n ≡ []
 unfolding digits
@@ -39,19 +40,20 @@ digits-length (suc fuel) n = by (ltb n 10) (digits-length fuel (n / 10))
 pub spaced-length : (n : ℕ) → length (spaced n) ≤ 21
 spaced-length n = omega (arith, digits-length 20 n)
 
-pub numbers-length : (word : List ℕ) (a b : ℕ) → length (word ++ spaced a ++ spaced b) ≤ length word + 42
-numbers-length word a b =
-    omega (arith, length-append (word ++ spaced a) (spaced b), length-append word (spaced a), digits-length 20 a, digits-length 20 b)
+-- one more number behind a word and its numbers
+pub numbered-more : (word ns : List ℕ) (n : ℕ) → numbered word (ns ++ (n ∷ [])) ≡ numbered word ns ++ spaced n
+numbered-more word [] n = refl
+numbered-more word (m ∷ ns) n = numbered-more (word ++ spaced m) ns n
+
+numbered-length : (word ns : List ℕ) → length (numbered word ns) ≤ length word + 21 * length ns
+numbered-length word [] = omega arith
+numbered-length word (n ∷ ns) = omega (arith, numbered-length (word ++ spaced n) ns, length-append word (spaced n), spaced-length n)
+
+pub line_of-length : (word ns : List ℕ) → length (line_of word ns) ≤ length word + 21 * length ns + 1
+line_of-length word ns = omega (arith, length-append (numbered word ns) newline, numbered-length word ns)
 
 pub rejected-length : (cost instant early late : ℕ) → length (rejected_line cost instant early late) ≤ 93
-rejected-length cost instant early late =
-    let front : List ℕ = rejected_word ++ spaced cost ++ spaced instant in
-    omega (
-      arith,
-      length-append (front ++ spaced early ++ spaced late) newline,
-      numbers-length front early late,
-      numbers-length rejected_word cost instant,
-    )
+rejected-length cost instant early late = line_of-length rejected_word (cost ∷ instant ∷ early ∷ late ∷ [])
 
 pub line-length : (word : List ℕ) (a b : ℕ) → length (line word a b) ≤ length word + 43
-line-length word a b = omega (arith, length-append (word ++ spaced a ++ spaced b) newline, numbers-length word a b)
+line-length word a b = omega (arith, line_of-length word (a ∷ b ∷ []))

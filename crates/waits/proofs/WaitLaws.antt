@@ -5,15 +5,17 @@ use native.Mathlib.Nat.{pow-suc, not-suc-le-zero}
 use native.Mathlib.Decide.{dec_lt}
 use mathlib.Core.Path.{◌≡◌, refl, sym, ap, ap₂, fun_ext, ◌∙◌}
 use mathlib.Core.Bool.{Bool, true, false, cond, not, ◌&&◌, false≢true}
-use mathlib.Core.List.{List}
+use mathlib.Core.List.{List, [], ◌∷◌}
+use Rattle.std.specs.Prelude.{map}
+use Rattle.std.proofs.lemmas.List.Sums.{AllPass-from_list_all}
 use lib.ListN.{length, get_or}
 use lib.Dec.{leb, ltb, eqb}
-use lib.Bits.{bit_and, bit_or, and_step, or_add_and, and_le_l, and_le_r}
+use lib.Bits.{bit_and, and_step}
 use borrow.Author.Tests.{le-leb, lt-leb, lt-ltb, le-ltb, eqb-true, eqb-false}
 use Rattle.model.specs.Readiness.{waited}
 use Rattle.model.proofs.Basics.{leb_same}
-use Rattle.model.proofs.ReadinessLaws.{waited-there, waited-past}
-use Rattle.waits.specs.Waits.{bits_of, word_of, waits_of, rest, others, common, is_none}
+use Rattle.model.proofs.ReadinessLaws.{waited-there}
+use Rattle.waits.specs.Waits.{bits_of, word_of, waits_of, others, common, is_none}
 
 -- bits
 
@@ -71,7 +73,9 @@ unfolding bits_of
 first-bits zero zero h = refl
 first-bits zero (suc e) h = absurd (not-suc-le-zero h)
 first-bits (suc n) zero h = omega (arith, bits_agree n (λ j. ltb (suc j) 0) (λ j. false) (λ j l. le-ltb (suc j) 0 (omega arith)), none_bits n)
-first-bits (suc n) (suc e) h = rw (lt-ltb 0 (suc e) (omega arith)) (omega (arith, pow-suc 2 e, first-bits n e (omega arith), bits_agree n (λ j. ltb (suc j) (suc e)) (λ j. ltb j e) (λ j l. ltb_suc j e (dec_lt j e))))
+first-bits (suc n) (suc e) h =
+    rw (lt-ltb 0 (suc e) (omega arith))
+    (omega (arith, pow-suc 2 e, first-bits n e (omega arith), bits_agree n (λ j. ltb (suc j) (suc e)) (λ j. ltb j e) (λ j l. ltb_suc j e (dec_lt j e))))
 
 no_bits : (n : ℕ) (p : ℕ → Bool) → bits_of n p ≡ 0 → (j : ℕ) → j < n → p j ≡ false
 unfolding bits_of
@@ -92,17 +96,18 @@ some-bit (suc n) p h = by (p 0) refl (λ f. some-bit n (λ j. p (suc j)) f) h
     by true e later f = (0, e)
     by false e later f = let found = later (λ z. f (omega arith)) in (suc found.0, found.1)
 
-or_none : (a b : ℕ) → bit_or a b ≡ 0 → (a ≡ 0) × (b ≡ 0)
-or_none a b e = (omega (arith, or_add_and a b, and_le_r a b), omega (arith, or_add_and a b, and_le_l a b))
-
 -- words
 
+-- words that are the same behind every start
+same_words : (f g : ℕ → ℕ) → ((from : ℕ) → f from ≡ g from) → map f (0 ∷ 64 ∷ 128 ∷ 192 ∷ []) ≡ map g (0 ∷ 64 ∷ 128 ∷ 192 ∷ [])
+same_words f g h = ap (λ (f : ℕ → ℕ). map f (0 ∷ 64 ∷ 128 ∷ 192 ∷ [])) (fun_ext h)
+
 module _ (p : ℕ → Bool) where
-  word_rest : (from : ℕ) → word_of (λ d. not (p d)) from ≡ rest (word_of p from)
+  word_rest : (from : ℕ) → word_of (λ d. not (p d)) from ≡ 18446744073709551615 - word_of p from
   word_rest from = omega (arith, both_bits 64 (λ j. p (suc (from + j))))
 
   pub waits_not : waits_of (λ d. not (p d)) ≡ others (waits_of p)
-  waits_not = λ i. record { first = word_rest 0 i; second = word_rest 64 i; third = word_rest 128 i; fourth = word_rest 192 i }
+  waits_not = same_words _ (λ from. 18446744073709551615 - word_of p from) word_rest
 
   word_none : (from : ℕ) → word_of p from ≡ 0 → (d : ℕ) → from < d → d ≤ from + 64 → p d ≡ false
   word_none from e d h k =
@@ -115,53 +120,52 @@ module _ (p : ℕ → Bool) where
   -- no wait in an empty set passes
   pub none_waits : is_none (waits_of p) ≡ true → (d : ℕ) → 1 ≤ d → d ≤ 256 → p d ≡ false
   none_waits e d h k =
-      let (three, fourth) = or_none _ (word_of p 192) (eqb-true _ 0 e) in
-      let (two, third) = or_none _ (word_of p 128) three in
-      let (first, second) = or_none (word_of p 0) (word_of p 64) two in
-      by first second third fourth (dec_lt d 65) (dec_lt d 129) (dec_lt d 193)
+      let empty = AllPass-from_list_all (λ word. eqb word 0) (waits_of p) e in
+      by (λ i l. eqb-true _ 0 (empty i 0 l)) (dec_lt d 65) (dec_lt d 129) (dec_lt d 193)
     where
-      by : word_of p 0 ≡ 0 → word_of p 64 ≡ 0 → word_of p 128 ≡ 0 → word_of p 192 ≡ 0 → Dec (d < 65) → Dec (d < 129) → Dec (d < 193) → p d ≡ false
-      by first second third fourth (yes a) y z = word_none 0 first d (omega arith) (omega arith)
-      by first second third fourth (no a) (yes b) z = word_none 64 second d (omega arith) (omega arith)
-      by first second third fourth (no a) (no b) (yes c) = word_none 128 third d (omega arith) (omega arith)
-      by first second third fourth (no a) (no b) (no c) = word_none 192 fourth d (omega arith) (omega arith)
+      by : ((i : ℕ) → i < 4 → get_or (waits_of p) i 0 ≡ 0) → Dec (d < 65) → Dec (d < 129) → Dec (d < 193) → p d ≡ false
+      by empty (yes a) y z = word_none 0 (empty 0 (omega arith)) d (omega arith) (omega arith)
+      by empty (no a) (yes b) z = word_none 64 (empty 1 (omega arith)) d (omega arith) (omega arith)
+      by empty (no a) (no b) (yes c) = word_none 128 (empty 2 (omega arith)) d (omega arith) (omega arith)
+      by empty (no a) (no b) (no c) = word_none 192 (empty 3 (omega arith)) d (omega arith) (omega arith)
 
-  -- some wait of a set that is not empty does
-  pub some-wait : is_none (waits_of p) ≡ false → (d : ℕ) × (1 ≤ d) × (p d ≡ true)
-  some-wait e = by (eqb (word_of p 0) 0) refl (eqb (word_of p 64) 0) refl (eqb (word_of p 128) 0) refl (eqb (word_of p 192) 0) refl
+  -- some wait of words that are not all empty does
+  words-some : (starts : List ℕ) → is_none (map (word_of p) starts) ≡ false → (d : ℕ) × (1 ≤ d) × (p d ≡ true)
+  words-some [] e = absurd (false≢true (sym e))
+  words-some (from ∷ starts) e = by (eqb (word_of p from) 0) refl (words-some starts) e
     where
-      by : (a : Bool) → eqb (word_of p 0) 0 ≡ a → (b : Bool) → eqb (word_of p 64) 0 ≡ b → (c : Bool) → eqb (word_of p 128) 0 ≡ c → (z : Bool) → eqb (word_of p 192) 0 ≡ z
+      by : (b : Bool) → eqb (word_of p from) 0 ≡ b → (is_none (map (word_of p) starts) ≡ false → (d : ℕ) × (1 ≤ d) × (p d ≡ true)) → (b && is_none (map (word_of p) starts)) ≡ false
           → (d : ℕ) × (1 ≤ d) × (p d ≡ true)
-      by false f b g c h z i = word_some 0 (eqb-false (word_of p 0) 0 f)
-      by true f false g c h z i = word_some 64 (eqb-false (word_of p 64) 0 g)
-      by true f true g false h z i = word_some 128 (eqb-false (word_of p 128) 0 h)
-      by true f true g true h false i = word_some 192 (eqb-false (word_of p 192) 0 i)
-      by true f true g true h true i =
-          let none : is_none (waits_of p) ≡ true = rw (eqb-true (word_of p 0) 0 f, eqb-true (word_of p 64) 0 g, eqb-true (word_of p 128) 0 h, eqb-true (word_of p 192) 0 i) in
-          absurd (false≢true (sym e ∙ none))
+      by true f later e = later e
+      by false f later e = word_some from (eqb-false (word_of p from) 0 f)
+
+  pub some-wait : is_none (waits_of p) ≡ false → (d : ℕ) × (1 ≤ d) × (p d ≡ true)
+  some-wait e = words-some (0 ∷ 64 ∷ 128 ∷ 192 ∷ []) e
 
 pub waits_and : (p q : ℕ → Bool) → waits_of (λ d. p d && q d) ≡ common (waits_of p) (waits_of q)
-waits_and p q = λ i. record { first = word 0 i; second = word 64 i; third = word 128 i; fourth = word 192 i }
-  where
-    word : (from : ℕ) → word_of (λ d. p d && q d) from ≡ bit_and (word_of p from) (word_of q from)
-    word from = sym (and_bits 64 (λ j. p (suc (from + j))) (λ j. q (suc (from + j))))
+waits_and p q =
+    same_words _ (λ from. bit_and (word_of p from) (word_of q from))
+    (λ from. sym (and_bits 64 (λ j. p (suc (from + j))) (λ j. q (suc (from + j)))))
 
-pub none_word : (from : ℕ) → word_of (λ d. false) from ≡ 0
+none_word : (from : ℕ) → word_of (λ d. false) from ≡ 0
 none_word from = none_bits 64
 
-pub all_word : (from : ℕ) → word_of (λ d. true) from ≡ 18446744073709551615
+all_word : (from : ℕ) → word_of (λ d. true) from ≡ 18446744073709551615
 all_word from = omega (arith, word_rest (λ d. false) from, none_word from)
+
+pub waits_none : 0 ∷ 0 ∷ 0 ∷ 0 ∷ [] ≡ waits_of (λ d. false)
+waits_none = same_words (λ from. 0) _ (λ from. sym (none_word from))
+
+pub waits_all : 18446744073709551615 ∷ 18446744073709551615 ∷ 18446744073709551615 ∷ 18446744073709551615 ∷ [] ≡ waits_of (λ d. true)
+waits_all = same_words (λ from. 18446744073709551615) _ (λ from. sym (all_word from))
 
 -- the waits up to last, word by word
 
 module _ (last from : ℕ) where
-  pub up_to_none : last ≤ from → word_of (λ d. leb d last) from ≡ 0
-  up_to_none h = bits_agree 64 (λ j. leb (suc (from + j)) last) (λ j. false) (λ j l. lt-leb (suc (from + j)) last (omega arith)) ∙ none_bits 64
-
   pub up_to_all : 64 + from ≤ last → word_of (λ d. leb d last) from ≡ 18446744073709551615
   up_to_all h = bits_agree 64 (λ j. leb (suc (from + j)) last) (λ j. true) (λ j l. le-leb (suc (from + j)) last (omega arith)) ∙ all_word from
 
-  pub up_to_some : (e : ℕ) → e ≤ 64 → last ≡ from + e → word_of (λ d. leb d last) from + 1 ≡ 2 ^ e
+  pub up_to_some : (e : ℕ) → e ≤ 64 → last - from ≡ e → word_of (λ d. leb d last) from + 1 ≡ 2 ^ e
   up_to_some e h q =
       ap (λ (x : ℕ). x + 1) (bits_agree 64 (λ j. leb (suc (from + j)) last) (λ j. ltb j e) (λ j l. by j (dec_lt j e))) ∙ first-bits 64 e h
     where
@@ -178,29 +182,24 @@ module _ (c : List ℕ) (n t : ℕ) where
   abbrev most : ℕ → Bool
   most d = leb (get_or (waited d c) n 0) t
 
-  pub absent_most : length c ≤ n → waits_of (λ d. true) ≡ waits_of most
-  absent_most h = same_waits (λ d. true) most (λ d. sym (le-leb (get_or (waited d c) n 0) t (omega (arith, waited-past c n d h))))
-
-  pub past-most : n < length c → t < get_or c n 0 → waits_of (λ d. false) ≡ waits_of most
-  past-most h k = same_waits (λ d. false) most (λ d. sym (lt-leb (get_or (waited d c) n 0) t (omega (arith, waited-there c n d h))))
-
-  pub still-most : n < length c → get_or c n 0 ≤ t → waits_of (λ d. leb d (t - get_or c n 0)) ≡ waits_of most
-  still-most h k =
-      same_waits (λ d. leb d (t - get_or c n 0)) most
-      (λ d. leb_same d (t - get_or c n 0) (get_or (waited d c) n 0) t (λ l. omega (arith, waited-there c n d h)) (λ l. omega (arith, waited-there c n d h)))
-
   abbrev least : ℕ → Bool
   least d = leb t (get_or (waited d c) n 0)
 
-  pub every_least : t ≡ 0 → waits_of (λ d. true) ≡ waits_of least
-  every_least e = same_waits (λ d. true) least (λ d. sym (le-leb t (get_or (waited d c) n 0) (omega arith)))
+module _ (c : List ℕ) (n t reads : ℕ) (there : n < length c) (e : reads ≡ get_or c n 0) where
+  pub past-most : t < reads → waits_of (λ d. false) ≡ waits_of (most c n t)
+  past-most h = same_waits (λ d. false) (most c n t) (λ d. sym (lt-leb (get_or (waited d c) n 0) t (omega (arith, waited-there c n d there))))
+
+  pub still-most : (last : ℕ) → reads ≤ t → last ≡ t - reads → waits_of (λ d. leb d last) ≡ waits_of (most c n t)
+  still-most last h q =
+      same_waits (λ d. leb d last) (most c n t)
+      (λ d. leb_same d last (get_or (waited d c) n 0) t (λ l. omega (arith, waited-there c n d there)) (λ l. omega (arith, waited-there c n d there)))
 
 -- at least t is not at most t - 1
-pub least_most : (c : List ℕ) (n t : ℕ) → (t ≡ 0 → ⊥) → others (waits_of (most c n (t - 1))) ≡ waits_of (least c n t)
-least_most c n t h =
-    sym (waits_not (most c n (t - 1)))
-    ∙ same_waits (λ d. not (most c n (t - 1) d)) (least c n t) (λ d. by (get_or (waited d c) n 0) (dec_lt (get_or (waited d c) n 0) t))
+pub least_most : (c : List ℕ) (n t less : ℕ) → 1 ≤ t → less ≡ t - 1 → others (waits_of (most c n less)) ≡ waits_of (least c n t)
+least_most c n t less h e =
+    sym (waits_not (most c n less))
+    ∙ same_waits (λ d. not (most c n less d)) (least c n t) (λ d. by (get_or (waited d c) n 0) (dec_lt (get_or (waited d c) n 0) t))
   where
-    by : (x : ℕ) → Dec (x < t) → not (leb x (t - 1)) ≡ leb t x
-    by x (yes l) = ap not (le-leb x (t - 1) (omega arith)) ∙ sym (lt-leb t x l)
-    by x (no l) = ap not (lt-leb x (t - 1) (omega arith)) ∙ sym (le-leb t x (omega arith))
+    by : (x : ℕ) → Dec (x < t) → not (leb x less) ≡ leb t x
+    by x (yes l) = ap not (le-leb x less (omega arith)) ∙ sym (lt-leb t x l)
+    by x (no l) = ap not (lt-leb x less (omega arith)) ∙ sym (le-leb t x (omega arith))

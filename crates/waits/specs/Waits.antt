@@ -1,7 +1,6 @@
 -- Sets of waits as words of 64.
-use Rattle.std.specs.Prelude.{ℕ, zero, suc, ◌+◌, ◌-◌, ◌*◌, Bool, cond, eqb}
-use Rattle.std.specs.Int.Bits.{bit_and, bit_or}
-use Rattle.waits.specs.declared.Waits.{Waits}
+use Rattle.std.specs.Prelude.{ℕ, zero, suc, ◌+◌, ◌-◌, ◌*◌, List, [], ◌∷◌, get_or, map, bit_and, Bool, cond, ◌==◌}
+use Rattle.std.specs.List.{list_all}
 
 -- the number whose bit j says whether j passes, for the numbers below n
 unfoldable pub bits_of : ℕ → (ℕ → Bool) → ℕ
@@ -12,24 +11,15 @@ bits_of (suc n) p = cond (p 0) 1 0 + 2 * bits_of n (λ j. p (suc j))
 abbrev pub word_of : (ℕ → Bool) → ℕ → ℕ
 word_of p from = bits_of 64 (λ j. p (suc (from + j)))
 
--- the waits from 1 to 256 that pass
-abbrev pub waits_of : (ℕ → Bool) → Waits
-waits_of p = record { first = word_of p 0; second = word_of p 64; third = word_of p 128; fourth = word_of p 192 }
+-- the words of the waits from 1 to 256 that pass
+abbrev pub waits_of : (ℕ → Bool) → List ℕ
+waits_of p = map (word_of p) (0 ∷ 64 ∷ 128 ∷ 192 ∷ [])
 
-abbrev pub rest : ℕ → ℕ
-rest word = 18446744073709551615 - word
+abbrev pub others : List ℕ → List ℕ
+others w = map (λ word. 18446744073709551615 - word) w
 
-abbrev pub others : Waits → Waits
-others w = record { first = rest w.first; second = rest w.second; third = rest w.third; fourth = rest w.fourth }
+abbrev pub common : List ℕ → List ℕ → List ℕ
+common a b = map (λ i. bit_and (get_or a i 0) (get_or b i 0)) (0 ∷ 1 ∷ 2 ∷ 3 ∷ [])
 
-abbrev pub common : Waits → Waits → Waits
-common a b =
-    record {
-      first = bit_and a.first b.first;
-      second = bit_and a.second b.second;
-      third = bit_and a.third b.third;
-      fourth = bit_and a.fourth b.fourth;
-    }
-
-abbrev pub is_none : Waits → Bool
-is_none w = eqb (bit_or (bit_or (bit_or w.first w.second) w.third) w.fourth) 0
+abbrev pub is_none : List ℕ → Bool
+is_none w = list_all (λ word. word == 0) w

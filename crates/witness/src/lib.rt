@@ -2,20 +2,22 @@
 
 #![tactic(auto)]
 
-ghost use Rattle.std.specs.Prelude.{◌<◌, ◌≡◌};
-ghost use Rattle.std.proofs.Math.Option.{none};
+ghost use Rattle.std.specs.Prelude.{◌<◌, ◌≡◌, ℕ, None};
+ghost use Rattle.model.specs.Answers.{Writes};
 ghost use Rattle.model.specs.Bytes.{tab};
-ghost use Rattle.model.specs.Witness.{in_form, in_place, misformed, bad_row, witness_count_at, row_at, witness_frame, witness_answer, row_bytes};
-ghost use Rattle.witness.specs.Rows.{row_of, before_of};
+ghost use Rattle.model.specs.Room.{write};
+ghost use Rattle.model.specs.Witness.{Row, in_form, in_place, misformed, bad_row, witness_bytes, witness_count_at, row_at, witness_frame, witness_answer, row_bytes};
+ghost use Rattle.witness.specs.Rows.{row_of, before_of, GivesRows};
 
 use editions::{count_place, latest_time, most_rows, rows_place, size_at, size_width};
-use frame::{rows_framed, sound};
-use model::{ADDED, Edition, NO_TRANSITION, REMOVED, Reading, Refusal};
-use wire::{byte, word};
+use frame::{put_frame, rows_framed};
+use model::{ADDED, Edition, NO_TRANSITION, REMOVED, Refusal};
+use wire::{byte, place, word};
 
 // A row of a witness.
-#[derive(Clone, Copy)]
+#[derive(Clone, Copy, Debug, PartialEq, Eq)]
 pub struct Entry {
+    // any byte can stand here, in bytes and in parts, and the checker and the writer answer on each
     pub mark: u8,
     pub time: u16,
     pub kind: u8,
@@ -23,7 +25,8 @@ pub struct Entry {
 }
 
 // 40, 41 and 42.
-pub fn witness_frame(edition: Edition, b: &[u8]) -> Reading
+#[tactic(auto, unfolding(model::specs::Witness::witness_frame))]
+pub fn witness_frame(edition: Edition, b: &[u8]) -> Result<(), Refusal>
     ensures { result ≡ witness_frame edition b.now }
 {
     let limit = most_rows(edition);
@@ -48,6 +51,7 @@ pub fn count_at(edition: Edition, b: &[u8]) -> u32
     size_at(edition, b, count_place(edition))
 }
 
+#[tactic(auto, unfolding(model::specs::Witness::row_at))]
 pub fn row_at(edition: Edition, b: &[u8], i: u32) -> Entry
     ensures { row_of result ≡ row_at edition b.now i }
 {
@@ -61,86 +65,75 @@ pub fn row_at(edition: Edition, b: &[u8], i: u32) -> Entry
 }
 
 // A row by itself.
+#[tactic(auto, unfolding(model::specs::Witness::in_form))]
 fn in_form(edition: Edition, e: Entry) -> bool
     ensures { result ≡ in_form edition (row_of e) }
 {
-    if ADDED < e.mark {
-        return false;
-    }
-    if e.time < 1 {
-        return false;
-    }
-    if latest_time(edition) < e.time {
-        return false;
-    }
-    if e.mark != REMOVED {
-        return true;
-    }
-    e.transition == NO_TRANSITION
+    e.mark <= ADDED
+        && (1..=latest_time(edition)).contains(&e.time)
+        && (e.mark != REMOVED || e.transition == NO_TRANSITION)
 }
 
-// A row by itself and behind the row before it, if there is one: one of time 0 is none. Times rise strictly.
-pub fn in_place(edition: Edition, before: Entry, e: Entry) -> bool
+// A row by itself and behind the row before it, if there is one. Times rise strictly.
+pub fn in_place(edition: Edition, before: Option<Entry>, e: Entry) -> bool
     ensures { result ≡ in_place edition (before_of before) (row_of e) }
 {
-    if !in_form(edition, e) {
-        return false;
-    }
-    if before.time == 0 {
-        return true;
-    }
-    before.time < e.time
+    in_form(edition, e) && before.is_none_or(|p| p.time < e.time)
 }
 
-// No row: what stands before the first one.
-pub fn no_row() -> Entry
-    ensures { before_of result ≡ none }
+// 43 for the first of so many rows that breaks the form.
+pub fn rows_answer<F: Fn(u32) -> Entry>(edition: Edition, count: u32, row: F) -> Result<(), Refusal>
+    requires { F.IsAlwaysCallable row }
+    ensures { (rows : ℕ → Row) → GivesRows (F.post row) count rows → result ≡ bad_row (misformed edition None 0 (tab rows count)) }
 {
-    Entry {
-        mark: 0,
-        time: 0,
-        kind: 0,
-        transition: 0,
-    }
-}
-
-// 43 for the first row that breaks the form.
-fn rows_answer(edition: Edition, b: &[u8], count: u32) -> Reading
-    ensures { result ≡ bad_row (misformed edition none 0 (tab (row_at edition b.now) count)) }
-{
-    let mut before = no_row();
-    let mut i = 0;
-    while i < count {
-        let row = row_at(edition, b, i);
-        if !in_place(edition, before, row) {
-            return Reading::Unsound(Refusal::WitnessRow { row: i as u64 });
+    let mut before = None;
+    for i in 0..count {
+        let e = row(i);
+        if !in_place(edition, before, e) {
+            return Err(Refusal::WitnessRow { row: i as u64 });
         }
-        before = row;
-        i += 1;
+        before = Some(e);
     }
-    Reading::Sound
+    Ok(())
 }
 
 // The form alone, 40 to 43: tests every row and fills no array.
-pub fn witness_answer(edition: Edition, b: &[u8]) -> Reading
+#[tactic(auto, unfolding(model::specs::Witness::witness_answer))]
+pub fn witness_answer(edition: Edition, b: &[u8]) -> Result<(), Refusal>
     ensures { result ≡ witness_answer edition b.now }
 {
-    let frame = witness_frame(edition, b);
-    if sound(frame) {
-        return rows_answer(edition, b, count_at(edition, b));
-    }
-    frame
+    witness_frame(edition, b)?;
+    rows_answer(edition, count_at(edition, b), |i| row_at(edition, b, i))
 }
 
 // A row's five bytes.
 pub fn row_bytes(e: Entry) -> [u8; 5]
     ensures { result ≡ row_bytes (row_of e) }
 {
-    [
-        e.mark,
-        (e.time / 256) as u8,
-        (e.time % 256) as u8,
-        e.kind,
-        e.transition,
-    ]
+    let [high, low] = e.time.to_be_bytes();
+    [e.mark, high, low, e.kind, e.transition]
+}
+
+// Writes so many rows at their places behind their frame.
+pub fn write_rows<F: Fn(u32) -> Entry>(
+    edition: Edition,
+    count: u32,
+    row: F,
+    room: &mut [u8],
+) -> Result<u64, Refusal>
+    requires { F.IsAlwaysCallable row }
+    ensures { (rows : ℕ → Row) → GivesRows (F.post row) count rows → Writes (write (Ok tt) (witness_bytes edition (tab rows count)) room.old) result room.new }
+{
+    let start = rows_place(edition);
+    let wanted = start + 5 * count as usize;
+    if room.len() < wanted {
+        return Err(Refusal::WriteRoom {
+            wanted: wanted as u64,
+        });
+    }
+    put_frame(edition, 5, count, room);
+    for i in 0..count {
+        place(&row_bytes(row(i)), room, start + 5 * i as usize);
+    }
+    Ok(wanted as u64)
 }

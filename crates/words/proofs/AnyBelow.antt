@@ -1,7 +1,7 @@
 -- Is any number in a set? Assumes nothing.
 use mathlib.Core.Path.{◌≡◌, refl, sym, ap, ap₂, ◌∙◌}
 use mathlib.Core.Bool.{Bool, true, false, not, ◌||◌, or-false, or-true, or_assoc}
-use mathlib.Core.List.{List}
+use mathlib.Core.List.{List, [], ◌∷◌}
 use Prim.Native.Nat.{ℕ, zero, suc, ◌+◌, ◌-◌, ◌*◌, ◌/◌, ◌%◌, ◌^◌, ◌≤◌, ◌<◌, min}
 use native.Mathlib.Decide.{ℕ_discrete}
 use native.Mathlib.Nat.{add-zero, add-suc, le_refl, pow-suc, div-one}
@@ -9,12 +9,15 @@ use native.Mathlib.Omega.{arith}
 use borrow.Author.Tests.{lt-ltb, le-ltb, eq-eqb, ne_eqb}
 use lib.Dec.{eqb}
 use lib.Arith.{lt-one}
-use lib.Bits.{bit_or, or_add_and, and_le_l, and_le_r}
-use lib.ListN.{length, get_or}
+use lib.Bits.{bit_or, or_zero_l, or_add_and, and_le_r}
+use lib.ListN.{length, get_or, take, drop, length-drop}
+use Rattle.std.proofs.lemmas.List.{take-append-drop, drop-drop, length-take-le, get_or-drop, get_or-take}
+use Rattle.std.proofs.lemmas.List.Folds.{list_any-append}
+use Rattle.std.specs.List.{fold, list_any}
+use Rattle.std.specs.Simd.{first_chunks}
 use Rattle.words.specs.Words.{bit, mem, Bits, any_below}
 use Rattle.words.proofs.Bit.{bit_shr}
-use Rattle.words.proofs.Sets.{mem-past}
-use Rattle.words.proofs.Parts.{whole-bits}
+use Rattle.words.proofs.Sets.{mem_at, mem-past}
 
 pub any_same : (p q : ℕ → Bool) (n : ℕ) → ((k : ℕ) → k < n → p k ≡ q k) → any_below p n ≡ any_below q n
 unfolding any_below
@@ -60,59 +63,75 @@ any_word w p x h small b =
     ∙ ap₂ (λ (s t : Bool). s || t) (any_same (bit x) p w (λ j l. b.bits j ∙ simp (lt-ltb j w l))) (any_none (λ j. false) (64 - w) (λ j l. refl))
     ∙ or-false (any_below p w))
 
--- words from word k on, up to word j
-module _ (s : List ℕ) (k n j : ℕ) (h : k ≤ j) where
-  abbrev up_to : ℕ → Bool
-  up_to m = any_below (λ i. mem s (64 * k + i)) (64 * m)
+-- is some word not 0?
+abbrev pub some_word : List ℕ → Bool
+some_word s = list_any (λ x. not (eqb x 0)) s
 
-  here : get_or s j 0 < 2 ^ 64 → up_to (j + 1 - k) ≡ (up_to (j - k) || not (eqb (get_or s j 0) 0))
-  here small =
-      any_parts (λ i. mem s (64 * k + i)) (λ i. mem s (64 * j + i)) (64 * (j - k)) 64 (64 * (j + 1 - k)) (omega arith) (λ i l. ap (mem s) (omega arith))
-      ∙ ap (λ (b : Bool). up_to (j - k) || b) (any_word 64 (λ i. mem s (64 * j + i)) (get_or s j 0) (omega arith) small (whole-bits s j small))
+pub any_some : (s : List ℕ) → ((k : ℕ) → get_or s k 0 < 2 ^ 64) → some_word s ≡ any_below (mem s) (64 * length s)
+any_some [] small = sym (any_none (mem []) 0 (λ k l. absurd (omega arith)))
+any_some (x ∷ s) small =
+    sym (any_parts (mem (x ∷ s)) (mem s) 64 (64 * length s) (64 * length (x ∷ s)) (omega arith) next
+    ∙ ap₂ (λ (a b : Bool). a || b) (any_same (mem (x ∷ s)) (bit x) 64 (λ i l. mem_at (x ∷ s) i 0 i (omega arith) l) ∙ any_bits 64 x (small 0))
+    (sym (any_some s (λ k. small (suc k)))))
+  where
+    next : (i : ℕ) → i < 64 * length s → mem (x ∷ s) (64 + i) ≡ mem s i
+    next i l = mem_at (x ∷ s) (64 + i) (suc (i / 64)) (i % 64) (omega arith) (omega arith) ∙ sym (mem_at s i (i / 64) (i % 64) (omega arith) (omega arith))
 
-  pub any_next : get_or s j 0 < 2 ^ 64 → get_or s j 0 ≡ 0 → up_to (j - k) ≡ false → up_to (j + 1 - k) ≡ false
-  any_next small e f = here small ∙ simp (eq-eqb (get_or s j 0) 0 e, f)
+-- words as one: it is 0 where all are
+or_some : (a x : ℕ) → Dec (a ≡ 0) → not (eqb (bit_or a x) 0) ≡ (not (eqb a 0) || not (eqb x 0))
+or_some a x (yes e) = simp (eq-eqb a 0 e, ap (λ (y : ℕ). bit_or y x) e ∙ or_zero_l x)
+or_some a x (no d) = simp (ne_eqb a 0 d, ne_eqb (bit_or a x) 0 (λ q. d (omega (arith, or_add_and a x, and_le_r a x))))
 
-  pub any_hit : get_or s j 0 < 2 ^ 64 → (get_or s j 0 ≡ 0 → ⊥) → j < k + n → up_to n ≡ true
-  any_hit small e l =
-      any_parts (λ i. mem s (64 * k + i)) (λ i. mem s (64 * (j + 1) + i)) (64 * (j + 1 - k)) (64 * (n - (j + 1 - k))) (64 * n) (omega arith) (λ i q. ap (mem s) (omega arith))
-      ∙ ap (λ (b : Bool). b || any_below (λ i. mem s (64 * (j + 1) + i)) (64 * (n - (j + 1 - k)))) (here small)
-      ∙ simp (ne_eqb (get_or s j 0) 0 e, or-true)
+fold_some : (a : ℕ) (s : List ℕ) → not (eqb (fold bit_or a s) 0) ≡ (not (eqb a 0) || some_word s)
+fold_some a [] = sym (or-false (not (eqb a 0)))
+fold_some a (x ∷ s) =
+    fold_some (bit_or a x) s
+    ∙ ap (λ (b : Bool). b || some_word s) (or_some a x (ℕ_discrete a 0))
+    ∙ or_assoc (not (eqb a 0)) (not (eqb x 0)) (some_word s)
 
-  pub any_end : j ≤ k + n → min (k + n) (length s) ≤ j → up_to (j - k) ≡ false → up_to n ≡ false
-  any_end l m f =
-      any_parts (λ i. mem s (64 * k + i)) (λ i. false) (64 * (j - k)) (64 * (n - (j - k))) (64 * n) (omega arith)
-      (λ i q. mem-past s (64 * k + (64 * (j - k) + i)) (omega arith))
-      ∙ ap₂ (λ (a b : Bool). a || b) f (any_none (λ i. false) (64 * (n - (j - k))) (λ i q. refl))
+-- is some eight, as one, not 0?
+abbrev pub some_eight : List (List ℕ) → Bool
+some_eight es = list_any (λ e. not (eqb (fold bit_or 0 e) 0)) es
 
--- eight words that are all 0
-or_none : (a b : ℕ) → bit_or a b ≡ 0 → (a ≡ 0) × (b ≡ 0)
-or_none a b e = (omega (arith, or_add_and a b, and_le_r a b), omega (arith, or_add_and a b, and_le_l a b))
+eights_some : (n : ℕ) (s : List ℕ) → n * 8 ≤ length s → (some_eight (first_chunks 8 n s) || some_word (drop (n * 8) s)) ≡ some_word s
+eights_some zero s h = refl
+eights_some (suc n) s h =
+    let eight = some_word (take 8 s) in
+    let later = some_eight (first_chunks 8 n (drop 8 s)) in
+    let left : drop (suc n * 8) s ≡ drop (n * 8) (drop 8 s) = ap (λ (m : ℕ). drop m s) (omega arith) ∙ sym (drop-drop (n * 8) 8 s) in
+    ap₂ (λ (a b : Bool). (a || later) || b) (fold_some 0 (take 8 s)) (ap some_word left)
+    ∙ or_assoc eight later (some_word (drop (n * 8) (drop 8 s)))
+    ∙ ap (λ (b : Bool). eight || b) (eights_some n (drop 8 s) (omega (arith, length-drop 8 s)))
+    ∙ sym (list_any-append (λ x. not (eqb x 0)) (take 8 s) (drop 8 s))
+    ∙ ap some_word (take-append-drop 8 s)
 
-module _ (s : List ℕ) (k j : ℕ) (h : k ≤ j) where
-  abbrev at : ℕ → ℕ
-  at d = get_or s (j + d) 0
+pub any_eights : (s : List ℕ) (es : List (List ℕ)) (r : List ℕ) → ((k : ℕ) → get_or s k 0 < 2 ^ 64) → es ≡ first_chunks 8 (length s / 8) s → r ≡ drop (length s / 8 * 8) s
+    → (some_eight es || some_word r) ≡ any_below (mem s) (64 * length s)
+any_eights s es r small e f =
+    ap₂ (λ (a b : Bool). a || b) (ap some_eight e) (ap some_word f) ∙ eights_some (length s / 8) s (omega arith) ∙ any_some s small
 
-  abbrev none : ℕ → Type 0
-  none d = any_below (λ i. mem s (64 * k + i)) (64 * (j + d - k)) ≡ false
+-- a part of what is behind a place; what it lacks of n words from word k on is past the end
+module _ (s rest : List ℕ) (k n at count : ℕ) (b : rest ≡ drop at s) (e : at ≡ min k (length s)) (f : count ≡ min n (length rest)) where
+  abbrev part : List ℕ
+  part = take count rest
 
-  over : (d x : ℕ) → x ≡ d + 1 → at d ≡ 0 → none d → none x
-  over d x q e f =
-      let z : j + x - k ≡ j + d + 1 - k = omega arith in
-      ap (λ (m : ℕ). any_below (λ i. mem s (64 * k + i)) (64 * m)) z ∙ any_next s k 0 (j + d) (omega arith) (omega (arith, e)) e f
+  long : length rest ≡ length s - at
+  long = ap length b ∙ length-drop at s
 
-  pub any_eight : bit_or (bit_or (bit_or (bit_or (get_or s j 0) (at 1)) (at 2)) (at 3)) (bit_or (bit_or (bit_or (at 4) (at 5)) (at 6)) (at 7)) ≡ 0
-      → any_below (λ i. mem s (64 * k + i)) (64 * (j - k)) ≡ false → none 8
-  any_eight e f =
-      let (e3, e7) = or_none _ _ e in
-      let (e2, z3) = or_none _ _ e3 in
-      let (e1, z2) = or_none _ _ e2 in
-      let (z0, z1) = or_none _ _ e1 in
-      let (e6, z7) = or_none _ _ e7 in
-      let (e5, z6) = or_none _ _ e6 in
-      let (z4, z5) = or_none _ _ e5 in
-      let four : none 4 = over 3 4 refl z3 (over 2 3 refl z2 (over 1 2 refl z1 (any_next s k 0 j h (omega (arith, z0)) z0 f))) in
-      over 7 8 refl z7 (over 6 7 refl z6 (over 5 6 refl z5 (over 4 5 refl z4 four)))
+  inside : (i : ℕ) → i < 64 * count → mem s (64 * k + i) ≡ mem part i
+  inside i l =
+      mem_at s (64 * k + i) (at + i / 64) (i % 64) (omega (arith, long)) (omega arith)
+      ∙ ap (λ (x : ℕ). bit x (i % 64)) (sym (get_or-take count rest (i / 64) 0 (omega arith) ∙ ap (λ (t : List ℕ). get_or t (i / 64) 0) b ∙ get_or-drop at s (i / 64) 0))
+      ∙ sym (mem_at part i (i / 64) (i % 64) (omega arith) (omega arith))
+
+  pub any_part : any_below (mem part) (64 * length part) ≡ any_below (λ i. mem s (64 * k + i)) (64 * n)
+  any_part =
+      ap (λ (m : ℕ). any_below (mem part) (64 * m)) (length-take-le count rest (omega arith))
+      ∙ sym
+      (any_parts (λ i. mem s (64 * k + i)) (λ i. false) (64 * count) (64 * (n - count)) (64 * n) (omega arith)
+      (λ i l. mem-past s (64 * k + (64 * count + i)) (omega (arith, long)))
+      ∙ ap₂ (λ (x y : Bool). x || y) (any_same (λ i. mem s (64 * k + i)) (mem part) (64 * count) inside) (any_none (λ i. false) (64 * (n - count)) (λ i l. refl))
+      ∙ or-false (any_below (mem part) (64 * count)))
 
 -- three pieces of a range
 pub any_three : (s : List ℕ) (at h n m len a b : ℕ) → h + (n + m) ≡ len → a ≡ at + h → b ≡ at + h + n

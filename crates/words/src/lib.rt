@@ -13,7 +13,7 @@ pub use whole::{any, any_words, clear, complement, copy, equal, keep_common};
 pub fn word(a: &[u64], k: usize) -> u64
     ensures { (result ≡ get_or a.now k 0) × (result < 2 ^ 64) }
 {
-    if k < a.len() { a[k] } else { 0 }
+    a.get(k).copied().unwrap_or(0)
 }
 
 // The 64 bits from bit at on.
@@ -28,8 +28,9 @@ pub fn word_at(a: &[u64], at: usize) -> u64
 fn or_word(a: &mut [u64], k: usize, x: u64)
     ensures { Joined (λ i. eqb (i / 64) k && bit x (i % 64)) a.old a.new }
 {
+    // By index: the library does not say what a slice ends as after get_mut.
     if k < a.len() {
-        a[k] = a[k] | x;
+        a[k] |= x;
     }
 }
 
@@ -47,12 +48,12 @@ pub fn or_at(a: &mut [u64], at: usize, x: u64)
 pub fn lesser(a: usize, b: usize) -> usize
     ensures { result ≡ min a b }
 {
-    if a < b { a } else { b }
+    a.min(b)
 }
 
 // How many of n are past the first k.
 pub fn past(n: usize, k: usize) -> usize
     ensures { result ≡ n - k }
 {
-    if k < n { n - k } else { 0 }
+    n.saturating_sub(k)
 }

@@ -1,7 +1,6 @@
 -- `forward::emptied` meets its contract: the product fits, and the rest is one law.
 use native.Mathlib.Omega.{arith}
 use borrow.Author.Rules.{rules}
-use Rattle.situation.specs.Rows.{heard_of}
 use Rattle.measures.proofs.Rows.{product}
 use Rattle.forward.proofs.EmptiedPairs.{emptied_pairs}
 use Rattle.forward.proofs.emptied.Statement.{statement}
@@ -26,7 +25,7 @@ returns : tie.Need-returns
 returns c =
     let heard = c.before.before in
     let args = heard.before.before.before.before.before.before.args in
-    λ given. emptied_pairs given (heard_of heard.heard_at-heard.result) heard.heard_at-heard.ensures args.cost c.count_pairs-pairs.result c.count_pairs-pairs.ensures
+    λ given. emptied_pairs given (heard.heard_at-heard.result) heard.heard_at-heard.ensures args.cost c.count_pairs-pairs.result c.count_pairs-pairs.ensures
 
 pub emptied_spec : {M : Type 1} → statement M
 emptied_spec =

@@ -57,9 +57,9 @@ returns-3 c =
     let (e, long, given, sized, next, row) = known.before.before.before.before.before.before.before.before.before.before.before.before.before.requires in
     let came = through _ _ _ _ _ _ _ _ _ e _ known.in-Passed.is in
     let done = pruned.prune.ensures in
-    let rows = done.7 e.setting given long came.layers sized next row in
+    let rows = done.1 e.setting given long came.layers sized next row in
     let (count, written) = walked.walk-rows.ensures.1 (record { setting = e.setting; triggers = e.triggers; pruned = rows }) came.left e.roomy in
-    passed _ _ _ _ _ _ _ _ _ e _ known.in-Passed.is _ _ _ done.0 count written
+    passed _ _ _ _ _ _ _ _ _ e _ known.in-Passed.is _ _ _ done.0.0 count written
 
 pub conclude_spec : {M : Type 1} → statement M
 conclude_spec =

@@ -129,8 +129,8 @@ unset-requires c κs =
       omega (arith, second.before.before.before.before.before.before.before.before.before.before.before.before.before.before.before.before.before.second_clock-second.ensures.1, fit.second),
     )
 
-lead-requires : tie.Need-lead-requires
-lead-requires c κs =
+moves-requires : tie.Need-moves-requires
+moves-requires c κs =
     let fit = passed c.before.before.before.before.before.before.before.before.before.before.before.before.before.before.before.before.before.before.before.before.before.before.before.before.before.before.before.before.before.before.before.before.is_sized.result (ap not c.before.before.before.before.before.before.before.before.before.before.before.before.before.before.before.before.before.before.before.before.before.before.before.before.before.before.before.before.before.before.before.if-not-is_sized.false) c.before.before.before.before.before.before.before.before.before.before.before.before.before.before.before.before.before.before.before.before.before.before.before.before.before.before.before.before.before.before.before.before.is_sized.ensures.0 in
     omega arith
 
@@ -165,7 +165,7 @@ returns-2 c =
     let fit = passed {A = Lengths (length a.row.now) a.size (length a.marks.now) (length a.sets.now) (length a.one.now) (length a.two.now) a.h} sized.before.before.before.before.before.before.before.before.before.before.before.before.before.before.before.before.before.before.before.before.before.before.before.before.before.before.before.before.before.before.before.before.before.before.before.before.before.before.before.is_sized.result (ap not first.before.before.before.before.before.before.before.before.before.before.before.before.before.before.before.before.before.before.before.before.before.before.before.before.before.before.before.before.before.before.before.before.before.before.before.before.before.before.if-not-is_sized.false) sized.before.before.before.before.before.before.before.before.before.before.before.before.before.before.before.before.before.before.before.before.before.before.before.before.before.before.before.before.before.before.before.before.before.before.before.before.before.before.before.is_sized.ensures.0 in (
       keep.before.before.keep_common.ensures.size,
       unset.before.before.before.before.before.before.before.before.before.before.before.before.before.before.unset.ensures.0.long ∙ untick.before.before.before.before.before.before.before.before.before.before.before.before.before.before.before.before.before.before.before.before.before.before.before.before.untick.ensures.2.size,
-      lead.before.before.before.before.before.before.lead.ensures.size ∙ unset.before.before.before.before.before.before.before.before.before.before.before.before.before.before.unset.ensures.1 ∙ untick.before.before.before.before.before.before.before.before.before.before.before.before.before.before.before.before.before.before.before.before.before.before.before.before.untick.ensures.0.size,
+      lead.before.before.before.before.before.before.moves.ensures.size ∙ unset.before.before.before.before.before.before.before.before.before.before.before.before.before.before.unset.ensures.1 ∙ untick.before.before.before.before.before.before.before.before.before.before.before.before.before.before.before.before.before.before.before.before.before.before.before.before.untick.ensures.0.size,
       unset.before.before.before.before.before.before.before.before.before.before.before.before.before.before.unset.ensures.2 ∙ untick.before.before.before.before.before.before.before.before.before.before.before.before.before.before.before.before.before.before.before.before.before.before.before.before.untick.ensures.1.size,
       λ m n given within sized.
           retreated a.table.now a.offsets.now a.h a.size (length a.row.now) a.marks.now a.planes.now a.heard
@@ -173,9 +173,9 @@ returns-2 c =
           first.before.before.before.before.before.before.before.before.before.before.before.before.before.before.before.before.before.before.before.before.before.before.before.before.before.before.before.before.before.before.before.before.before.first_clock-first.result.weight first.before.before.before.before.before.before.before.before.before.before.before.before.before.before.before.before.before.before.before.before.before.before.before.before.before.before.before.before.before.before.before.before.before.first_clock-first.result.values second.before.before.before.before.before.before.before.before.before.before.before.before.before.before.before.before.before.before.before.before.before.before.before.before.before.before.before.before.before.before.before.before.second_clock-second.result.weight second.before.before.before.before.before.before.before.before.before.before.before.before.before.before.before.before.before.before.before.before.before.before.before.before.before.before.before.before.before.before.before.before.second_clock-second.result.values
           first.before.before.before.before.before.before.before.before.before.before.before.before.before.before.before.before.before.before.before.before.before.before.before.before.before.before.before.before.before.before.before.before.before.first_clock-first.ensures.0 first.before.before.before.before.before.before.before.before.before.before.before.before.before.before.before.before.before.before.before.before.before.before.before.before.before.before.before.before.before.before.before.before.before.first_clock-first.ensures.1 second.before.before.before.before.before.before.before.before.before.before.before.before.before.before.before.before.before.before.before.before.before.before.before.before.before.before.before.before.before.before.before.before.second_clock-second.ensures.0 second.before.before.before.before.before.before.before.before.before.before.before.before.before.before.before.before.before.before.before.before.before.before.before.before.before.before.before.before.before.before.before.before.second_clock-second.ensures.1
           a.one.now a.two.now a.sets.now untick.before.before.before.before.before.before.before.before.before.before.before.before.before.before.before.before.before.before.before.before.before.before.before.before.untick.new.one untick.before.before.before.before.before.before.before.before.before.before.before.before.before.before.before.before.before.before.before.before.before.before.before.before.untick.new.two untick.before.before.before.before.before.before.before.before.before.before.before.before.before.before.before.before.before.before.before.before.before.before.before.before.untick.new.sets
-          unset.before.before.before.before.before.before.before.before.before.before.before.before.before.before.unset.new.sets unset.before.before.before.before.before.before.before.before.before.before.before.before.before.before.unset.new.one lead.before.before.before.before.before.before.lead.new.out keep.before.before.keep_common.new.a
+          unset.before.before.before.before.before.before.before.before.before.before.before.before.before.before.unset.new.sets unset.before.before.before.before.before.before.before.before.before.before.before.before.before.before.unset.new.one lead.before.before.before.before.before.before.moves.new.out keep.before.before.keep_common.new.a
           fit.sets fit.single fit.spare (unset.before.before.before.before.before.before.before.before.before.before.before.before.before.before.unset.ensures.1 ∙ untick.before.before.before.before.before.before.before.before.before.before.before.before.before.before.before.before.before.before.before.before.before.before.before.before.untick.ensures.0.size ∙ fit.single) refl
-          untick.before.before.before.before.before.before.before.before.before.before.before.before.before.before.before.before.before.before.before.before.before.before.before.before.untick.ensures.0 untick.before.before.before.before.before.before.before.before.before.before.before.before.before.before.before.before.before.before.before.before.before.before.before.before.untick.ensures.1 untick.before.before.before.before.before.before.before.before.before.before.before.before.before.before.before.before.before.before.before.before.before.before.before.before.untick.ensures.2 unset.before.before.before.before.before.before.before.before.before.before.before.before.before.before.unset.ensures.0 lead.before.before.before.before.before.before.lead.ensures keep.before.before.keep_common.ensures m n given within,
+          untick.before.before.before.before.before.before.before.before.before.before.before.before.before.before.before.before.before.before.before.before.before.before.before.before.untick.ensures.0 untick.before.before.before.before.before.before.before.before.before.before.before.before.before.before.before.before.before.before.before.before.before.before.before.before.untick.ensures.1 untick.before.before.before.before.before.before.before.before.before.before.before.before.before.before.before.before.before.before.before.before.before.before.before.before.untick.ensures.2 unset.before.before.before.before.before.before.before.before.before.before.before.before.before.before.unset.ensures.0 lead.before.before.before.before.before.before.moves.ensures keep.before.before.keep_common.ensures m n given within,
     )
 
 pub retreat_spec : {M : Type 1} → statement M
@@ -212,7 +212,7 @@ retreat_spec =
     cast-untick
     untick-requires
     unset-requires
-    lead-requires
+    moves-requires
     keep-common-requires
     same_length
     same-length-2

@@ -94,8 +94,8 @@ plan-of-requires c κs =
     let fit = passed c.before.before.before.before.before.before.is_sized.result (ap not c.before.before.before.before.before.if-not-is_sized.false) c.before.before.before.before.before.before.is_sized.ensures.0 in
     fit.few
 
-gather-requires : tie.Need-gather-requires
-gather-requires c κs =
+moves-requires : tie.Need-moves-requires
+moves-requires c κs =
     let fit = passed c.before.before.before.before.before.before.before.before.is_sized.result (ap not c.before.before.before.before.before.before.before.if-not-is_sized.false) c.before.before.before.before.before.before.before.before.is_sized.ensures.0 in
     omega arith
 
@@ -109,12 +109,12 @@ reset-all-requires : tie.Need-reset_all-requires
 reset-all-requires c κs =
     let second = c in
     let first = second in
-    let gather = first in
+    let moves = first in
     let a = c.before.before.before.before.before.before.before.before.before.before.before.before.before.before.before.before.before.before.before.before.before.before.before.before.before.args in
     let fit = passed {A = Lengths (length a.cur.now) a.size (length a.marks.now) (length a.acc.now) (length a.one.now) (length a.two.now) a.h} c.before.before.before.before.before.before.before.before.before.before.before.before.before.before.before.before.is_sized.result (ap not c.before.before.before.before.before.before.before.before.before.before.before.before.before.before.before.if-not-is_sized.false) c.before.before.before.before.before.before.before.before.before.before.before.before.before.before.before.before.is_sized.ensures.0 in (
       record {
         few = fit.few;
-        four = gather.before.before.before.before.before.before.before.gather.ensures.size ∙ fit.sets;
+        four = moves.before.before.before.before.before.before.before.moves.ensures.size ∙ fit.sets;
         first = fit.single;
         second = fit.spare;
       },
@@ -148,23 +148,23 @@ returns-2 c =
     let reset = tick in
     let second = reset in
     let first = second in
-    let gather = first in
-    let plan = gather in
+    let moves = first in
+    let plan = moves in
     let live = plan in
     let sized = live in
     let a = sized.before.before.before.before.before.before.before.before.before.before.before.before.before.before.before.before.before.before.before.before.before.before.before.before.before.before.before.before.before.before.before.before.before.before.before.before.before.before.before.before.args in
     let fit = passed {A = Lengths (length a.cur.now) a.size (length a.marks.now) (length a.acc.now) (length a.one.now) (length a.two.now) a.h} sized.before.before.before.before.before.before.before.before.before.before.before.before.before.before.before.before.before.before.before.before.before.before.before.before.before.before.before.before.before.before.before.is_sized.result (ap not live.before.before.before.before.before.before.before.before.before.before.before.before.before.before.before.before.before.before.before.before.before.before.before.before.before.before.before.before.before.before.if-not-is_sized.false) sized.before.before.before.before.before.before.before.before.before.before.before.before.before.before.before.before.before.before.before.before.before.before.before.before.before.before.before.before.before.before.before.is_sized.ensures.0 in (
       tick.before.before.before.before.tick.ensures.1.size,
-      reset.before.before.before.before.before.before.before.before.before.before.before.before.before.before.reset_all.ensures.0 ∙ gather.before.before.before.before.before.before.before.before.before.before.before.before.before.before.before.before.before.before.before.before.before.before.gather.ensures.size,
+      reset.before.before.before.before.before.before.before.before.before.before.before.before.before.before.reset_all.ensures.0 ∙ moves.before.before.before.before.before.before.before.before.before.before.before.before.before.before.before.before.before.before.before.before.before.before.moves.ensures.size,
       tick.before.before.before.before.tick.ensures.0.size ∙ reset.before.before.before.before.before.before.before.before.before.before.before.before.before.before.reset_all.ensures.2,
       reset.before.before.before.before.before.before.before.before.before.before.before.before.before.before.reset_all.ensures.3,
       λ m n given within sized.
           advanced a.table.now a.offsets.now a.h a.size (length a.cur.now) a.marks.now a.planes.now a.heard
           live.before.before.before.before.before.before.before.before.before.before.before.before.before.before.before.before.before.before.before.before.before.before.before.before.before.live_states-live.result plan.before.before.before.before.before.before.before.before.before.before.before.before.before.before.before.before.before.before.before.before.before.before.before.before.plan_of-p.result plan.before.before.before.before.before.before.before.before.before.before.before.before.before.before.before.before.before.before.before.before.before.before.before.before.plan_of-p.ensures a.cur.now live.before.before.before.before.before.before.before.before.before.before.before.before.before.before.before.before.before.before.before.before.before.before.before.before.before.live_states-live.ensures
           first.before.before.before.before.before.before.before.before.before.before.before.before.before.before.before.before.before.before.before.first_clock-first.result.values second.before.before.before.before.before.before.before.before.before.before.before.before.before.before.before.before.before.before.second_clock-second.result.values first.before.before.before.before.before.before.before.before.before.before.before.before.before.before.before.before.before.before.before.first_clock-first.ensures.1 second.before.before.before.before.before.before.before.before.before.before.before.before.before.before.before.before.before.before.second_clock-second.ensures.1
-          a.acc.now gather.before.before.before.before.before.before.before.before.before.before.before.before.before.before.before.before.before.before.before.before.before.before.gather.new.acc reset.before.before.before.before.before.before.before.before.before.before.before.before.before.before.reset_all.new.b reset.before.before.before.before.before.before.before.before.before.before.before.before.before.before.reset_all.new.one tick.before.before.before.before.tick.new.one tick.before.before.before.before.tick.new.cur
+          a.acc.now moves.before.before.before.before.before.before.before.before.before.before.before.before.before.before.before.before.before.before.before.before.before.before.moves.new.out reset.before.before.before.before.before.before.before.before.before.before.before.before.before.before.reset_all.new.b reset.before.before.before.before.before.before.before.before.before.before.before.before.before.before.reset_all.new.one tick.before.before.before.before.tick.new.one tick.before.before.before.before.tick.new.cur
           fit.sets (reset.before.before.before.before.before.before.before.before.before.before.before.before.before.before.reset_all.ensures.2 ∙ fit.single) refl
-          gather.before.before.before.before.before.before.before.before.before.before.before.before.before.before.before.before.before.before.before.before.before.before.gather.ensures reset.before.before.before.before.before.before.before.before.before.before.before.before.before.before.reset_all.ensures.1 tick.before.before.before.before.tick.ensures.0 tick.before.before.before.before.tick.ensures.1 m n given within,
+          moves.before.before.before.before.before.before.before.before.before.before.before.before.before.before.before.before.before.before.before.before.before.before.moves.ensures reset.before.before.before.before.before.before.before.before.before.before.before.before.before.before.reset_all.ensures.1 tick.before.before.before.before.tick.ensures.0 tick.before.before.before.before.tick.ensures.1 m n given within,
     )
 
 pub advance_spec : {M : Type 1} → statement M
@@ -195,7 +195,7 @@ advance_spec =
     part-high-second-end
     live-states-requires
     plan-of-requires
-    gather-requires
+    moves-requires
     first-clock-requires
     second-clock-requires
     reset-all-requires

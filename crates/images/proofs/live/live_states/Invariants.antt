@@ -1,4 +1,4 @@
-use Prim.Native.Nat.{ℕ, ◌-◌, ◌≤◌}
+use Prim.Native.Nat.{ℕ}
 use mathlib.Core.Path.{◌≡◌}
 use mathlib.Core.Bool.{◌&&◌}
 use lib.Dec.{ltb}
@@ -7,7 +7,4 @@ use Rattle.images.specs.Living.{is_live}
 use Rattle.images.proofs.live.live_states.Given as goal
 
 abbrev pub invariant-loop-state : goal.invariant-loop-state
-invariant-loop-state l = (l.state ≤ l.h.states) × (l.state ≤ 64) × ((q : ℕ) → bit l.live q ≡ (ltb q l.state && is_live l.h l.s q))
-
-abbrev pub decreases-loop-state : goal.decreases-loop-state
-decreases-loop-state l = l.h.states - l.state
+invariant-loop-state l = (q : ℕ) → bit l.live q ≡ (ltb q l.state && is_live l.h l.s q)
