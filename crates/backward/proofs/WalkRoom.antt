@@ -20,10 +20,14 @@ use Rattle.backward.specs.WalkRows.{RowsPut, Room}
 
 -- places in a room
 
-placed-length : (a : List ℕ) (at : ℕ) (room : List ℕ) → at + length a ≤ length room → length (placed a at room) ≡ length room
-placed-length a at room h =
-    ap length (placed-fits a at room h)
-    ∙ simp (length-append, length-take, length-drop) (omega arith)
+pub placed-length : (a : List ℕ) (at : ℕ) (room : List ℕ) → length (placed a at room) ≡ length room
+placed-length a at room = on (dec_lt (length room) (at + length a))
+  where
+    on : Dec (length room < at + length a) → length (placed a at room) ≡ length room
+    on (yes h) = ap length (placed_not a at room (omega arith))
+    on (no h) =
+        ap length (placed-fits a at room (omega arith))
+        ∙ simp (length-append, length-take, length-drop) (omega arith)
 
 placed_none_fits : (at : ℕ) (room : List ℕ) → at ≤ length room → placed [] at room ≡ room
 placed_none_fits at room h =
@@ -52,7 +56,7 @@ placed-more a b at room h =
     ∙ ap (drop (length b)) (drop_at front rest (at + length a) long)
     ∙ drop-drop (length b) (at + length a) room
     ∙ ap (λ (n : ℕ). drop n room) end in
-    placed-fits b (at + length a) (placed a at room) (omega (arith, placed-length a at room (omega arith)))
+    placed-fits b (at + length a) (placed a at room) (omega (arith, placed-length a at room))
     ∙ ap (λ (l : List ℕ). take (at + length a) l ++ b ++ drop (at + length a + length b) l) (placed-fits a at room (omega arith))
     ∙ ap₂ (λ (x y : List ℕ). x ++ b ++ y) (take_at front rest (at + length a) long) behind
     ∙ ap (λ (l : List ℕ). l ++ drop (at + length (a ++ b)) room) (append_assoc (take at room) a b)
@@ -75,6 +79,9 @@ rows_put_more {a} {b} {r} {n} {k} {x} {y} {z} h first then =
           ∙ ap (λ (l : List ℕ). placed l (5 * r) x) (sym (rows_bytes-append a b));
       count = omega (arith, first.count, then.count, length-append a b);
     }
+
+pub rows_put_length : {a : List Row} {r n : ℕ} {x y : List ℕ} → RowsPut a r n x y → length y ≡ length x
+rows_put_length {a} {r} {n} {x} {y} w = ap length w.bytes ∙ placed-length (rows_bytes a) (5 * r) x
 
 -- all rows, from the start of a room
 pub rows_put_all : {a : List Row} {n : ℕ} {x y : List ℕ} → RowsPut a 0 n x y → Room a 0 x → y ≡ over (rows_bytes a) x

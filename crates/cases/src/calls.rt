@@ -1,5 +1,8 @@
 // The library's functions by the numbers of a batch's calls.
-ghost use Rattle.std.specs.Prelude.{◌≡◌, ◌<◌};
+ghost use Rattle.std.specs.Prelude.{◌≡◌, ◌<◌, MatchResult};
+ghost use Rattle.model.specs.First.{answer_of};
+ghost use Rattle.model.specs.Numbers.{reading_values, counts};
+ghost use Rattle.numbers.specs.Told.{told, verdict_told, counts_told};
 
 use batch::parts::{recording_parts, table_parts, witness_parts};
 use batch::sums::{sum_recording, sum_table, sum_witness};
@@ -91,6 +94,8 @@ pub(crate) struct Outcome {
 
 // An answer that reads no parts back.
 impl From<VerdictAnswer> for Outcome {
+    ghost from_gives = { λ told o. (o.told ≡ told) × (o.sum ≡ 1) };
+
     fn from(told: VerdictAnswer) -> Outcome {
         Outcome { told, sum: 1 }
     }
@@ -98,13 +103,19 @@ impl From<VerdictAnswer> for Outcome {
 
 // .. and is no verdict.
 impl From<Answer> for Outcome {
+    ghost from_gives = { λ answer o. (verdict_told o.told ≡ told answer) × (counts_told o.told ≡ counts 0 0) × (o.sum ≡ 1) };
+
     fn from(answer: Answer) -> Outcome {
         read_parts(answer, 1)
     }
 }
 
 // The answer of reading parts back, and the sum over them.
-fn read_parts(answer: Answer, sum: u64) -> Outcome {
+fn read_parts(answer: Answer, sum: u64) -> Outcome
+    ensures numbers { verdict_told result.told ≡ told answer }
+    ensures counts { counts_told result.told ≡ counts 0 0 }
+    ensures sum { result.sum ≡ sum }
+{
     Outcome {
         told: VerdictAnswer {
             number: answer.number,
@@ -120,11 +131,31 @@ fn read_parts(answer: Answer, sum: u64) -> Outcome {
 // Parts that were read back; where the reading is refused the sum is over parts that are all 0.
 fn parts_outcome<P: Copy + Default, F: Fn(P) -> u64>(reading: Result<P, Refusal>, sum: F) -> Outcome
     requires { F.IsAlwaysCallable sum }
+    ensures numbers { verdict_told result.told ≡ reading_values (answer_of reading) }
+    ensures counts { counts_told result.told ≡ counts 0 0 }
+    ensures parts { MatchResult reading (λ parts. F.post sum parts result.sum) (λ why. (parts : P) × P.is_default parts × F.post sum parts result.sum) }
 {
     match reading {
         Ok(parts) => read_parts(Answer::from(Ok::<(), Refusal>(())), sum(parts)),
         Err(why) => read_parts(why.into(), sum(P::default())),
     }
+}
+
+// Apart from the other calls: a function clears its locals as it begins, and a witness's parts take 328 KB.
+
+fn witness_written(edition: Edition, parts: &[u8], room: &mut [u8]) -> Outcome
+    ensures { result.sum < 1000003 }
+{
+    Answer::from(write_witness(edition, witness_parts(parts), room)).into()
+}
+
+fn witness_read_back(edition: Edition, parts: &[u8], room: &mut [u8]) -> Outcome
+    ensures { result.sum < 1000003 }
+{
+    parts_outcome(
+        witness_back(edition, witness_parts(parts), room),
+        sum_witness,
+    )
 }
 
 pub(crate) fn perform(
@@ -134,7 +165,9 @@ pub(crate) fn perform(
     files: &Files<'_>,
     scratch: &mut [u8],
     room: &mut [u8],
-) -> Outcome {
+) -> Outcome
+    ensures { result.sum < 1000003 }
+{
     let first = files.first;
     let second = files.second;
     let third = files.third;
@@ -162,9 +195,7 @@ pub(crate) fn perform(
         Function::WriteRecording => {
             Answer::from(write_recording(first, recording_parts(second), room)).into()
         }
-        Function::WriteWitness(edition) => {
-            Answer::from(write_witness(edition, witness_parts(first), room)).into()
-        }
+        Function::WriteWitness(edition) => witness_written(edition, first, room),
         Function::TableBack => {
             parts_outcome(
                 table_back(table_parts(first, second, third), room),
@@ -175,11 +206,6 @@ pub(crate) fn perform(
             recording_back(first, recording_parts(second), room),
             sum_recording,
         ),
-        Function::WitnessBack(edition) => {
-            parts_outcome(
-                witness_back(edition, witness_parts(first), room),
-                sum_witness,
-            )
-        }
+        Function::WitnessBack(edition) => witness_read_back(edition, first, room),
     }
 }

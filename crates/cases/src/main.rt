@@ -15,16 +15,20 @@ use crate::calls::{Call, Files, Function, NoSuchCall, Outcome, perform};
 use batch::sums::sum;
 use batch::{Head, head_of, pattern};
 use inputs::read_full;
+use std::fmt::InlineText;
 use std::io::{Read, Write};
 
+// The longest line: six numbers of at most 20 digits, five spaces and the end.
+const LINE: usize = 126;
+
+// Made apart: standard output has no buffer, and a line goes out in one write.
 fn print<W: Write>(out: &mut W, outcome: Outcome, sum: u64) -> bool {
     let told = outcome.told;
-    writeln!(
-        out,
-        "{} {} {} {} {} {sum}",
+    let line = InlineText::<LINE>::of(format_args!(
+        "{} {} {} {} {} {sum}\n",
         told.number, told.second, told.third, told.not_yet, told.no_more
-    )
-    .is_ok()
+    ));
+    out.write_all(line.as_str().as_bytes()).is_ok()
 }
 
 // Ends the run with a line that no batch expects.

@@ -4,12 +4,14 @@ ghost use Rattle.images.specs.Buffers.{Kept};
 ghost use Rattle.memo.specs.Known.{Stands};
 ghost use Rattle.memo.specs.Changed.{Changed};
 
+use words::overwrite;
+
 pub(crate) fn put(memo: &mut [u64], at: usize, s: &[u64])
     requires { at + length s.now ≤ length memo.old }
     ensures { Changed at (at + length s.now) memo.old memo.new × Stands memo.new at s.now }
 {
     let end = at + s.len();
-    memo[at..end].copy_from_slice(s);
+    overwrite(&mut memo[at..end], s);
 }
 
 pub(crate) fn get(memo: &[u64], at: usize, s: &mut [u64])
@@ -17,7 +19,7 @@ pub(crate) fn get(memo: &[u64], at: usize, s: &mut [u64])
     ensures { Kept s.old s.new × Stands memo.now at s.new }
 {
     let end = at + s.len();
-    s.copy_from_slice(&memo[at..end]);
+    overwrite(s, &memo[at..end]);
 }
 
 pub(crate) fn holds(memo: &[u64], at: usize, s: &[u64]) -> bool

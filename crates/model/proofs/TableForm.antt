@@ -76,7 +76,7 @@ pub record SoundTransition (b : List ℕ) (at : ℕ) : Type 0 where
   pub clears : byte_at b (at + 4) < 2 ^ variables_at b
   pub resets : byte_at b (at + 5) < 2 ^ clocks_at b
   pub disjoint : apart (variables_at b) (byte_at b (at + 3)) (byte_at b (at + 4)) ≡ true
-  pub Some : 1 ≤ guard_length_at b at
+  pub some : 1 ≤ guard_length_at b at
   pub few : guard_length_at b at ≤ guard_limit
   pub fits : at + 7 + guard_length_at b at ≤ length b
   pub guard : ends_at (guard_at guard_limit (variables_at b) (clocks_at b) b (at + 7) (at + 7 + guard_length_at b at)) (at + 7 + guard_length_at b at) ≡ true
@@ -123,7 +123,7 @@ sound-transition b at e =
       clears = lt_test _ _ (TableField at) (test fields f 4);
       resets = lt_test _ _ (TableField at) (test fields f 5);
       disjoint = unless-sound separate (TableField at) (test fields f 6);
-      Some = le_test _ _ (TableGuard at) (test guards g 0);
+      some = le_test _ _ (TableGuard at) (test guards g 0);
       few = le_test _ _ (TableGuard at) (test guards g 1);
       fits = le_test _ _ (TableLength at) (test guards g 2);
       guard = unless-sound parsed (TableGuard at) (test guards g 3);

@@ -2,15 +2,15 @@
 
 #![tactic(auto)]
 
-ghost use Rattle.std.specs.Prelude.{◌≡◌};
-ghost use Rattle.model.specs.Situation.{keep, add, step_by};
+ghost use Rattle.std.specs.Prelude.{◌≡◌, ◌<◌, ◌≤◌, MatchOption};
+ghost use Rattle.model.specs.Situation.{keep, add, move_limit, move_of, step_by};
 ghost use Rattle.monitor.specs.From.{monitor_from};
 ghost use Rattle.situation.specs.Numbering.{capped_by};
 ghost use Rattle.situation.specs.Ruled.{ruled_from};
 ghost use Rattle.steps.specs.Stepping.{as_move, arrive_by};
 ghost use Rattle.steps.specs.Steps.{sent_by, trigger_from};
 
-use model::Situation;
+use model::{FIRST_ADD, MOVE_LIMIT, REST, Situation};
 use monitor::{airtime_of, device_of, fire};
 use rests::{config_of, rested, ticked};
 use rule::{allows, window_behind};
@@ -24,6 +24,22 @@ pub enum Move {
     Keep(usize),
     Rest,
     Add(usize),
+}
+
+// The move of a number: below REST keep by that transition, REST, from FIRST_ADD on add by transition k - FIRST_ADD. None from MOVE_LIMIT on.
+#[tactic(auto, unfolding(model::specs::Situation::move_of))]
+pub fn move_of(k: usize) -> Option<Move>
+    ensures { MatchOption result (move_limit ≤ k) (λ a. (k < move_limit) × (as_move a ≡ move_of k)) }
+{
+    if k < REST {
+        Some(Move::Keep(k))
+    } else if k == REST {
+        Some(Move::Rest)
+    } else if k < MOVE_LIMIT {
+        Some(Move::Add(k - FIRST_ADD))
+    } else {
+        None
+    }
 }
 
 // A row of a kind, which is a guess or not, is sent by transition j, where the air is free and the rule allows it.

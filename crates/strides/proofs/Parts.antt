@@ -16,6 +16,15 @@ mem_part s a k i h =
     ap (λ (x : ℕ). bit x (i % 64)) (get_or-take k (drop a s) (i / 64) 0 (omega arith) ∙ get_or-drop a s (i / 64) 0 ∙ ap (λ (j : ℕ). get_or s j 0) word)
     ∙ ap (λ (j : ℕ). bit (get_or s ((64 * a + i) / 64) 0) j) place
 
+-- all words from word a on
+pub mem-rest : (s : List ℕ) (a i : ℕ) → mem (drop a s) i ≡ mem s (64 * a + i)
+unfolding mem
+mem-rest s a i =
+    let word : a + i / 64 ≡ (64 * a + i) / 64 = omega arith in
+    let place : i % 64 ≡ (64 * a + i) % 64 = omega arith in
+    ap (λ (x : ℕ). bit x (i % 64)) (get_or-drop a s (i / 64) 0 ∙ ap (λ (j : ℕ). get_or s j 0) word)
+    ∙ ap (λ (j : ℕ). bit (get_or s ((64 * a + i) / 64) 0) j) place
+
 -- the words y in the place of as many from word a on
 module _ (s y z : List ℕ) (a : ℕ) (h : a ≤ length s) where
   get_before : (j : ℕ) → j < a → get_or (take a s ++ (y ++ z)) j 0 ≡ get_or s j 0

@@ -16,8 +16,9 @@ ghost use Rattle.model.specs.Table.{kinds_at, transitions_at, kind_column, devic
 
 use columns::bytes_column;
 use frame::{is_version, put};
-use kinds::{FIRST_KIND, WIDEST_KIND, device_at, kind_at, kind_width, record_at, transitions_at};
+use kinds::{FIRST_KIND, WIDEST_KIND, kind_at, kind_width, transitions_at};
 use model::{GUARD_LIMIT, KIND_LIMIT, Refusal, TABLE_VERSIONS, TRANSITION_LIMIT, TableParts};
+use monitor::device_of;
 use scan::{counts_answer, scan_with, whole_answer};
 use wire::{byte, place};
 
@@ -44,7 +45,7 @@ fn device_column(b: &[u8]) -> [u8; KIND_LIMIT]
 {
     let mut column = [0u8; KIND_LIMIT];
     for i in 0..KIND_LIMIT.min(byte(b, 6) as usize) {
-        column[i] = device_at(b, record_at(b, i as u8));
+        column[i] = device_of(b, i as u8);
     }
     column
 }

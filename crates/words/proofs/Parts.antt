@@ -1,6 +1,6 @@
 -- Sets and their words. Assumes nothing.
 use mathlib.Core.Path.{◌≡◌, refl, sym, ap, ◌∙◌}
-use mathlib.Core.Bool.{Bool, false, not, ◌&&◌, and-false}
+use mathlib.Core.Bool.{Bool, false, not, ◌&&◌, ◌||◌, and-false, or-false}
 use mathlib.Core.List.{List}
 use Prim.Native.Nat.{ℕ, ◌+◌, ◌-◌, ◌*◌, ◌/◌, ◌%◌, ◌^◌, ◌≤◌, ◌<◌}
 use native.Mathlib.Decide.{dec_lt}
@@ -11,7 +11,7 @@ use borrow.Author.Tests.{lt-ltb, le-ltb}
 use lib.Dec.{ltb}
 use lib.ListN.{length, get_or, take, drop, replicate, length-drop, length-replicate}
 use Rattle.std.proofs.lemmas.List.{places, take_rest, length-take-le, get_or-take, get_or-replicate, get_or_append_left, get_or-append_right}
-use Rattle.words.specs.Words.{bit, mem, Bits, Is}
+use Rattle.words.specs.Words.{bit, mem, Bits, Is, Joined, Part}
 use Rattle.words.proofs.Bit.{bit_zero, bit_past, bit_not}
 use Rattle.words.proofs.Sets.{mem_at}
 
@@ -82,3 +82,12 @@ module _ (p : ℕ → Bool) (v : ℕ → ℕ) (a s z : List ℕ) (n : ℕ) (e : 
 
   pub is_by_cut : ((k : ℕ) → Bits 64 (λ j. p (64 * k + j)) (v k)) → Is p a cut
   is_by_cut = is_by_words p v a cut (search (rules, places)) (λ k l. cut-at k l (dec_lt k n))
+
+-- p is joined below word w, and has nothing from there on
+pub part_joined : (p : ℕ → Bool) (a b : List ℕ) (w : ℕ) → Part (λ i. mem a i || p i) w a b → ((i : ℕ) → 64 * w ≤ i → i < 64 * length a → p i ≡ false)
+    → Joined p a b
+part_joined p a b w x none = record { size = x.size; all = λ i l. by i l (dec_lt i (64 * w)) }
+  where
+    by : (i : ℕ) → i < 64 * length a → Dec (i < 64 * w) → mem b i ≡ (mem a i || p i)
+    by i l (yes h) = x.done i h
+    by i l (no h) = x.rest i (omega arith) ∙ simp (none i (omega arith) l, or-false)

@@ -1,5 +1,5 @@
 -- A set of numbers in words: number i is bit i % 64 of word i / 64.
-use Rattle.std.specs.Prelude.{ℕ, zero, suc, ◌+◌, ◌-◌, ◌*◌, ◌/◌, ◌%◌, ◌^◌, ◌<◌, ◌≡◌, List, Bool, false, ◌&&◌, ◌||◌, length, get_or, eqb, leb, ltb}
+use Rattle.std.specs.Prelude.{ℕ, zero, suc, ◌+◌, ◌-◌, ◌*◌, ◌/◌, ◌%◌, ◌^◌, ◌<◌, ◌≤◌, ◌≡◌, List, Bool, false, ◌&&◌, ◌||◌, length, get_or, eqb, leb, ltb}
 
 unfoldable pub bit : ℕ → ℕ → Bool
 bit x j = eqb (x / 2 ^ j % 2) 1
@@ -37,6 +37,12 @@ meet a s b m i = mem a (s + i) && mem b (m + i)
 pub record Is (p : ℕ → Bool) (before after : List ℕ) : Type 0 where
   pub size : length after ≡ length before
   pub all : (i : ℕ) → i < 64 * length before → mem after i ≡ p i
+
+-- .. below word w only, and as it was from there on
+pub record Part (p : ℕ → Bool) (w : ℕ) (before after : List ℕ) : Type 0 where
+  pub size : length after ≡ length before
+  pub done : (i : ℕ) → i < 64 * w → mem after i ≡ p i
+  pub rest : (i : ℕ) → 64 * w ≤ i → mem after i ≡ mem before i
 
 -- a set that is p below word w
 pub record Upto (p : ℕ → Bool) (w : ℕ) (s : List ℕ) : Type 0 where

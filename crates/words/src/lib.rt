@@ -7,7 +7,7 @@ mod whole;
 ghost use Rattle.std.specs.Prelude.{◌≡◌, ◌&&◌, ◌+◌, ◌-◌, ◌/◌, ◌%◌, ◌^◌, ◌<◌, min, get_or, eqb};
 ghost use Rattle.words.specs.Words.{bit, mem, Bits, Joined, up};
 
-pub use whole::{any, any_words, clear, complement, copy, equal, keep_common};
+pub use whole::{any, any_words, clear, complement, copy, equal, keep_common, overwrite};
 
 // Word k, 0 past the end.
 pub fn word(a: &[u64], k: usize) -> u64

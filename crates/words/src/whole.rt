@@ -8,11 +8,21 @@ pub fn clear(a: &mut [u64])
     a.fill(0);
 }
 
+// Word by word: the library's copy_from_slice is a call of memmove, which a C caller need not have.
+pub fn overwrite(dst: &mut [u64], src: &[u64])
+    ensures long { length dst.new ≡ length dst.old }
+    ensures same { length dst.old ≡ length src.now → dst.new ≡ src.now }
+{
+    for k in 0..dst.len().min(src.len()) {
+        dst[k] = src[k];
+    }
+}
+
 pub fn copy(dst: &mut [u64], src: &[u64])
     ensures { Is (mem src.now) dst.old dst.new }
 {
     let n = dst.len().min(src.len());
-    dst[..n].copy_from_slice(&src[..n]);
+    overwrite(&mut dst[..n], &src[..n]);
     dst[n..].fill(0);
 }
 
