@@ -19,7 +19,7 @@
  * writes (scratch, room) must not overlap another slice of that call. While the call runs, nothing else may write its
  * slices, nor read those that it writes.
  *
- * Link with liblutarosa.a (x86-64 Linux), which needs memcpy and memset of the C library, and about 812 KB of stack for a
+ * Link with liblutarosa.a (x86-64 Linux), which needs memcpy and memset of the C library, and about 811 KB of stack for a
  * validation, 36 KB for any other call (measured, not proved).
  */
 #ifndef LUTAROSA_H
