@@ -7,15 +7,6 @@ use lib.ListN.{length, get_or, take, drop, get_or-append}
 use lib.Seq.{get_or-take, get_or-drop, get_or-append-add, length-take-le}
 use Rattle.words.specs.Words.{bit, mem}
 
--- the k words from word a on
-pub mem_part : (s : List ℕ) (a k i : ℕ) → i < 64 * k → mem (take k (drop a s)) i ≡ mem s (64 * a + i)
-unfolding mem
-mem_part s a k i h =
-    let word : a + i / 64 ≡ (64 * a + i) / 64 = omega arith in
-    let place : i % 64 ≡ (64 * a + i) % 64 = omega arith in
-    ap (λ (x : ℕ). bit x (i % 64)) (get_or-take k (drop a s) (i / 64) 0 (omega arith) ∙ get_or-drop a s (i / 64) 0 ∙ ap (λ (j : ℕ). get_or s j 0) word)
-    ∙ ap (λ (j : ℕ). bit (get_or s ((64 * a + i) / 64) 0) j) place
-
 -- all words from word a on
 pub mem-rest : (s : List ℕ) (a i : ℕ) → mem (drop a s) i ≡ mem s (64 * a + i)
 unfolding mem
@@ -24,6 +15,11 @@ mem-rest s a i =
     let place : i % 64 ≡ (64 * a + i) % 64 = omega arith in
     ap (λ (x : ℕ). bit x (i % 64)) (get_or-drop a s (i / 64) 0 ∙ ap (λ (j : ℕ). get_or s j 0) word)
     ∙ ap (λ (j : ℕ). bit (get_or s ((64 * a + i) / 64) 0) j) place
+
+-- k of them
+pub mem_part : (s : List ℕ) (a k i : ℕ) → i < 64 * k → mem (take k (drop a s)) i ≡ mem s (64 * a + i)
+unfolding mem
+mem_part s a k i h = ap (λ (x : ℕ). bit x (i % 64)) (get_or-take k (drop a s) (i / 64) 0 (omega arith)) ∙ mem-rest s a i
 
 -- the words y in the place of as many from word a on
 module _ (s y z : List ℕ) (a : ℕ) (h : a ≤ length s) where

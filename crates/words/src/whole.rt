@@ -1,5 +1,5 @@
 // Whole sets. Words that one of two sets lacks count as 0: what both have is one loop with no test of a bound.
-ghost use Rattle.std.specs.Prelude.{◌≡◌, not, true, false, ◌&&◌, ◌+◌, ◌*◌, length, fold, bit_or};
+ghost use Rattle.std.specs.Prelude.{◌≡◌, ℕ, not, true, false, ◌&&◌, ◌+◌, ◌*◌, ◌<◌, ◌≤◌, length, get_or, fold, bit_or};
 ghost use Rattle.words.specs.Words.{mem, any_below, Is};
 
 pub fn clear(a: &mut [u64])
@@ -8,10 +8,12 @@ pub fn clear(a: &mut [u64])
     a.fill(0);
 }
 
-// Word by word: the library's copy_from_slice is a call of memmove, which a C caller need not have.
+// The words of src over those of dst, as far as both reach. Word by word: the library's copy_from_slice calls memmove, which a C caller need not have.
 pub fn overwrite(dst: &mut [u64], src: &[u64])
     ensures long { length dst.new ≡ length dst.old }
     ensures same { length dst.old ≡ length src.now → dst.new ≡ src.now }
+    ensures over { (k : ℕ) → k < length dst.old → k < length src.now → get_or dst.new k 0 ≡ get_or src.now k 0 }
+    ensures kept { (k : ℕ) → length src.now ≤ k → get_or dst.new k 0 ≡ get_or dst.old k 0 }
 {
     for k in 0..dst.len().min(src.len()) {
         dst[k] = src[k];
